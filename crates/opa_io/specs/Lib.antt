@@ -1,0 +1,5 @@
+pub mod formers
+pub mod Memory
+pub mod Outside
+pub mod Statuses
+pub mod Texts

@@ -1,0 +1,24 @@
+//! What the engine reads, writes and keeps, and the texts, lists and boxes that its contracts speak of.
+#![tactic(auto)]
+
+mod boxed;
+mod fault;
+mod files;
+mod list;
+mod memory;
+mod outside;
+mod same;
+mod shelf;
+mod standard;
+mod text;
+
+pub use boxed::Boxed;
+pub use fault::{Failed, NoMemory, Status, TakeFault};
+pub use files::FileShelf;
+pub use list::List;
+pub use memory::{MemSink, MemSource};
+pub use outside::{Shelf, Sink, Source, write_all_of};
+pub use same::Same;
+pub use shelf::MemShelf;
+pub use standard::{StdSink, StdSource};
+pub use text::Txt;
