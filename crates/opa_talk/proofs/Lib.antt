@@ -1,0 +1,3 @@
+pub mod LinesLaws
+pub mod PointsLaws
+pub mod TranscriptLaws

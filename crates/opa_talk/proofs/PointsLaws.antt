@@ -1,0 +1,216 @@
+-- Bytes that are carried out one after another.
+use Rattle.std.proofs.Common.{inl, inr, subst, arith, ◌≡◌, ◌⊎◌, ℕ, Bool, true, false, List, [], ◌∷◌, ◌++◌, ◌&&◌, ap, sym, ◌∙◌, refl, append_assoc, append-nil, length, Result, Ok, Err, IfOk, OnErr, OnOk}
+use Rattle.std.specs.declared.option.Option.{Option}
+use Rattle.std.specs.Io.KnownBytes.{Appends}
+use Rattle.std.specs.Prelude.{if◌then◌else◌, ◌==◌}
+use Rattle.std.specs.Str.Lines.{lines, strip_carriage_return}
+use Rattle.opa_io.specs.Outside.{AppendsFront, AppendsAll}
+use Rattle.opa_io.proofs.Appended.{Appends-append, Appends-none}
+use Rattle.opa_talk.specs.Lines.{line_at, lines_from, IsPart, EndsLine}
+use Rattle.opa_talk.specs.Transcript.{Rule, IsGoing, IsOver, replies, after}
+use Rattle.opa_talk.specs.Talk.{LeftAt, Replies}
+use Rattle.opa_talk.specs.Points.{Point, is_empty, CarriesOut, Breaks, CarriesLine, StopsAt, Finishes}
+use Rattle.opa_talk.proofs.LinesLaws.{lines_last, line_at_part, lines_from_line, lines_from-append, lines_from-cut, fresh_feed, fresh-append, EndsLine-append, part_none}
+use Rattle.opa_talk.proofs.TranscriptLaws.{replies-append, after-append, replies_one, after_one}
+
+-- a front, and a front of what comes after appended bytes
+pub front_after : (a b c : Option (List ℕ)) (xs ys : List ℕ) → Appends a b xs → AppendsFront b c ys → AppendsFront a c (xs ++ ys)
+front_after a b c xs ys p f = (xs ++ f.0, f.1, append_assoc xs f.0 f.1 ∙ ap (λ s. xs ++ s) f.2, Appends-append a b c xs f.0 p f.3)
+
+-- nothing was written
+pub front_none : (a : Option (List ℕ)) (xs : List ℕ) → AppendsFront a a xs
+front_none a xs = ([], xs, refl, Appends-none a)
+
+-- all of it was written
+pub front_all : (a b : Option (List ℕ)) (xs : List ℕ) → Appends a b xs → AppendsFront a b xs
+front_all a b xs p = (xs, [], append-nil xs, p)
+
+-- a front of fewer bytes
+pub front_more : (a b : Option (List ℕ)) (xs ys : List ℕ) → AppendsFront a b xs → AppendsFront a b (xs ++ ys)
+front_more a b xs ys f = (f.0, f.1 ++ ys, sym (append_assoc f.0 f.1 ys) ∙ ap (λ s. s ++ ys) f.2, f.3)
+
+pub front_is : (a b : Option (List ℕ)) (xs ys : List ℕ) → xs ≡ ys → AppendsFront a b xs → AppendsFront a b ys
+front_is a b xs ys e f = let P : List ℕ → Type 0 = λ s. AppendsFront a b s in subst P e f
+
+pub appends_is : (a b : Option (List ℕ)) (xs ys : List ℕ) → xs ≡ ys → Appends a b xs → Appends a b ys
+appends_is a b xs ys e f = let P : List ℕ → Type 0 = λ s. Appends a b s in subst P e f
+
+module _ {X : Type 0} (rule : Rule X) where
+  -- nothing comes
+  pub carries_none : (at : Point X) (w : Option (List ℕ)) → IsPart at.pending → CarriesOut rule at at [] w w
+  carries_none at w part = record {
+    whole = [];
+    cut = sym (append-nil at.pending);
+    ends = inl refl;
+    part = part;
+    fresh = same at.fresh;
+    state = ap (after rule at.state) (sym (nothing at.fresh));
+    wrote = appends_is w w [] _ (ap (replies rule at.state) (sym (nothing at.fresh))) (Appends-none w);
+  }
+    where
+      same : (b : Bool) → b ≡ (b && true)
+      same true = refl
+      same false = refl
+      nothing : (f : Bool) → lines_from f [] ≡ []
+      nothing true = refl
+      nothing false = refl
+
+  -- bytes without a line feed are kept
+  pub carries_part : (at : Point X) (bytes pending : List ℕ) (w : Option (List ℕ)) → IsPart pending → pending ≡ at.pending ++ bytes
+      → CarriesOut rule at (record { state = at.state; pending = pending; fresh = at.fresh }) bytes w w
+  unfolding carries_none
+  carries_part at bytes pending w part is = let none = carries_none (record { state = at.state; pending = []; fresh = at.fresh }) w part_none in record {
+    whole = [];
+    cut = is;
+    ends = inl refl;
+    part = part;
+    fresh = none.fresh;
+    state = none.state;
+    wrote = none.wrote;
+  }
+
+  -- the lines of what is pending and two pieces
+  pub lines_two : (a b : Point X) (xs ys : List ℕ) (whole : List ℕ) → whole ++ b.pending ≡ a.pending ++ xs → EndsLine whole → b.fresh ≡ (a.fresh && is_empty whole)
+      → lines_from a.fresh (a.pending ++ (xs ++ ys)) ≡ lines_from a.fresh whole ++ lines_from b.fresh (b.pending ++ ys)
+  lines_two a b xs ys whole cut ends fresh =
+      ap (lines_from a.fresh) (sym (append_assoc a.pending xs ys) ∙ ap (λ s. s ++ ys) (sym cut) ∙ append_assoc whole b.pending ys)
+      ∙ lines_from-append a.fresh whole (b.pending ++ ys) ends
+      ∙ ap (λ t. lines_from a.fresh whole ++ lines_from t (b.pending ++ ys)) (sym fresh)
+
+  -- bytes after bytes
+  pub carries-append : (a b c : Point X) (xs ys : List ℕ) (before mid now : Option (List ℕ)) → CarriesOut rule a b xs before mid → CarriesOut rule b c ys mid now → CarriesOut rule a c (xs ++ ys) before now
+  carries-append a b c xs ys before mid now f g =
+      let split : lines_from a.fresh (f.whole ++ g.whole) ≡ lines_from a.fresh f.whole ++ lines_from b.fresh g.whole =
+          lines_from-append a.fresh f.whole g.whole f.ends ∙ ap (λ t. lines_from a.fresh f.whole ++ lines_from t g.whole) (sym f.fresh) in
+      record {
+        whole = f.whole ++ g.whole;
+        cut = append_assoc f.whole g.whole c.pending ∙ ap (λ s. f.whole ++ s) g.cut ∙ sym (append_assoc f.whole b.pending ys) ∙ ap (λ s. s ++ ys) f.cut ∙ append_assoc a.pending xs ys;
+        ends = EndsLine-append f.whole g.whole f.ends g.ends;
+        part = g.part;
+        fresh = g.fresh ∙ ap (λ t. t && is_empty g.whole) f.fresh ∙ fresh-append a.fresh f.whole g.whole;
+        state = g.state ∙ ap (λ y. after rule y (lines_from b.fresh g.whole)) f.state ∙ sym (after-append rule a.state (lines_from a.fresh f.whole) (lines_from b.fresh g.whole)) ∙ ap (after rule a.state) (sym split);
+        wrote = appends_is before now _ _
+            (ap (λ y. replies rule a.state (lines_from a.fresh f.whole) ++ replies rule y (lines_from b.fresh g.whole)) f.state
+            ∙ sym (replies-append rule a.state (lines_from a.fresh f.whole) (lines_from b.fresh g.whole)) ∙ ap (replies rule a.state) (sym split))
+            (Appends-append before mid now _ _ f.wrote g.wrote);
+      }
+
+  -- a line is carried out at its line feed
+  pub carries_line : (at : Point X) (next : X) (bytes line pending : List ℕ) (over : Bool) (before now : Option (List ℕ)) → IsPart (at.pending ++ bytes) → IsGoing rule at.state
+      → line ≡ strip_carriage_return (line_at at.fresh (at.pending ++ bytes)) → CarriesLine rule at.state next line over before now → pending ≡ []
+      → CarriesOut rule at (record { state = next; pending = pending; fresh = false }) (bytes ++ 10 ∷ []) before now
+  carries_line at next bytes line pending over before now part going is step none =
+      let one : lines_from at.fresh ((at.pending ++ bytes) ++ 10 ∷ []) ≡ line ∷ [] = lines_from_line at.fresh (at.pending ++ bytes) part ∙ ap (λ l. l ∷ []) (sym is) in
+      rw none (record {
+        whole = (at.pending ++ bytes) ++ 10 ∷ [];
+        cut = append-nil ((at.pending ++ bytes) ++ 10 ∷ []) ∙ append_assoc at.pending bytes (10 ∷ []);
+        ends = inr (at.pending ++ bytes, refl);
+        part = part_none;
+        fresh = fresh_feed at.fresh (at.pending ++ bytes);
+        state = step.next_is ∙ sym (after_one rule at.state line going) ∙ ap (after rule at.state) (sym one);
+        wrote = appends_is before now _ _
+            (ap (λ y. rule.reply at.state line ++ rule.prompt y) step.next_is ∙ sym (replies_one rule at.state line going) ∙ ap (replies rule at.state) (sym one)) step.wrote;
+      })
+
+  module _ (Stops : X → List ℕ → X → Type 0) where
+    -- the talk halts before any line
+    pub breaks_none : (at : Point X) (bytes : List ℕ) (w : Option (List ℕ)) → Breaks rule Stops at at.state bytes w w
+    breaks_none at bytes w = record { done = []; more = lines_from at.fresh (at.pending ++ bytes); cut = refl; left = inl refl; wrote = front_none w [] }
+
+    pub breaks_is : (at : Point X) (x' : X) (xs ys : List ℕ) (before now : Option (List ℕ)) → xs ≡ ys → Breaks rule Stops at x' xs before now → Breaks rule Stops at x' ys before now
+    breaks_is at x' xs ys before now e b = let P : List ℕ → Type 0 = λ s. Breaks rule Stops at x' s before now in subst P e b
+
+    left_more : (x x' : X) (more rest : List (List ℕ)) → LeftAt Stops x more x' → LeftAt Stops x (more ++ rest) x'
+    left_more x x' more rest left = elim left [ inl e ↦ inl e | inr s ↦ inr (s.0, s.1 ++ rest, ap (λ m. m ++ rest) s.2, s.3) ]
+
+    -- the talk halts at a line, and more bytes follow it
+    pub breaks_more : (at : Point X) (x' : X) (bytes rest : List ℕ) (before now : Option (List ℕ)) → Breaks rule Stops at x' (bytes ++ 10 ∷ []) before now → Breaks rule Stops at x' ((bytes ++ 10 ∷ []) ++ rest) before now
+    breaks_more at x' bytes rest before now b = record {
+      done = b.done;
+      more = b.more ++ lines_rest;
+      cut = sym (append_assoc b.done b.more lines_rest) ∙ ap (λ s. s ++ lines_rest) (b.cut ∙ ap (lines_from at.fresh) (sym (append_assoc at.pending bytes (10 ∷ []))))
+          ∙ sym (lines_from-cut at.fresh (at.pending ++ bytes) rest)
+          ∙ ap (lines_from at.fresh) (append_assoc at.pending bytes (10 ∷ rest) ∙ ap (λ s. at.pending ++ s) (sym (append_assoc bytes (10 ∷ []) rest)));
+      left = left_more (after rule at.state b.done) x' b.more lines_rest b.left;
+      wrote = b.wrote;
+    }
+      where
+        lines_rest : List (List ℕ)
+        lines_rest = lines_from false rest
+
+    -- the talk halts after bytes were carried out
+    pub breaks_after : (a b : Point X) (x' : X) (xs ys : List ℕ) (before mid now : Option (List ℕ)) → CarriesOut rule a b xs before mid → Breaks rule Stops b x' ys mid now → Breaks rule Stops a x' (xs ++ ys) before now
+    breaks_after a b x' xs ys before mid now f g = record {
+      done = lines_from a.fresh f.whole ++ g.done;
+      more = g.more;
+      cut = append_assoc (lines_from a.fresh f.whole) g.done g.more ∙ ap (λ s. lines_from a.fresh f.whole ++ s) g.cut ∙ sym (lines_two a b xs ys f.whole f.cut f.ends f.fresh);
+      left = let P : X → Type 0 = λ y. LeftAt Stops y g.more x' in
+          subst P (ap (λ y. after rule y g.done) f.state ∙ sym (after-append rule a.state (lines_from a.fresh f.whole) g.done)) g.left;
+      wrote = front_is before now _ _
+          (ap (λ y. replies rule a.state (lines_from a.fresh f.whole) ++ replies rule y g.done) f.state ∙ sym (replies-append rule a.state (lines_from a.fresh f.whole) g.done))
+          (front_after before mid now _ _ f.wrote g.wrote);
+    }
+
+    -- writing what a line prints halts
+    pub stops_text : (x x' : X) (line text said : List ℕ) (before now : Option (List ℕ)) → Replies rule x x' line text → said ≡ text → AppendsFront before now said → StopsAt rule Stops x x' line before now
+    stops_text x x' line text said before now r is f = inr (r.next_is, front_more before now (rule.reply x line) (rule.prompt x') (front_is before now said (rule.reply x line) (is ∙ r.text_is) f))
+
+    -- writing the prompt after it halts
+    pub stops_prompt : {T E : Type 0} (res : Result T E) (x x' : X) (line text said : List ℕ) (before mid now : Option (List ℕ)) → Replies rule x x' line text → said ≡ text → Appends before mid said
+        → OnErr res (AppendsFront mid now (rule.prompt x')) → OnErr res (StopsAt rule Stops x x' line before now)
+    stops_prompt (Ok v) x x' line text said before mid now r is all err = tt
+    stops_prompt (Err e) x x' line text said before mid now r is all err =
+        inr (r.next_is, front_is before now (said ++ rule.prompt x') (rule.reply x line ++ rule.prompt x') (ap (λ s. s ++ rule.prompt x') (is ∙ r.text_is)) (front_after before mid now said (rule.prompt x') all err))
+
+    -- the talk halts at a line
+    pub breaks_line : (at : Point X) (x' : X) (bytes line : List ℕ) (before now : Option (List ℕ)) → IsPart (at.pending ++ bytes) → IsGoing rule at.state
+        → line ≡ strip_carriage_return (line_at at.fresh (at.pending ++ bytes)) → StopsAt rule Stops at.state x' line before now → Breaks rule Stops at x' (bytes ++ 10 ∷ []) before now
+    breaks_line at x' bytes line before now part going is stop =
+        let one : line ∷ [] ≡ lines_from at.fresh (at.pending ++ (bytes ++ 10 ∷ [])) =
+            ap (λ l. l ∷ []) is ∙ sym (lines_from_line at.fresh (at.pending ++ bytes) part) ∙ ap (lines_from at.fresh) (append_assoc at.pending bytes (10 ∷ [])) in
+        elim stop [
+          inl s ↦ record { done = []; more = line ∷ []; cut = one; left = inr (line, [], refl, s.0); wrote = front_all before now [] s.1 } |
+          inr s ↦ record {
+            done = line ∷ [];
+            more = [];
+            cut = one;
+            left = inl (s.0 ∙ sym (after_one rule at.state line going));
+            wrote = front_is before now _ _ (ap (λ y. rule.reply at.state line ++ rule.prompt y) s.0 ∙ sym (replies_one rule at.state line going)) s.1;
+          }
+        ]
+
+  module _ (at : Point X) (x' : X) (line : List ℕ) (before now : Option (List ℕ)) (part : IsPart at.pending) (going : IsGoing rule at.state)
+      (is : line ≡ line_at at.fresh at.pending) (full : (length line == 0) ≡ false) where
+    last_one : lines_from at.fresh at.pending ≡ line ∷ []
+    last_one =
+        let line_part : IsPart line = let P : List ℕ → Type 0 = IsPart in subst P (sym is) (line_at_part at.fresh at.pending part) in
+        ap lines (sym is) ∙ lines_last line line_part ∙ ap (λ t. if t then [] else line ∷ []) full
+
+    -- the last line was carried out
+    pub finishes_line : (over : Bool) → CarriesLine rule at.state x' line over before now → Finishes rule at x' before now
+    finishes_line over step = record {
+      state = step.next_is ∙ sym (after_one rule at.state line going) ∙ ap (after rule at.state) (sym last_one);
+      wrote = appends_is before now _ _ (ap (λ y. rule.reply at.state line ++ rule.prompt y) step.next_is ∙ sym (replies_one rule at.state line going) ∙ ap (replies rule at.state) (sym last_one)) step.wrote;
+    }
+
+    -- the talk halts at the last line
+    pub breaks_last : (Stops : X → List ℕ → X → Type 0) → StopsAt rule Stops at.state x' line before now → Breaks rule Stops at x' [] before now
+    breaks_last Stops stop =
+        let one : line ∷ [] ≡ lines_from at.fresh (at.pending ++ []) = sym last_one ∙ ap (lines_from at.fresh) (sym (append-nil at.pending)) in
+        elim stop [
+          inl s ↦ record { done = []; more = line ∷ []; cut = one; left = inr (line, [], refl, s.0); wrote = front_all before now [] s.1 } |
+          inr s ↦ record {
+            done = line ∷ [];
+            more = [];
+            cut = one;
+            left = inl (s.0 ∙ sym (after_one rule at.state line going));
+            wrote = front_is before now _ _ (ap (λ y. rule.reply at.state line ++ rule.prompt y) s.0 ∙ sym (replies_one rule at.state line going)) s.1;
+          }
+        ]
+
+-- a line and what follows it make the rest of a piece
+pub joined : (front bytes after rest piece : List ℕ) → front ++ rest ≡ piece → rest ≡ bytes ++ 10 ∷ after → (front ++ (bytes ++ 10 ∷ [])) ++ after ≡ piece
+joined front bytes after rest piece e f = append_assoc front (bytes ++ 10 ∷ []) after ∙ ap (λ s. front ++ s) (append_assoc bytes (10 ∷ []) after ∙ sym f) ∙ e
+
+pub joined_whole : (front bytes after rest piece : List ℕ) → front ++ rest ≡ piece → rest ≡ bytes ++ 10 ∷ after → front ++ ((bytes ++ 10 ∷ []) ++ after) ≡ piece
+joined_whole front bytes after rest piece e f = sym (append_assoc front (bytes ++ 10 ∷ []) after) ∙ joined front bytes after rest piece e f

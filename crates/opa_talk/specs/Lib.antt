@@ -1,0 +1,5 @@
+pub mod Halt
+pub mod Lines
+pub mod Points
+pub mod Talk
+pub mod Transcript

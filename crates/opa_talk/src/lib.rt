@@ -1,0 +1,14 @@
+//! A talk: lines are read from a source, and what each prints is written to a sink.
+#![tactic(auto)]
+
+mod feed;
+mod halt;
+mod line;
+mod replier;
+mod talk;
+
+pub use feed::converse;
+pub use halt::Halt;
+pub use line::{without_mark, without_return};
+pub use replier::{Prompt, Replier};
+pub use talk::cut;

@@ -1,0 +1,162 @@
+// A talk between two bytes of its input: lines are cut from pieces, and each is carried out.
+ghost use Rattle.std.specs.Prelude.{◌≡◌, ◌≤◌, ◌++◌, ◌∷◌, [], OnOk, OnErr, IfOk, IfErr, MatchOption};
+ghost use Rattle.opa_io.specs.Outside.{Rose, AppendsAll, AppendsFront};
+ghost use Rattle.opa_talk.specs.Halt.{IsLineCause};
+ghost use Rattle.opa_talk.specs.Lines.{line_at, IsPart};
+ghost use Rattle.opa_talk.specs.Transcript.{IsGoing};
+ghost use Rattle.opa_talk.specs.Points.{point_of, Asks, CarriesLine, CarriesOut, StopsAt, Breaks, TakesPiece, Finishes};
+
+use crate::halt::Halt;
+use crate::line::{without_mark, without_return};
+use crate::replier::Replier;
+use opa_io::{Sink, write_all_of};
+use std::alloc::Global;
+
+/// The bytes since the last line feed, and whether no line feed was read yet.
+#[derive(Drop)]
+pub struct Pending {
+    pub bytes: Vec<u8>,
+    pub fresh: bool,
+}
+
+/// The bytes before the first line feed, and those after it.
+pub fn cut(bytes: &[u8]) -> Option<(&[u8], &[u8])>
+    ensures { MatchOption result (IsPart bytes.now) (λ p. IsPart p.0.now × (bytes.now ≡ p.0.now ++ 10 ∷ p.1.now)) }
+{
+    for i in 0..bytes.len() {
+        if bytes[i] == b'\n' {
+            return Some((&bytes[..i], &bytes[i + 1..]));
+        }
+    }
+    None
+}
+
+/// Without the byte order mark, where no line feed was read before.
+fn line_at(fresh: bool, bytes: &[u8]) -> &[u8]
+    ensures { result.now ≡ line_at fresh bytes.now }
+{
+    if fresh { without_mark(bytes) } else { bytes }
+}
+
+/// Writes a text.
+fn say<K: Sink>(out: &mut K, text: &[u8]) -> Result<(), Halt>
+    ensures bytes { AppendsAll (K.written out.old) (K.written out.new) result text.now }
+    ensures cause { IfErr result (λ halt. IsLineCause 0 0 0 0 (K.faults out.old) (K.faults out.new) halt) }
+    ensures later { K.faults out.old ≤ K.faults out.new }
+{
+    match write_all_of(out, text) {
+        Ok(()) => Ok(()),
+        Err(_) => Err(Halt::Output),
+    }
+}
+
+/// Writes what stands before the next line, and answers whether no line is taken any more.
+pub fn ask<T: Replier, K: Sink>(alloc: Global, replier: &T, out: &mut K) -> Result<bool, Halt>
+    ensures ok { IfOk result (λ over. Asks T.rule (T.state replier.now) over (K.written out.old) (K.written out.new)) }
+    ensures err { OnErr result (AppendsFront (K.written out.old) (K.written out.new) (T.rule.prompt (T.state replier.now))) }
+    ensures cause { IfErr result (λ halt. IsLineCause 0 0 0 0 (K.faults out.old) (K.faults out.new) halt) }
+    ensures later { K.faults out.old ≤ K.faults out.new }
+{
+    let prompt = replier.prompt(alloc)?;
+    say(out, &prompt.text)?;
+    Ok(prompt.is_over)
+}
+
+/// Carries out a line, and writes what it prints and what stands before the next one. It answers whether no line is taken
+/// any more.
+fn carry_out<T: Replier, K: Sink>(
+    alloc: Global,
+    replier: &mut T,
+    line: &[u8],
+    out: &mut K,
+) -> Result<bool, Halt>
+    ensures ok { IfOk result (λ over. CarriesLine T.rule (T.state replier.old) (T.state replier.new) line.now over (K.written out.old) (K.written out.new)) }
+    ensures err { OnErr result (StopsAt T.rule T.Stops (T.state replier.old) (T.state replier.new) line.now (K.written out.old) (K.written out.new)) }
+    ensures cause { IfErr result (IsLineCause (T.take_faults replier.old) (T.take_faults replier.new) (T.keep_faults replier.old) (T.keep_faults replier.new) (K.faults out.old) (K.faults out.new)) }
+    ensures later { K.faults out.old ≤ K.faults out.new }
+    ensures later_take { T.take_faults replier.old ≤ T.take_faults replier.new }
+    ensures later_keep { T.keep_faults replier.old ≤ T.keep_faults replier.new }
+{
+    let text = replier.reply(alloc, line)?;
+    say(out, &text)?;
+    ask(alloc, replier, out)
+}
+
+/// Takes the rest of a line, and carries it out.
+fn take_line<T: Replier, K: Sink>(
+    alloc: Global,
+    replier: &mut T,
+    pending: &mut Pending,
+    bytes: &[u8],
+    out: &mut K,
+) -> Result<bool, Halt>
+    requires going { IsGoing T.rule (T.state replier.old) }
+    requires part { IsPart (pending.old.bytes.items ++ bytes.now) }
+    ensures over { IfOk result (λ over. over ≡ T.rule.is_over (T.state replier.new)) }
+    ensures ok { OnOk result (CarriesOut T.rule (point_of (T.state replier.old) pending.old) (point_of (T.state replier.new) pending.new) (bytes.now ++ 10 ∷ []) (K.written out.old) (K.written out.new)) }
+    ensures err { OnErr result (Breaks T.rule T.Stops (point_of (T.state replier.old) pending.old) (T.state replier.new) (bytes.now ++ 10 ∷ []) (K.written out.old) (K.written out.new)) }
+    ensures cause { IfErr result (IsLineCause (T.take_faults replier.old) (T.take_faults replier.new) (T.keep_faults replier.old) (T.keep_faults replier.new) (K.faults out.old) (K.faults out.new)) }
+    ensures later { K.faults out.old ≤ K.faults out.new }
+    ensures later_take { T.take_faults replier.old ≤ T.take_faults replier.new }
+    ensures later_keep { T.keep_faults replier.old ≤ T.keep_faults replier.new }
+{
+    pending.bytes.extend_from_slice(bytes)?;
+    let line = without_return(line_at(pending.fresh, &pending.bytes));
+    let over = carry_out(alloc, replier, line, out)?;
+    pending.bytes.clear();
+    pending.fresh = false;
+    Ok(over)
+}
+
+/// Takes a piece of the input, and carries out each line that is whole now. It answers whether no line is taken any more.
+pub fn take_piece<T: Replier, K: Sink>(
+    alloc: Global,
+    replier: &mut T,
+    pending: &mut Pending,
+    piece: &[u8],
+    out: &mut K,
+) -> Result<bool, Halt>
+    requires going { IsGoing T.rule (T.state replier.old) }
+    requires part { IsPart pending.old.bytes.items }
+    ensures ok { IfOk result (TakesPiece T.rule (point_of (T.state replier.old) pending.old) (point_of (T.state replier.new) pending.new) piece.now (K.written out.old) (K.written out.new)) }
+    ensures err { OnErr result (Breaks T.rule T.Stops (point_of (T.state replier.old) pending.old) (T.state replier.new) piece.now (K.written out.old) (K.written out.new)) }
+    ensures cause { IfErr result (IsLineCause (T.take_faults replier.old) (T.take_faults replier.new) (T.keep_faults replier.old) (T.keep_faults replier.new) (K.faults out.old) (K.faults out.new)) }
+    ensures later { K.faults out.old ≤ K.faults out.new }
+    ensures later_take { T.take_faults replier.old ≤ T.take_faults replier.new }
+    ensures later_keep { T.keep_faults replier.old ≤ T.keep_faults replier.new }
+{
+    let mut rest = piece;
+    while let Some((bytes, after)) = cut(rest) {
+        let over = take_line(alloc, replier, pending, bytes, out)?;
+        if over {
+            return Ok(true);
+        }
+        rest = after;
+    }
+    pending.bytes.extend_from_slice(rest)?;
+    Ok(false)
+}
+
+/// Carries out the last line, which no line feed ends, if it isn't empty.
+pub fn finish<T: Replier, K: Sink>(
+    alloc: Global,
+    replier: &mut T,
+    pending: &Pending,
+    out: &mut K,
+) -> Result<(), Halt>
+    requires going { IsGoing T.rule (T.state replier.old) }
+    requires part { IsPart pending.now.bytes.items }
+    ensures ok { OnOk result (Finishes T.rule (point_of (T.state replier.old) pending.now) (T.state replier.new) (K.written out.old) (K.written out.new)) }
+    ensures err { OnErr result (Breaks T.rule T.Stops (point_of (T.state replier.old) pending.now) (T.state replier.new) [] (K.written out.old) (K.written out.new)) }
+    ensures cause { IfErr result (IsLineCause (T.take_faults replier.old) (T.take_faults replier.new) (T.keep_faults replier.old) (T.keep_faults replier.new) (K.faults out.old) (K.faults out.new)) }
+    ensures later { K.faults out.old ≤ K.faults out.new }
+    ensures later_take { T.take_faults replier.old ≤ T.take_faults replier.new }
+    ensures later_keep { T.keep_faults replier.old ≤ T.keep_faults replier.new }
+{
+    let line = line_at(pending.fresh, &pending.bytes);
+    if line.is_empty() {
+        return Ok(());
+    }
+    carry_out(alloc, replier, line, out)?;
+    Ok(())
+}
