@@ -1,3 +1,4 @@
+pub mod FeedLaws
 pub mod LinesLaws
 pub mod PointsLaws
 pub mod TranscriptLaws

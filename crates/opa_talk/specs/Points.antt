@@ -110,3 +110,7 @@ Probes left left' false = (read : List ℕ) × Consumes left left' read × (leng
 pub record Finishes {X : Type 0} (rule : Rule X) (at : Point X) (x' : X) (before now : Option (List ℕ)) : Type 0 where
   pub state : x' ≡ after rule at.state (lines_from at.fresh at.pending)
   pub wrote : Appends before now (replies rule at.state (lines_from at.fresh at.pending))
+
+-- nothing was read
+abbrev pub fresh_point : {X : Type 0} → X → Point X
+fresh_point x = record { state = x; pending = []; fresh = true }

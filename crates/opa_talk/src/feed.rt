@@ -1,7 +1,26 @@
 // A talk over its input: piece after piece is read, and each line is carried out.
-ghost use Rattle.std.specs.Prelude.{◌≡◌};
+ghost use Rattle.std.specs.Prelude.{◌≡◌, ◌<◌, ◌≤◌, [], length, vec_len, IfOk, OnOk, OnErr, IfErr};
+ghost use Rattle.std.specs.Io.KnownBytes.{Keeps};
+ghost use Rattle.opa_io.specs.Outside.{Reads, HasCause};
+ghost use Rattle.opa_talk.specs.Halt.{IsCause};
+ghost use Rattle.opa_talk.specs.Lines.{IsPart};
+ghost use Rattle.opa_talk.specs.Transcript.{IsGoing, CutsAnywhere};
+ghost use Rattle.opa_talk.specs.Talk.{Converses, Halts};
+ghost use Rattle.opa_talk.specs.Points.{point_of, fresh_point, Probes, TakesTurn, TakesLines, BreaksPart};
 
-/// What a turn found.
+use crate::halt::Halt;
+use crate::replier::Replier;
+use crate::talk::{Pending, take_piece};
+use opa_io::{Failed, Sink, Source};
+use std::alloc::{AllocError, Global};
+
+/// How many bytes an input may have.
+const LIMIT: usize = 67_108_864;
+
+/// How many bytes are read at once.
+const PIECE: usize = 65_536;
+
+/// What a turn found: the end of the input, so many bytes, or that no line is taken any more.
 #[derive(Clone, Copy, Debug, PartialEq, Eq)]
 pub enum Turn {
     End,
@@ -9,11 +28,107 @@ pub enum Turn {
     Over,
 }
 
-/// Why no further line is read.
+/// Why no further piece is read: the input is at its end, as many bytes were read as an input may have, or no line is taken
+/// any more.
 #[derive(Clone, Copy, Debug, PartialEq, Eq)]
 pub enum Ending {
     End,
     Full,
     Over,
 }
+
+/// Reads the next bytes into a vector.
+fn read_into<S: Source>(input: &mut S, buf: &mut Vec<u8>) -> Result<usize, Failed>
+    ensures bytes { Reads (S.left input.old) (S.left input.new) result buf.new.items }
+    ensures bound { IfOk result (λ n. n ≤ vec_len buf.new) }
+    ensures cause { HasCause (S.faults input.old) (S.faults input.new) result }
+    ensures len { vec_len buf.new ≡ vec_len buf.old }
+{
+    input.read(buf)
+}
+
+/// Reads a piece of the input, and carries out the lines that are whole then.
+fn take_turn<T: Replier, S: Source, K: Sink>(
+    alloc: Global,
+    replier: &mut T,
+    pending: &mut Pending,
+    buf: &mut Vec<u8>,
+    input: &mut S,
+    out: &mut K,
+) -> Result<Turn, Halt>
+    requires going { IsGoing T.rule (T.state replier.old) }
+    requires part { IsPart pending.old.bytes.items }
+    requires room { 0 < vec_len buf.old }
+    ensures ok { IfOk result (TakesTurn T.rule (point_of (T.state replier.old) pending.old) (point_of (T.state replier.new) pending.new) (vec_len buf.old) (S.left input.old) (S.left input.new) (K.written out.old) (K.written out.new)) }
+    ensures err { IfErr result (BreaksPart T.rule T.Stops (point_of (T.state replier.old) pending.old) (point_of (T.state replier.new) pending.new) (vec_len buf.old) (S.left input.old) (S.left input.new) (K.written out.old) (K.written out.new)) }
+    ensures cause { IfErr result (IsCause (T.take_faults replier.old) (T.take_faults replier.new) (T.keep_faults replier.old) (T.keep_faults replier.new) (K.faults out.old) (K.faults out.new) (S.faults input.old) (S.faults input.new)) }
+    ensures later_input { S.faults input.old ≤ S.faults input.new }
+    ensures later { K.faults out.old ≤ K.faults out.new }
+    ensures later_take { T.take_faults replier.old ≤ T.take_faults replier.new }
+    ensures later_keep { T.keep_faults replier.old ≤ T.keep_faults replier.new }
+    ensures room { vec_len buf.new ≡ vec_len buf.old }
+{
+    let Ok(count) = read_into(input, buf) else {
+        return Err(Halt::Input);
+    };
+    if count == 0 {
+        return Ok(Turn::End);
+    }
+    let over = take_piece(alloc, replier, pending, &buf[..count], out)?;
+    if over {
+        Ok(Turn::Over)
+    } else {
+        Ok(Turn::Read(count))
+    }
+}
+
+/// Reads the input up to its end, or to the most that is read, and carries out each line that is whole.
+fn take_lines<T: Replier, S: Source, K: Sink>(
+    alloc: Global,
+    replier: &mut T,
+    pending: &mut Pending,
+    buf: &mut Vec<u8>,
+    input: &mut S,
+    out: &mut K,
+) -> Result<Ending, Halt>
+    requires going { IsGoing T.rule (T.state replier.old) }
+    requires part { IsPart pending.old.bytes.items }
+    requires room { 0 < vec_len buf.old }
+    ensures ok { IfOk result (TakesLines T.rule (point_of (T.state replier.old) pending.old) (point_of (T.state replier.new) pending.new) LIMIT (S.left input.old) (S.left input.new) (K.written out.old) (K.written out.new)) }
+    ensures err { IfErr result (BreaksPart T.rule T.Stops (point_of (T.state replier.old) pending.old) (point_of (T.state replier.new) pending.new) LIMIT (S.left input.old) (S.left input.new) (K.written out.old) (K.written out.new)) }
+    ensures cause { IfErr result (IsCause (T.take_faults replier.old) (T.take_faults replier.new) (T.keep_faults replier.old) (T.keep_faults replier.new) (K.faults out.old) (K.faults out.new) (S.faults input.old) (S.faults input.new)) }
+    ensures later_input { S.faults input.old ≤ S.faults input.new }
+    ensures later { K.faults out.old ≤ K.faults out.new }
+    ensures later_take { T.take_faults replier.old ≤ T.take_faults replier.new }
+    ensures later_keep { T.keep_faults replier.old ≤ T.keep_faults replier.new }
+{
+    let mut left = LIMIT;
+    while left > 0 {
+        buf.truncate(left);
+        match take_turn(alloc, replier, pending, buf, input, out)? {
+            Turn::End => return Ok(Ending::End),
+            Turn::Over => return Ok(Ending::Over),
+            Turn::Read(count) => left -= count,
+        }
+    }
+    Ok(Ending::Full)
+}
+
+/// Asks for one more byte, and answers whether the input is at its end.
+fn is_at_end<S: Source>(input: &mut S) -> Result<bool, Failed>
+    ensures bytes { IfOk result (Probes (S.left input.old) (S.left input.new)) }
+    ensures err { OnErr result (Keeps (S.left input.old) (S.left input.new)) }
+    ensures cause { HasCause (S.faults input.old) (S.faults input.new) result }
+{
+    let mut last = [0];
+    Ok(input.read(&mut last)? == 0)
+}
+
+/// Room for a piece.
+fn buffer(alloc: Global) -> Result<Vec<u8>, AllocError>
+    ensures { IfOk result (λ buf. 0 < vec_len buf) }
+{
+    vec![in alloc; 0; PIECE]
+}
+
 pub fn converse() {}
