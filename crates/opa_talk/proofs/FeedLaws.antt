@@ -1,16 +1,15 @@
 -- Pieces of an input, one after another.
-use Rattle.std.proofs.Common.{Bool, true, false, inl, inr, refl, ◌≡◌, ◌≤◌, ◌<◌, ◌+◌, ◌-◌, ◌⊎◌, ℕ, List, ◌++◌, ◌∷◌, [], length, take, length-append, subst, sym, ap, ◌∙◌, arith, append-nil, append_assoc}
+use Rattle.std.proofs.Common.{◌≡◌, ◌≤◌, ◌+◌, ◌-◌, ℕ, List, ◌++◌, [], length, length-append, ap, ◌∙◌, arith, append_assoc}
 use Rattle.std.specs.declared.option.Option.{Option}
-use Rattle.std.specs.Io.KnownBytes.{Consumes, Keeps, Appends, IsAtEnd}
-use Rattle.opa_io.proofs.Appended.{Consumes-append, Consumes-none, Consumes-Keeps, Appends-append, Appends-none}
-use Rattle.opa_io.specs.Outside.{AppendsFront}
+use Rattle.std.specs.Io.KnownBytes.{Consumes}
+use Rattle.opa_io.proofs.Appended.{Consumes-append}
 use Rattle.opa_talk.specs.declared.halt.Halt.{Halt}
 use Rattle.opa_talk.specs.declared.halt.Halt.TheVariants as halt
 use Rattle.opa_talk.specs.declared.feed.Turn.TheVariants as turn
 use Rattle.opa_talk.specs.declared.feed.Ending.TheVariants as ending
 use Rattle.opa_talk.specs.Transcript.{Rule}
-use Rattle.opa_talk.specs.Points.{Point, CarriesOut, Breaks, BreaksAt, BreaksPart, EndsWithin, GoesOn, TakesTurn, TakesLines}
-use Rattle.opa_talk.proofs.PointsLaws.{carries-append, carries_none, breaks_after}
+use Rattle.opa_talk.specs.Points.{Point, BreaksAt, BreaksPart, EndsWithin, GoesOn, TakesTurn, TakesLines}
+use Rattle.opa_talk.proofs.PointsLaws.{carries-append, breaks_after}
 
 module _ {X : Type 0} (rule : Rule X) where
   pub goes-append : (a b c : Point X) (xs ys : List ℕ) (before mid now : Option (List ℕ)) → GoesOn rule a b xs before mid → GoesOn rule b c ys mid now → GoesOn rule a c (xs ++ ys) before now

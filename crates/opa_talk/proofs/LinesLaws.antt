@@ -1,14 +1,14 @@
 -- The lines of bytes that are cut at a line feed.
-use Rattle.std.proofs.Common.{◌+◌, ◌<◌, ◌≤◌, slice_index_or, subst, arith, ◌≡◌, ◌⊎◌, inl, inr, ℕ, Bool, true, false, List, [], ◌∷◌, ◌++◌, ◌&&◌, All, map, ap, sym, ◌∙◌, refl, append_assoc, append-nil, eqb, take, drop, length}
+use Rattle.std.proofs.Common.{◌+◌, ◌<◌, ◌≤◌, slice_index_or, subst, arith, ◌≡◌, inl, inr, ℕ, Bool, true, false, List, [], ◌∷◌, ◌++◌, ◌&&◌, map, ap, sym, ◌∙◌, refl, append_assoc, append-nil, eqb, take, drop, length}
 use Rattle.std.specs.Prelude.{if◌then◌else◌, ◌==◌}
 use Rattle.std.specs.Str.{bytes_eq}
 use Rattle.std.specs.Str.Lines.{lines, lines_of_parts, strip_carriage_return}
 use Rattle.std.specs.List.{slice_split, onto_first}
-use Rattle.std.proofs.lemmas.List.Elements.{All-append, All-drop, All-push}
+use Rattle.std.proofs.lemmas.List.Elements.{All-drop, All-push}
 use Rattle.std.proofs.lemmas.Bool.Decides.{eqb_tells}
 use Rattle.std.proofs.lemmas.List.{take_more, take_all}
 use Rattle.std.proofs.lemmas.List.Splits.{slice_split_at, slice_split_none}
-use Rattle.opa_talk.specs.Lines.{without_mark, line_at, lines_from, input_lines, IsPart, EndsLine}
+use Rattle.opa_talk.specs.Lines.{without_mark, line_at, lines_from, IsPart, EndsLine}
 use Rattle.opa_talk.specs.Points.{is_empty}
 
 -- a list of parts has a first
@@ -119,17 +119,17 @@ fresh_feed fresh xs = sym (ap (λ b. fresh && b) (is_empty_feed xs []) ∙ and_f
 -- the lines of whole lines, and those after them
 pub lines_from-append : (fresh : Bool) (xs ys : List ℕ) → EndsLine xs → lines_from fresh (xs ++ ys) ≡ lines_from fresh xs ++ lines_from (fresh && is_empty xs) ys
 lines_from-append fresh xs ys ends = elim ends [
-  inl none ↦
-    ap (λ s. lines_from fresh (s ++ ys)) none
-    ∙ ap (λ b. lines_from b ys) (sym (and_true fresh))
-    ∙ ap (λ s. s ++ lines_from (fresh && true) ys) (sym (nothing fresh))
-    ∙ ap (λ s. lines_from fresh s ++ lines_from (fresh && is_empty s) ys) (sym none) |
-  inr feed ↦
-    ap (λ s. lines_from fresh (s ++ ys)) feed.1
-    ∙ ap (lines_from fresh) (append_assoc feed.0 (10 ∷ []) ys)
-    ∙ lines_from-cut fresh feed.0 ys
-    ∙ ap (λ b. lines_from fresh (feed.0 ++ 10 ∷ []) ++ lines_from b ys) (fresh_feed fresh feed.0)
-    ∙ ap (λ s. lines_from fresh s ++ lines_from (fresh && is_empty s) ys) (sym feed.1)
+  | inl none ↦
+      ap (λ s. lines_from fresh (s ++ ys)) none
+      ∙ ap (λ b. lines_from b ys) (sym (and_true fresh))
+      ∙ ap (λ s. s ++ lines_from (fresh && true) ys) (sym (nothing fresh))
+      ∙ ap (λ s. lines_from fresh s ++ lines_from (fresh && is_empty s) ys) (sym none)
+  | inr feed ↦
+      ap (λ s. lines_from fresh (s ++ ys)) feed.1
+      ∙ ap (lines_from fresh) (append_assoc feed.0 (10 ∷ []) ys)
+      ∙ lines_from-cut fresh feed.0 ys
+      ∙ ap (λ b. lines_from fresh (feed.0 ++ 10 ∷ []) ++ lines_from b ys) (fresh_feed fresh feed.0)
+      ∙ ap (λ s. lines_from fresh s ++ lines_from (fresh && is_empty s) ys) (sym feed.1)
 ]
   where
     nothing : (f : Bool) → lines_from f [] ≡ []
@@ -149,8 +149,8 @@ fresh-append fresh xs ys = and_assoc fresh (is_empty xs) (is_empty ys) ∙ ap (�
 
 pub EndsLine-append : (xs ys : List ℕ) → EndsLine xs → EndsLine ys → EndsLine (xs ++ ys)
 EndsLine-append xs ys p q = elim q [
-  inl none ↦ let P : List ℕ → Type 0 = EndsLine in subst P (sym (append-nil xs) ∙ ap (λ s. xs ++ s) (sym none)) p |
-  inr feed ↦ inr (xs ++ feed.0, ap (λ s. xs ++ s) feed.1 ∙ sym (append_assoc xs feed.0 (10 ∷ [])))
+  | inl none ↦ let P : List ℕ → Type 0 = EndsLine in subst P (sym (append-nil xs) ∙ ap (λ s. xs ++ s) (sym none)) p
+  | inr feed ↦ inr (xs ++ feed.0, ap (λ s. xs ++ s) feed.1 ∙ sym (append_assoc xs feed.0 (10 ∷ [])))
 ]
 
 ne_eqb : (a b : ℕ) → (a ≡ b → ⊥) → eqb a b ≡ false

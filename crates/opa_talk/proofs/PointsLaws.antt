@@ -1,13 +1,13 @@
 -- Bytes that are carried out one after another.
-use Rattle.std.proofs.Common.{inl, inr, subst, arith, ◌≡◌, ◌⊎◌, ℕ, Bool, true, false, List, [], ◌∷◌, ◌++◌, ◌&&◌, ap, sym, ◌∙◌, refl, append_assoc, append-nil, length, Result, Ok, Err, IfOk, OnErr, OnOk}
+use Rattle.std.proofs.Common.{inl, inr, subst, ◌≡◌, ℕ, Bool, true, false, List, [], ◌∷◌, ◌++◌, ◌&&◌, ap, sym, ◌∙◌, refl, append_assoc, append-nil, length, Result, Ok, Err, OnErr}
 use Rattle.std.specs.declared.option.Option.{Option}
 use Rattle.std.specs.Io.KnownBytes.{Appends}
 use Rattle.std.specs.Prelude.{if◌then◌else◌, ◌==◌}
 use Rattle.std.specs.Str.Lines.{lines, strip_carriage_return}
-use Rattle.opa_io.specs.Outside.{AppendsFront, AppendsAll}
+use Rattle.opa_io.specs.Outside.{AppendsFront}
 use Rattle.opa_io.proofs.Appended.{Appends-append, Appends-none}
 use Rattle.opa_talk.specs.Lines.{line_at, lines_from, IsPart, EndsLine}
-use Rattle.opa_talk.specs.Transcript.{Rule, IsGoing, IsOver, replies, after}
+use Rattle.opa_talk.specs.Transcript.{Rule, IsGoing, replies, after}
 use Rattle.opa_talk.specs.Talk.{LeftAt, Replies}
 use Rattle.opa_talk.specs.Points.{Point, is_empty, CarriesOut, Breaks, CarriesLine, StopsAt, Finishes}
 use Rattle.opa_talk.proofs.LinesLaws.{lines_last, line_at_part, lines_from_line, lines_from-append, lines_from-cut, fresh_feed, fresh-append, EndsLine-append, part_none}
@@ -51,6 +51,7 @@ module _ {X : Type 0} (rule : Rule X) where
       same : (b : Bool) → b ≡ (b && true)
       same true = refl
       same false = refl
+
       nothing : (f : Bool) → lines_from f [] ≡ []
       nothing true = refl
       nothing false = refl
@@ -81,7 +82,7 @@ module _ {X : Type 0} (rule : Rule X) where
   pub carries-append : (a b c : Point X) (xs ys : List ℕ) (before mid now : Option (List ℕ)) → CarriesOut rule a b xs before mid → CarriesOut rule b c ys mid now → CarriesOut rule a c (xs ++ ys) before now
   carries-append a b c xs ys before mid now f g =
       let split : lines_from a.fresh (f.whole ++ g.whole) ≡ lines_from a.fresh f.whole ++ lines_from b.fresh g.whole =
-          lines_from-append a.fresh f.whole g.whole f.ends ∙ ap (λ t. lines_from a.fresh f.whole ++ lines_from t g.whole) (sym f.fresh) in
+      lines_from-append a.fresh f.whole g.whole f.ends ∙ ap (λ t. lines_from a.fresh f.whole ++ lines_from t g.whole) (sym f.fresh) in
       record {
         whole = f.whole ++ g.whole;
         cut = append_assoc f.whole g.whole c.pending ∙ ap (λ s. f.whole ++ s) g.cut ∙ sym (append_assoc f.whole b.pending ys) ∙ ap (λ s. s ++ ys) f.cut ∙ append_assoc a.pending xs ys;
@@ -167,10 +168,10 @@ module _ {X : Type 0} (rule : Rule X) where
         → line ≡ strip_carriage_return (line_at at.fresh (at.pending ++ bytes)) → StopsAt rule Stops at.state x' line before now → Breaks rule Stops at x' (bytes ++ 10 ∷ []) before now
     breaks_line at x' bytes line before now part going is stop =
         let one : line ∷ [] ≡ lines_from at.fresh (at.pending ++ (bytes ++ 10 ∷ [])) =
-            ap (λ l. l ∷ []) is ∙ sym (lines_from_line at.fresh (at.pending ++ bytes) part) ∙ ap (lines_from at.fresh) (append_assoc at.pending bytes (10 ∷ [])) in
+        ap (λ l. l ∷ []) is ∙ sym (lines_from_line at.fresh (at.pending ++ bytes) part) ∙ ap (lines_from at.fresh) (append_assoc at.pending bytes (10 ∷ [])) in
         elim stop [
-          inl s ↦ record { done = []; more = line ∷ []; cut = one; left = inr (line, [], refl, s.0); wrote = front_all before now [] s.1 } |
-          inr s ↦ record {
+          | inl s ↦ record { done = []; more = line ∷ []; cut = one; left = inr (line, [], refl, s.0); wrote = front_all before now [] s.1 }
+          | inr s ↦ record {
             done = line ∷ [];
             more = [];
             cut = one;
@@ -198,8 +199,8 @@ module _ {X : Type 0} (rule : Rule X) where
     breaks_last Stops stop =
         let one : line ∷ [] ≡ lines_from at.fresh (at.pending ++ []) = sym last_one ∙ ap (lines_from at.fresh) (sym (append-nil at.pending)) in
         elim stop [
-          inl s ↦ record { done = []; more = line ∷ []; cut = one; left = inr (line, [], refl, s.0); wrote = front_all before now [] s.1 } |
-          inr s ↦ record {
+          | inl s ↦ record { done = []; more = line ∷ []; cut = one; left = inr (line, [], refl, s.0); wrote = front_all before now [] s.1 }
+          | inr s ↦ record {
             done = line ∷ [];
             more = [];
             cut = one;

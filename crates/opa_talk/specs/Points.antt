@@ -1,5 +1,5 @@
 -- The steps of a talk: where it stands between two bytes of its input, and what leads from one such point to another.
-use Rattle.std.specs.Prelude.{ℕ, ◌≡◌, ◌≤◌, ◌<◌, ◌⊎◌, ◌&&◌, Bool, true, false, List, [], ◌∷◌, ◌++◌, length}
+use Rattle.std.specs.Prelude.{ℕ, ◌≡◌, ◌≤◌, ◌<◌, ◌+◌, ◌⊎◌, ◌&&◌, Bool, true, false, List, [], ◌∷◌, ◌++◌, length, take}
 use Rattle.std.specs.declared.option.Option.{Option}
 use Rattle.std.specs.Io.KnownBytes.{Appends, Consumes, IsAtEnd}
 use Rattle.opa_io.specs.Outside.{AppendsFront}
@@ -114,3 +114,24 @@ pub record Finishes {X : Type 0} (rule : Rule X) (at : Point X) (x' : X) (before
 -- nothing was read
 abbrev pub fresh_point : {X : Type 0} → X → Point X
 fresh_point x = record { state = x; pending = []; fresh = true }
+
+-- From a point on the input was read up to where the talk ends, and what it prints was written.
+pub record Feeds {X : Type 0} (rule : Rule X) (at : Point X) (x' : X) (most : ℕ) (left left' before now : Option (List ℕ)) : Type 0 where
+  pub read : List ℕ
+  pub took : Consumes left left' read
+  pub within : length read ≤ most
+  pub state : x' ≡ after rule at.state (lines_from at.fresh (at.pending ++ read))
+  pub wrote : Appends before now (replies rule at.state (lines_from at.fresh (at.pending ++ read)))
+  pub ended : IsAtEnd left' ⊎ (IsOver rule x' × ((more : List ℕ) → replies rule at.state (lines_from at.fresh (at.pending ++ (read ++ more))) ≡ replies rule at.state (lines_from at.fresh (at.pending ++ read))))
+
+-- where the talk halts from a point on
+abbrev pub FeedBreaksAt : {X : Type 0} → Rule X → (X → List ℕ → X → Type 0) → Point X → Point X → ℕ → List ℕ → Option (List ℕ) → Option (List ℕ) → Halt → Type 0
+FeedBreaksAt rule Stops old new most read before now halt.Input = (length read ≤ most) × GoesOn rule old new read before now
+FeedBreaksAt rule Stops old new most read before now halt.Output = (length read ≤ most) × Breaks rule Stops old new.state read before now
+FeedBreaksAt rule Stops old new most read before now halt.Take = (length read ≤ most) × Breaks rule Stops old new.state read before now
+FeedBreaksAt rule Stops old new most read before now halt.Keep = (length read ≤ most) × Breaks rule Stops old new.state read before now
+FeedBreaksAt rule Stops old new most read before now halt.Memory = (length read ≤ most) × Breaks rule Stops old new.state read before now
+FeedBreaksAt rule Stops old new most read before now halt.Limit = (length read ≡ most + 1) × GoesOn rule old new (take most read) before now
+
+abbrev pub FeedBreaks : {X : Type 0} → Rule X → (X → List ℕ → X → Type 0) → Point X → Point X → ℕ → Option (List ℕ) → Option (List ℕ) → Option (List ℕ) → Option (List ℕ) → Halt → Type 0
+FeedBreaks rule Stops old new most left left' before now halt = (read : List ℕ) × Consumes left left' read × FeedBreaksAt rule Stops old new most read before now halt

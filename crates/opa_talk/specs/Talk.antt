@@ -1,12 +1,12 @@
 -- A talk between two bytes of its input.
-use Rattle.std.specs.Prelude.{ℕ, ◌≡◌, ◌≤◌, ◌<◌, ◌+◌, ◌⊎◌, ◌&&◌, Bool, true, false, List, [], ◌∷◌, ◌++◌, length, take}
+use Rattle.std.specs.Prelude.{ℕ, ◌≡◌, ◌≤◌, ◌+◌, ◌⊎◌, Bool, List, ◌∷◌, ◌++◌, length, take}
 use Rattle.std.specs.declared.option.Option.{Option}
 use Rattle.std.specs.Io.KnownBytes.{Appends, Consumes, IsAtEnd}
 use Rattle.opa_io.specs.Outside.{AppendsFront}
 use Rattle.opa_talk.specs.declared.halt.Halt.{Halt}
 use Rattle.opa_talk.specs.declared.halt.Halt.TheVariants as halt
-use Rattle.opa_talk.specs.Lines.{lines_from, input_lines, IsPart, EndsLine, IsWhole}
-use Rattle.opa_talk.specs.Transcript.{Rule, IsGoing, IsOver, replies, transcript, after}
+use Rattle.opa_talk.specs.Lines.{input_lines, IsWhole}
+use Rattle.opa_talk.specs.Transcript.{Rule, IsGoing, IsOver, transcript, after}
 
 -- this stands before the next line
 pub record IsPrompt {X : Type 0} (rule : Rule X) (x : X) (text : List ℕ) (over : Bool) : Type 0 where

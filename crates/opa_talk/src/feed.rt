@@ -6,11 +6,11 @@ ghost use Rattle.opa_talk.specs.Halt.{IsCause};
 ghost use Rattle.opa_talk.specs.Lines.{IsPart};
 ghost use Rattle.opa_talk.specs.Transcript.{IsGoing, CutsAnywhere};
 ghost use Rattle.opa_talk.specs.Talk.{Converses, Halts};
-ghost use Rattle.opa_talk.specs.Points.{point_of, fresh_point, Probes, TakesTurn, TakesLines, BreaksPart};
+ghost use Rattle.opa_talk.specs.Points.{point_of, fresh_point, Probes, TakesTurn, TakesLines, BreaksPart, Feeds, FeedBreaks};
 
 use crate::halt::Halt;
 use crate::replier::Replier;
-use crate::talk::{Pending, take_piece};
+use crate::talk::{Pending, ask, finish, take_piece};
 use opa_io::{Failed, Sink, Source};
 use std::alloc::{AllocError, Global};
 
@@ -131,4 +131,70 @@ fn buffer(alloc: Global) -> Result<Vec<u8>, AllocError>
     vec![in alloc; 0; PIECE]
 }
 
-pub fn converse() {}
+/// Reads the input from a point on to where the talk ends, and writes what its lines print.
+fn go_on<T: Replier, S: Source, K: Sink>(
+    alloc: Global,
+    replier: &mut T,
+    pending: &mut Pending,
+    buf: &mut Vec<u8>,
+    input: &mut S,
+    out: &mut K,
+) -> Result<(), Halt>
+    requires going { IsGoing T.rule (T.state replier.old) }
+    requires part { IsPart pending.old.bytes.items }
+    requires room { 0 < vec_len buf.old }
+    ensures ok { OnOk result (Feeds T.rule (point_of (T.state replier.old) pending.old) (T.state replier.new) LIMIT (S.left input.old) (S.left input.new) (K.written out.old) (K.written out.new)) }
+    ensures err { IfErr result (FeedBreaks T.rule T.Stops (point_of (T.state replier.old) pending.old) (point_of (T.state replier.new) pending.new) LIMIT (S.left input.old) (S.left input.new) (K.written out.old) (K.written out.new)) }
+    ensures cause { IfErr result (IsCause (T.take_faults replier.old) (T.take_faults replier.new) (T.keep_faults replier.old) (T.keep_faults replier.new) (K.faults out.old) (K.faults out.new) (S.faults input.old) (S.faults input.new)) }
+    ensures later_input { S.faults input.old ≤ S.faults input.new }
+    ensures later { K.faults out.old ≤ K.faults out.new }
+    ensures later_take { T.take_faults replier.old ≤ T.take_faults replier.new }
+    ensures later_keep { T.keep_faults replier.old ≤ T.keep_faults replier.new }
+{
+    match take_lines(alloc, replier, pending, buf, input, out)? {
+        Ending::Over => Ok(()),
+        Ending::End => finish(alloc, replier, pending, out),
+        Ending::Full => {
+            let Ok(ended) = is_at_end(input) else {
+                return Err(Halt::Input);
+            };
+            if ended {
+                finish(alloc, replier, pending, out)
+            } else {
+                Err(Halt::Limit)
+            }
+        }
+    }
+}
+
+/// Reads the input to where the talk ends, and writes its transcript.
+pub fn converse<T: Replier, S: Source, K: Sink>(
+    alloc: Global,
+    replier: &mut T,
+    input: &mut S,
+    out: &mut K,
+) -> Result<(), Halt>
+    ensures ok { OnOk result (Converses T.rule (T.state replier.old) (T.state replier.new) LIMIT (S.left input.old) (S.left input.new) (K.written out.old) (K.written out.new)) }
+    ensures err { IfErr result (Halts T.rule T.Stops (T.state replier.old) (T.state replier.new) LIMIT (S.left input.old) (S.left input.new) (K.written out.old) (K.written out.new)) }
+    ensures cause { IfErr result (IsCause (T.take_faults replier.old) (T.take_faults replier.new) (T.keep_faults replier.old) (T.keep_faults replier.new) (K.faults out.old) (K.faults out.new) (S.faults input.old) (S.faults input.new)) }
+    ensures later_input { S.faults input.old ≤ S.faults input.new }
+    ensures later { K.faults out.old ≤ K.faults out.new }
+    ensures later_take { T.take_faults replier.old ≤ T.take_faults replier.new }
+    ensures later_keep { T.keep_faults replier.old ≤ T.keep_faults replier.new }
+{
+    let mut pending = Pending {
+        bytes: Vec::new(alloc),
+        fresh: true,
+    };
+    let mut buf = buffer(alloc)?;
+    let over = ask(alloc, replier, out)?;
+    if over {
+        return Ok(());
+    }
+    go_on(alloc, replier, &mut pending, &mut buf, input, out)
+}
+
+/// A law over the transcripts of what answers lines: an input may be cut at any line feed.
+pub fn cut_anywhere<T: Replier>()
+    ensures { CutsAnywhere T.rule }
+{}

@@ -7,7 +7,7 @@ mod line;
 mod replier;
 mod talk;
 
-pub use feed::converse;
+pub use feed::{converse, cut_anywhere};
 pub use halt::Halt;
 pub use line::{without_mark, without_return};
 pub use replier::{Prompt, Replier};

@@ -1,4 +1,4 @@
-use Rattle.std.proofs.Common.{◌≡◌, ◌≤◌, ◌+◌, ◌∙◌, [], refl, arith, vec_len}
+use Rattle.std.proofs.Common.{◌≤◌, [], refl, arith, vec_len}
 use Rattle.std.proofs.lemmas.Result.{err_from_is_err_and}
 use Rattle.opa_io.proofs.Appended.{Consumes-none}
 use Rattle.opa_talk.specs.Points.{point_of}

@@ -1,4 +1,4 @@
-use Rattle.std.proofs.Common.{[], arith, append-nil, ◌∙◌, subst, sym}
+use Rattle.std.proofs.Common.{[], arith}
 use Rattle.opa_io.proofs.Appended.{Consumes-none, Consumes-Keeps}
 use Rattle.opa_talk.specs.Points.{point_of}
 use Rattle.opa_talk.proofs.PointsLaws.{carries_none}

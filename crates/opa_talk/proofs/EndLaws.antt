@@ -1,0 +1,186 @@
+-- How a talk ends.
+use Rattle.std.proofs.Common.{true, false, Result, Ok, Err, OnOk, OnErr, IfErr, inl, inr, refl, ◌≡◌, ◌≤◌, ℕ, List, ◌++◌, [], length, take, length-append, subst, sym, ap, ◌∙◌, arith, append-nil, append_assoc}
+use Rattle.std.specs.declared.option.Option.{Option}
+use Rattle.std.specs.Io.KnownBytes.{Consumes, Keeps, Appends}
+use Rattle.std.proofs.lemmas.List.{take-append-le, take_all}
+use Rattle.opa_io.proofs.Appended.{Consumes-append, Consumes-none, Consumes-Keeps, Appends-append}
+use Rattle.opa_io.specs.Outside.{AppendsFront}
+use Rattle.opa_talk.specs.declared.halt.Halt.{Halt}
+use Rattle.opa_talk.specs.declared.halt.Halt.TheVariants as halt
+use Rattle.opa_talk.specs.declared.feed.Ending.TheVariants as ending
+use Rattle.opa_talk.specs.Halt.{IsLineCause}
+use Rattle.opa_talk.specs.Lines.{lines_from, input_lines}
+use Rattle.opa_talk.specs.Transcript.{Rule, IsOver, replies, transcript, after}
+use Rattle.opa_talk.specs.Talk.{Halted, Paused, Converses, Halts, HaltsAt}
+use Rattle.opa_talk.specs.Points.{Point, fresh_point, CarriesOut, Breaks, GoesOn, TakesLines, Probes, Finishes, Feeds, FeedBreaks, FeedBreaksAt}
+use Rattle.opa_talk.proofs.LinesLaws.{lines_from-append}
+use Rattle.opa_talk.proofs.TranscriptLaws.{replies-append, after-append, replies_over, after_over}
+use Rattle.opa_talk.proofs.PointsLaws.{front_after, front_none, appends_is, lines_two, breaks_after, breaks_is}
+
+module _ {X : Type 0} (rule : Rule X) (at now : Point X) (w x : Option (List ℕ)) where
+  -- the lines of what was read, in two parts
+  lines_parts : (read : List ℕ) → (f : CarriesOut rule at now read w x) → lines_from at.fresh (at.pending ++ read) ≡ lines_from at.fresh f.whole ++ lines_from now.fresh now.pending
+  lines_parts read f =
+      ap (lines_from at.fresh) (sym f.cut) ∙ lines_from-append at.fresh f.whole now.pending f.ends ∙ ap (λ t. lines_from at.fresh f.whole ++ lines_from t now.pending) (sym f.fresh)
+
+  module _ (front rest : List ℕ) (f : CarriesOut rule at now front w x) (over : IsOver rule now.state) where
+    over_lines : lines_from at.fresh (at.pending ++ (front ++ rest)) ≡ lines_from at.fresh f.whole ++ lines_from now.fresh (now.pending ++ rest)
+    over_lines = lines_two rule at now front rest f.whole f.cut f.ends f.fresh
+
+    over_state : IsOver rule (after rule at.state (lines_from at.fresh f.whole))
+    over_state = let P : X → Type 0 = λ y. IsOver rule y in subst P f.state over
+
+    over_replies : replies rule at.state (lines_from at.fresh (at.pending ++ (front ++ rest))) ≡ replies rule at.state (lines_from at.fresh f.whole)
+    over_replies =
+        ap (replies rule at.state) over_lines ∙ replies-append rule at.state (lines_from at.fresh f.whole) (lines_from now.fresh (now.pending ++ rest))
+        ∙ ap (λ s. replies rule at.state (lines_from at.fresh f.whole) ++ s) (replies_over rule (after rule at.state (lines_from at.fresh f.whole)) (lines_from now.fresh (now.pending ++ rest)) over_state)
+        ∙ append-nil (replies rule at.state (lines_from at.fresh f.whole))
+
+    over_after : now.state ≡ after rule at.state (lines_from at.fresh (at.pending ++ (front ++ rest)))
+    over_after =
+        f.state ∙ sym (after_over rule (after rule at.state (lines_from at.fresh f.whole)) (lines_from now.fresh (now.pending ++ rest)) over_state)
+        ∙ sym (after-append rule at.state (lines_from at.fresh f.whole) (lines_from now.fresh (now.pending ++ rest))) ∙ ap (after rule at.state) (sym over_lines)
+
+  -- no line is taken any more
+  pub feeds_over : (most : ℕ) (l m : Option (List ℕ)) → TakesLines rule at now most l m w x ending.Over → Feeds rule at now.state most l m w x
+  feeds_over most l m lines = let e = lines.3 in record {
+    read = lines.0;
+    took = lines.1;
+    within = lines.2;
+    state = over_after e.front e.rest e.carried e.over ∙ ap (λ s. after rule at.state (lines_from at.fresh (at.pending ++ s))) e.cut;
+    wrote = appends_is w x _ _ (sym (over_replies e.front e.rest e.carried e.over) ∙ ap (λ s. replies rule at.state (lines_from at.fresh (at.pending ++ s))) e.cut) e.carried.wrote;
+    ended = inr (
+      e.over,
+      λ more.
+          ap (λ s. replies rule at.state (lines_from at.fresh (at.pending ++ s))) (ap (λ s. s ++ more) (sym e.cut) ∙ append_assoc e.front e.rest more)
+          ∙ over_replies e.front (e.rest ++ more) e.carried e.over
+          ∙ sym (over_replies e.front e.rest e.carried e.over)
+          ∙ ap (λ s. replies rule at.state (lines_from at.fresh (at.pending ++ s))) e.cut,
+    );
+  }
+
+  -- the input is at its end, and the last line was carried out
+  pub feeds_end : (most : ℕ) (l m y : Option (List ℕ)) (x' : X) → TakesLines rule at now most l m w x ending.End → Finishes rule now x' x y → Feeds rule at x' most l m w y
+  feeds_end most l m y x' lines last = let f = lines.4.carried in record {
+    read = lines.0;
+    took = lines.1;
+    within = lines.2;
+    state = last.state ∙ ap (λ s. after rule s (lines_from now.fresh now.pending)) f.state ∙ sym (after-append rule at.state (lines_from at.fresh f.whole) (lines_from now.fresh now.pending)) ∙ ap (after rule at.state) (sym (lines_parts lines.0 f));
+    wrote = appends_is w y _ _
+        (ap (λ s. replies rule at.state (lines_from at.fresh f.whole) ++ replies rule s (lines_from now.fresh now.pending)) f.state
+        ∙ sym (replies-append rule at.state (lines_from at.fresh f.whole) (lines_from now.fresh now.pending)) ∙ ap (replies rule at.state) (sym (lines_parts lines.0 f)))
+        (Appends-append w x y _ _ f.wrote last.wrote);
+    ended = inl lines.3;
+  }
+
+  -- a probe that finds the end
+  pub full_end : (most : ℕ) (l m n : Option (List ℕ)) → TakesLines rule at now most l m w x ending.Full → Probes m n true → TakesLines rule at now most l n w x ending.End
+  full_end most l m n lines probe =
+      let same : Consumes l n lines.0 = let P : List ℕ → Type 0 = λ s. Consumes l n s in subst P (append-nil lines.0) (Consumes-append l m n lines.0 [] lines.1 probe.0) in
+      (lines.0, same, omega (arith, lines.2), probe.1, lines.3)
+
+  module _ (Stops : X → List ℕ → X → Type 0) where
+    -- the source failed after the lines
+    pub full_failed : (most : ℕ) (l m n : Option (List ℕ)) → TakesLines rule at now most l m w x ending.Full → Keeps m n → FeedBreaks rule Stops at now most l n w x halt.Input
+    full_failed most l m n lines keeps = (lines.0, Consumes-Keeps l m n lines.0 lines.1 keeps, (omega (arith, lines.2), lines.3))
+
+    -- one byte too many was read after the lines
+    pub full_limit : (most : ℕ) (l m n : Option (List ℕ)) → TakesLines rule at now most l m w x ending.Full → Probes m n false → FeedBreaks rule Stops at now most l n w x halt.Limit
+    full_limit most l m n lines probe =
+        let front : take most (lines.0 ++ probe.0) ≡ lines.0 = take-append-le most lines.0 probe.0 (omega (arith, lines.2)) ∙ take_all most lines.0 (omega (arith, lines.2)) in
+        let P : List ℕ → Type 0 = λ s. GoesOn rule at now s w x in
+        (lines.0 ++ probe.0, Consumes-append l m n lines.0 probe.0 lines.1 probe.1, (omega (arith, length-append lines.0 probe.0, lines.2, probe.2), subst P (sym front) lines.3))
+
+    -- the talk halts at the last line
+    last_breaks : (most : ℕ) (l m y : Option (List ℕ)) (new : Point X) → TakesLines rule at now most l m w x ending.End → Breaks rule Stops now new.state [] x y
+        → (read : List ℕ) × Consumes l m read × (length read ≤ most × Breaks rule Stops at new.state read w y)
+    last_breaks most l m y new lines b =
+        (lines.0, lines.1, (lines.2, breaks_is rule Stops at new.state (lines.0 ++ []) lines.0 w y (append-nil lines.0) (breaks_after rule Stops at now new.state lines.0 [] w x y lines.4.carried b)))
+
+    pub finish_ok : (most : ℕ) (l m y : Option (List ℕ)) (new : Point X) (res : Result (Unit {0}) Halt) → TakesLines rule at now most l m w x ending.End
+        → OnOk res (Finishes rule now new.state x y) → OnOk res (Feeds rule at new.state most l m w y)
+    finish_ok most l m y new (Ok u) lines ok = feeds_end most l m y new.state lines ok
+    finish_ok most l m y new (Err e) lines ok = tt
+
+    pub finish_err : (most : ℕ) (l m y : Option (List ℕ)) (new : Point X) (res : Result (Unit {0}) Halt) (t t' k k' o o' : ℕ) → TakesLines rule at now most l m w x ending.End
+        → OnErr res (Breaks rule Stops now new.state [] x y) → IfErr res (IsLineCause t t' k k' o o') → IfErr res (FeedBreaks rule Stops at new most l m w y)
+    finish_err most l m y new (Ok u) t t' k k' o o' lines err cause = tt
+    finish_err most l m y new (Err halt.Input) t t' k k' o o' lines err cause = absurd cause
+    finish_err most l m y new (Err halt.Output) t t' k k' o o' lines err cause = last_breaks most l m y new lines err
+    finish_err most l m y new (Err halt.Take) t t' k k' o o' lines err cause = last_breaks most l m y new lines err
+    finish_err most l m y new (Err halt.Keep) t t' k k' o o' lines err cause = last_breaks most l m y new lines err
+    finish_err most l m y new (Err halt.Memory) t t' k k' o o' lines err cause = last_breaks most l m y new lines err
+    finish_err most l m y new (Err halt.Limit) t t' k k' o o' lines err cause = absurd cause
+
+module _ {X : Type 0} (rule : Rule X) (s : X) (w x : Option (List ℕ)) (asked : Appends w x (rule.prompt s)) where
+  -- from the first prompt on
+  pub converses : (s' : X) (most : ℕ) (l m y : Option (List ℕ)) → Feeds rule (fresh_point s) s' most l m x y → Converses rule s s' most l m w y
+  converses s' most l m y f = record {
+    read = f.read;
+    took = f.took;
+    within = f.within;
+    state = f.state;
+    wrote = Appends-append w x y (rule.prompt s) (replies rule s (input_lines f.read)) asked f.wrote;
+    ended = elim f.ended [ inl e ↦ inl e | inr o ↦ inr (o.0, λ more. ap (λ p. rule.prompt s ++ p) (o.1 more)) ];
+  }
+
+  pub converses_ok : {E : Type 0} (s' : X) (most : ℕ) (l m y : Option (List ℕ)) (res : Result (Unit {0}) E) → OnOk res (Feeds rule (fresh_point s) s' most l m x y) → OnOk res (Converses rule s s' most l m w y)
+  converses_ok s' most l m y (Ok u) f = converses s' most l m y f
+  converses_ok s' most l m y (Err e) f = tt
+
+  -- the talk is over before its first line
+  pub converses_none : (most : ℕ) (l : Option (List ℕ)) → IsOver rule s → Converses rule s s most l l w x
+  converses_none most l over =
+      let none : (more : List ℕ) → transcript rule s (input_lines more) ≡ rule.prompt s = λ more. ap (λ p. rule.prompt s ++ p) (replies_over rule s (input_lines more) over) ∙ append-nil (rule.prompt s) in
+      record {
+        read = [];
+        took = Consumes-none l;
+        within = omega arith;
+        state = refl;
+        wrote = appends_is w x _ _ (sym (none [])) asked;
+        ended = inr (over, λ more. none more ∙ sym (none []));
+      }
+
+  paused : (now : Point X) (read : List ℕ) (y : Option (List ℕ)) → GoesOn rule (fresh_point s) now read x y → Paused rule s now.state read w y
+  paused now read y f = let g = f.carried in record {
+    whole = g.whole;
+    is_whole = record { rest = now.pending; cut = g.cut; ends = g.ends; part = g.part };
+    state = g.state;
+    wrote = Appends-append w x y (rule.prompt s) (replies rule s (input_lines g.whole)) asked g.wrote;
+    going = f.going;
+  }
+
+  module _ (Stops : X → List ℕ → X → Type 0) where
+    halted : (s' : X) (read : List ℕ) (y : Option (List ℕ)) → Breaks rule Stops (fresh_point s) s' read x y → Halted rule Stops s s' (input_lines read) w y
+    halted s' read y b = record { done = b.done; more = b.more; cut = b.cut; left = b.left; wrote = front_after w x y (rule.prompt s) (replies rule s b.done) asked b.wrote }
+
+    halts_at : (now : Point X) (most : ℕ) (read : List ℕ) (y : Option (List ℕ)) (e : Halt) → FeedBreaksAt rule Stops (fresh_point s) now most read x y e → HaltsAt rule Stops s now.state most read w y e
+    halts_at now most read y halt.Input b = (b.0, paused now read y b.1)
+    halts_at now most read y halt.Output b = (b.0, halted now.state read y b.1)
+    halts_at now most read y halt.Take b = (b.0, halted now.state read y b.1)
+    halts_at now most read y halt.Keep b = (b.0, halted now.state read y b.1)
+    halts_at now most read y halt.Memory b = (b.0, halted now.state read y b.1)
+    halts_at now most read y halt.Limit b = (b.0, paused now (take most read) y b.1)
+
+    halts : (now : Point X) (most : ℕ) (l m y : Option (List ℕ)) (e : Halt) → FeedBreaks rule Stops (fresh_point s) now most l m x y e → Halts rule Stops s now.state most l m w y e
+    halts now most l m y e b = (b.0, b.1, halts_at now most b.0 y e b.2)
+
+    pub halts_err : {T : Type 0} (now : Point X) (most : ℕ) (l m y : Option (List ℕ)) (res : Result T Halt) → IfErr res (FeedBreaks rule Stops (fresh_point s) now most l m x y) → IfErr res (Halts rule Stops s now.state most l m w y)
+    halts_err now most l m y (Ok u) f = tt
+    halts_err now most l m y (Err e) f = halts now most l m y e f
+
+module _ {X : Type 0} (rule : Rule X) (Stops : X → List ℕ → X → Type 0) (s : X) where
+  -- the talk halts at its first prompt
+  halted_none : (w x : Option (List ℕ)) → AppendsFront w x (rule.prompt s) → Halted rule Stops s s [] w x
+  halted_none w x front = record { done = []; more = []; cut = refl; left = inl refl; wrote = let P : List ℕ → Type 0 = λ p. AppendsFront w x p in subst P (sym (append-nil (rule.prompt s))) front }
+
+  pub halts_none : (most : ℕ) (l w x : Option (List ℕ)) (e : Halt) (t t' k k' o o' : ℕ) → AppendsFront w x (rule.prompt s) → IsLineCause t t' k k' o o' e → Halts rule Stops s s most l l w x e
+  halts_none most l w x halt.Input t t' k k' o o' front cause = absurd cause
+  halts_none most l w x halt.Output t t' k k' o o' front cause = ([], Consumes-none l, (omega arith, halted_none w x front))
+  halts_none most l w x halt.Take t t' k k' o o' front cause = ([], Consumes-none l, (omega arith, halted_none w x front))
+  halts_none most l w x halt.Keep t t' k k' o o' front cause = ([], Consumes-none l, (omega arith, halted_none w x front))
+  halts_none most l w x halt.Memory t t' k k' o o' front cause = ([], Consumes-none l, (omega arith, halted_none w x front))
+  halts_none most l w x halt.Limit t t' k k' o o' front cause = absurd cause
+
+  pub halts_memory : (most : ℕ) (l w : Option (List ℕ)) → Halts rule Stops s s most l l w w halt.Memory
+  halts_memory most l w = ([], Consumes-none l, (omega arith, halted_none w w (front_none w (rule.prompt s))))
