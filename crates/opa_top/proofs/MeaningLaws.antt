@@ -1,0 +1,77 @@
+-- The value of a tree, and of all of its operands.
+use Rattle.std.proofs.Common.{◌+◌, ◌<◌, ◌≤◌, length, slice_index_or, take, sym, arith, ◌≡◌, ℕ, Bool, true, false, List, [], ◌∷◌, ◌++◌, ◌||◌, map, ap, refl, ◌∙◌, if◌then◌else◌}
+use Rattle.std.specs.List.{list_any, list_all}
+use Rattle.opa_value.specs.declared.value.Value.{Value}
+use Rattle.opa_value.specs.declared.value.Value.TheVariants as value
+use Rattle.opa_value.specs.Truth.{all_of, all2_of, is_false, is_unknown, is_uncertain}
+use Rattle.opa_tree.specs.declared.model.AttrId.{AttrId}
+use Rattle.opa_tree.specs.declared.expr.Expr.{Expr}
+use Rattle.opa_tree.specs.declared.expr.Expr.TheVariants as expr
+use Rattle.opa_tree.specs.Trees.{height, highest, mentions_below}
+use Rattle.opa_tree.proofs.TreeLaws.{fold-All, fold-Attr, height_All, height_at, mentions_at, mentions_below_All}
+use Rattle.std.proofs.lemmas.List.{map_more, take_all}
+use Rattle.opa_top.specs.Meaning.{tree_value, tree_step, answer_of}
+
+pub tree_value_All : (case : List Value) (es : List Expr) → tree_value case (expr.All es) ≡ all_of (map (tree_value case) es)
+tree_value_All case es = fold-All Value (tree_step case) es
+
+pub tree_value_Attr : (case : List Value) (attr : AttrId) → tree_value case (expr.Attr attr) ≡ answer_of case attr
+tree_value_Attr case attr = fold-Attr Value (tree_step case) attr
+
+-- what three tests of a list choose
+abbrev chosen : Bool → Bool → Bool → Value
+chosen f u c = if f then value.Bool false else if u then value.Unknown else if c then value.Uncertain else value.Bool true
+
+or_false : (b : Bool) → (b || false) ≡ b
+or_false true = refl
+or_false false = refl
+
+or_assoc : (a b c : Bool) → (a || (b || c)) ≡ ((a || b) || c)
+or_assoc true b c = refl
+or_assoc false b c = refl
+
+list_any_push : (p : Value → Bool) (xs : List Value) (v : Value) → list_any p (xs ++ v ∷ []) ≡ (list_any p xs || p v)
+list_any_push p [] v = or_false (p v)
+list_any_push p (x ∷ xs) v = ap (λ b. p x || b) (list_any_push p xs v) ∙ or_assoc (p x) (list_any p xs) (p v)
+
+two : (f u c : Bool) (v : Value) → all2_of (chosen f u c) v ≡ chosen (f || is_false v) (u || is_unknown v) (c || is_uncertain v)
+two true u c v = refl
+two false true c value.Unknown = refl
+two false true c value.Uncertain = refl
+two false true c (value.Bool true) = refl
+two false true c (value.Bool false) = refl
+two false false true value.Unknown = refl
+two false false true value.Uncertain = refl
+two false false true (value.Bool true) = refl
+two false false true (value.Bool false) = refl
+two false false false value.Unknown = refl
+two false false false value.Uncertain = refl
+two false false false (value.Bool true) = refl
+two false false false (value.Bool false) = refl
+
+-- one operand more
+pub all_of_push : (xs : List Value) (v : Value) → all2_of (all_of xs) v ≡ all_of (xs ++ v ∷ [])
+all_of_push xs v =
+    two (list_any is_false xs) (list_any is_unknown xs) (list_any is_uncertain xs) v
+    ∙ rw (list_any_push is_false xs v, list_any_push is_unknown xs v, list_any_push is_uncertain xs v) refl
+
+module _ (e : Expr) (es items : List Expr) (i : ℕ) (r : Expr) (is_all : e ≡ expr.All es) (items_is : items ≡ es) (r_is : r ≡ slice_index_or items i r) (inside : i < length items) where
+  -- an operand is lower than the whole
+  pub lower : height r < height e
+  lower = omega (arith, ap height r_is, height_at items i r inside, ap height is_all ∙ height_All es, ap (λ x. highest (map height x)) items_is)
+
+  -- it mentions what the whole mentions
+  pub mentions_operand : (n : ℕ) → mentions_below n e ≡ true → mentions_below n r ≡ true
+  mentions_operand n h = ap (mentions_below n) r_is ∙ mentions_at n items i r inside (ap (λ x. list_all (λ test. test) (map (mentions_below n) x)) items_is ∙ sym (mentions_below_All n es) ∙ sym (ap (mentions_below n) is_all) ∙ h)
+
+  -- all of the operands up to this one
+  pub operand_more : (case : List Value) (all all' v : Value) → all ≡ all_of (map (tree_value case) (take i items)) → all' ≡ all2_of all v → v ≡ tree_value case r → all' ≡ all_of (map (tree_value case) (take (i + 1) items))
+  operand_more case all all' v so_far both v_is =
+      both ∙ ap (λ a. all2_of a v) so_far ∙ all_of_push (map (tree_value case) (take i items)) v
+      ∙ ap (λ x. all_of (map (tree_value case) (take i items) ++ x ∷ [])) (v_is ∙ ap (tree_value case) r_is)
+      ∙ ap all_of (sym (map_more (tree_value case) items i r inside))
+
+-- all of the operands
+pub operands_all : (case : List Value) (e : Expr) (es items : List Expr) (i : ℕ) (all : Value) → e ≡ expr.All es → items ≡ es → length items ≤ i → all ≡ all_of (map (tree_value case) (take i items)) → all ≡ tree_value case e
+operands_all case e es items i all is_all items_is over so_far =
+    so_far ∙ ap (λ x. all_of (map (tree_value case) x)) (take_all i items over ∙ items_is) ∙ sym (tree_value_All case es) ∙ sym (ap (tree_value case) is_all)

@@ -1,0 +1,9 @@
+//! The top call: from the words of the command line and the bytes of one file and one input to the transcript.
+#![tactic(auto)]
+
+mod bytes;
+mod case;
+mod command;
+mod meaning;
+
+pub use command::Command;
