@@ -5,5 +5,7 @@ mod bytes;
 mod case;
 mod command;
 mod meaning;
+mod reply;
+mod session;
 
 pub use command::Command;
