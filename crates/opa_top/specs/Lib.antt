@@ -1,4 +1,5 @@
 pub mod Command
 pub mod First
 pub mod Meaning
+pub mod Parts
 pub mod Reply

@@ -4,6 +4,7 @@
 mod bytes;
 mod case;
 mod command;
+mod first;
 mod meaning;
 mod reply;
 mod session;

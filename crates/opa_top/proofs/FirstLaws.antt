@@ -1,0 +1,25 @@
+-- The first form of a rule file, piece by piece.
+use Rattle.std.proofs.Common.{◌<◌, ◌≤◌, ◌+◌, ◌-◌, arith, ◌≡◌, ℕ, Bool, true, false, zero, suc, List, [], ◌∷◌, ◌++◌, Option, Some, None, ap, sym, ◌∙◌, refl, append_assoc, append-nil, length, take, drop, slice_index_or}
+use Rattle.std.specs.Prelude.{if◌then◌else◌, ◌==◌}
+use Rattle.std.specs.Option.{option_map}
+use Rattle.std.proofs.lemmas.Grind.{common_steps}
+use Rattle.opa_top.specs.First.{cut_at}
+
+-- these bytes stand before what is cut
+abbrev pub before_cut : List ℕ → Option (List ℕ × List ℕ) → Option (List ℕ × List ℕ)
+before_cut front o = option_map (λ p. (front ++ p.0, p.1)) o
+
+pub cut_none : (o : Option (List ℕ × List ℕ)) → before_cut [] o ≡ o
+cut_none None = refl
+cut_none (Some p) = refl
+
+cut_push : (front : List ℕ) (b : ℕ) (o : Option (List ℕ × List ℕ)) → before_cut front (option_map (λ p. (b ∷ p.0, p.1)) o) ≡ before_cut (front ++ b ∷ []) o
+cut_push front b None = refl
+cut_push front b (Some p) = ap (λ s. Some (s, p.1)) (sym (append_assoc front (b ∷ []) p.0))
+
+-- no byte so far is the mark
+pub cut_more : (mark : ℕ) (front : List ℕ) (b : ℕ) (rest : List ℕ) → (b == mark) ≡ false → before_cut front (cut_at mark (b ∷ rest)) ≡ before_cut (front ++ b ∷ []) (cut_at mark rest)
+cut_more mark front b rest other = ap (λ t. before_cut front (if t then Some ([], rest) else option_map (λ p. (b ∷ p.0, p.1)) (cut_at mark rest))) other ∙ cut_push front b (cut_at mark rest)
+
+pub cut_here : (mark : ℕ) (front : List ℕ) (b : ℕ) (rest : List ℕ) → (b == mark) ≡ true → before_cut front (cut_at mark (b ∷ rest)) ≡ Some (front, rest)
+cut_here mark front b rest same = ap (λ t. before_cut front (if t then Some ([], rest) else option_map (λ p. (b ∷ p.0, p.1)) (cut_at mark rest))) same ∙ ap (λ s. Some (s, rest)) (append-nil front)
