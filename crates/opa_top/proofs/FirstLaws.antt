@@ -1,8 +1,13 @@
 -- The first form of a rule file, piece by piece.
-use Rattle.std.proofs.Common.{◌<◌, ◌≤◌, ◌+◌, ◌-◌, arith, ◌≡◌, ℕ, Bool, true, false, zero, suc, List, [], ◌∷◌, ◌++◌, Option, Some, None, ap, sym, ◌∙◌, refl, append_assoc, append-nil, length, take, drop, slice_index_or}
+use Rattle.std.proofs.Common.{◌<◌, ◌≤◌, ◌+◌, ◌-◌, arith, ◌≡◌, ℕ, Bool, true, false, zero, suc, List, [], ◌∷◌, ◌++◌, Option, Some, None, ap, sym, ◌∙◌, refl, append_assoc, append-nil, length, take, drop, slice_index_or, map, ◌&&◌}
 use Rattle.std.specs.Prelude.{if◌then◌else◌, ◌==◌}
 use Rattle.std.specs.Option.{option_map}
 use Rattle.std.proofs.lemmas.Grind.{common_steps}
+use Rattle.std.specs.List.{list_all}
+use Rattle.opa_tree.specs.declared.expr.Expr.{Expr}
+use Rattle.opa_tree.specs.declared.expr.Expr.TheVariants as expr
+use Rattle.opa_tree.specs.Trees.{mentions_below}
+use Rattle.opa_tree.proofs.TreeLaws.{mentions_below_All}
 use Rattle.opa_top.specs.First.{cut_at}
 
 -- these bytes stand before what is cut
@@ -23,3 +28,11 @@ cut_more mark front b rest other = ap (λ t. before_cut front (if t then Some ([
 
 pub cut_here : (mark : ℕ) (front : List ℕ) (b : ℕ) (rest : List ℕ) → (b == mark) ≡ true → before_cut front (cut_at mark (b ∷ rest)) ≡ Some (front, rest)
 cut_here mark front b rest same = ap (λ t. before_cut front (if t then Some ([], rest) else option_map (λ p. (b ∷ p.0, p.1)) (cut_at mark rest))) same ∙ ap (λ s. Some (s, rest)) (append-nil front)
+
+all_map : {X : Type 0} (f : X → Bool) (xs : List X) → list_all (λ t. t) (map f xs) ≡ list_all f xs
+all_map f [] = refl
+all_map f (x ∷ xs) = ap (λ b. f x && b) (all_map f xs)
+
+-- trees that mention the first attributes alone, joined
+pub tree_below : (n : ℕ) (es items : List Expr) → items ≡ es → list_all (mentions_below n) es ≡ true → mentions_below n (expr.All items) ≡ true
+tree_below n es items is h = ap (λ x. mentions_below n (expr.All x)) is ∙ mentions_below_All n es ∙ all_map (mentions_below n) es ∙ h

@@ -102,15 +102,19 @@ bool_parts pos line =
 abbrev pub bool_phrase : List ℕ → List ℕ → Option (List ℕ)
 bool_phrase pos line = option_and_then (λ p. if is_phrase (p.0 ++ pos ++ p.1) then Some (p.0 ++ pos ++ p.1) else None) (bool_parts pos line)
 
+-- what a line of level 1 begins with
+abbrev pub indent : List ℕ
+indent = codes "  "
+
 -- a line of level 1
 abbrev pub is_indented : List ℕ → Bool
-is_indented line = is_some (after_front (codes "  ") line)
+is_indented line = is_some (after_front indent line)
 
 -- The phrases after those of some lines: each line of level 1 declares one that the lines before it don't.
 abbrev pub declares : List (List ℕ) → List ℕ → List (List ℕ) → Option (List (List ℕ))
 declares phrases pos [] = Some phrases
 declares phrases pos (line ∷ more) =
-    option_and_then (λ phrase. if is_declared phrases phrase then None else declares (phrases ++ phrase ∷ []) pos more) (option_and_then (bool_phrase pos) (after_front (codes "  ") line))
+    option_and_then (λ phrase. if is_declared phrases phrase then None else declares (phrases ++ phrase ∷ []) pos more) (option_and_then (bool_phrase pos) (after_front indent line))
 
 -- a line `goal PHRASE`
 abbrev pub is_goal : List ℕ → Bool
@@ -126,7 +130,7 @@ goals_of phrases (line ∷ more) = option_and_then (λ goal. option_map (λ goal
 
 -- a line of level 1 without its connector: each but the last has `and`
 abbrev pub condition_text : Bool → List ℕ → Option (List ℕ)
-condition_text is_last line = option_and_then (λ text. if is_last then Some text else before_end (codes " and") text) (after_front (codes "  ") line)
+condition_text is_last line = option_and_then (λ text. if is_last then Some text else before_end (codes " and") text) (after_front indent line)
 
 -- an attribute other than the head's
 abbrev pub other_than : AttrId → AttrId → Option Expr
