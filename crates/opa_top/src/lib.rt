@@ -5,8 +5,12 @@ mod bytes;
 mod case;
 mod command;
 mod first;
+mod load;
+mod loading;
 mod meaning;
 mod reply;
 mod session;
+mod top;
 
 pub use command::Command;
+pub use top::run;

@@ -1,0 +1,14 @@
+use Rattle.opa_top.proofs.RunLaws.{Ends-wrote, Ends-lines, Ends-cause, Ends-complete}
+use Rattle.opa_top.proofs.top.run.Goals as goal
+
+pub returns-in-Some-clause-wrote : goal.returns-in-Some-clause-wrote
+returns-in-Some-clause-wrote g c = rw (← c.in-Some.ensures) (Ends-wrote _ _ _ _ _ _ _ _ c.open_and_talk.ensures.ends)
+
+pub returns-in-Some-clause-lines : goal.returns-in-Some-clause-lines
+returns-in-Some-clause-lines g c = rw (← c.in-Some.ensures) (Ends-lines _ _ _ _ _ _ _ _ c.open_and_talk.ensures.ends)
+
+pub returns-in-Some-clause-cause : goal.returns-in-Some-clause-cause
+returns-in-Some-clause-cause g c = rw (← c.in-Some.ensures) (Ends-cause _ _ _ _ _ _ _ _ c.open_and_talk.ensures.ends)
+
+pub returns-in-Some-clause-complete : goal.returns-in-Some-clause-complete
+returns-in-Some-clause-complete g c = rw (← c.in-Some.ensures) (Ends-complete _ _ _ _ _ _ _ _ c.open_and_talk.ensures.ends)
