@@ -109,9 +109,10 @@ module _ (told : Option Files) (name : List ℕ) (l l' w w' : Option (List ℕ))
 -- the transcript of whole lines, and of what follows them
 whole_front : (opened : Result Rulebase (List ℕ)) (whole rest read : List ℕ) → whole ++ rest ≡ read → EndsLine whole → (more : List ℕ) × (transcript_of opened whole ++ more ≡ transcript_of opened read)
 whole_front (Ok base) whole rest read cut ends =
-    let ls : input_lines read ≡ input_lines whole ++ lines_from (is_empty whole) rest = ap input_lines (sym cut) ∙ lines_from-append true whole rest ends in
-    (replies (replying base) (after (replying base) (nothing_held base) (input_lines whole)) (lines_from (is_empty whole) rest),
-    sym (transcript-append (replying base) (nothing_held base) (input_lines whole) (lines_from (is_empty whole) rest)) ∙ ap (transcript (replying base) (nothing_held base)) (sym ls))
+    let ls : input_lines read ≡ input_lines whole ++ lines_from (is_empty whole) rest = ap input_lines (sym cut) ∙ lines_from-append true whole rest ends in (
+      replies (replying base) (after (replying base) (nothing_held base) (input_lines whole)) (lines_from (is_empty whole) rest),
+      sym (transcript-append (replying base) (nothing_held base) (input_lines whole) (lines_from (is_empty whole) rest)) ∙ ap (transcript (replying base) (nothing_held base)) (sym ls),
+    )
 whole_front (Err text) whole rest read cut ends = ([], append-nil text)
 
 module _ (w w' : Option (List ℕ)) (opened : Result Rulebase (List ℕ)) where
@@ -121,7 +122,7 @@ module _ (w w' : Option (List ℕ)) (opened : Result Rulebase (List ℕ)) where
   limit_front : (read : List ℕ) → WholeLines opened (take 67108864 read) w w' → AppendsFront w w' (transcript_of opened read)
   limit_front read q =
       let t = whole_front opened q.0 (q.1.rest ++ drop 67108864 read) read
-          (sym (append_assoc q.0 q.1.rest (drop 67108864 read)) ∙ ap (λ s. s ++ drop 67108864 read) q.1.cut ∙ take-append-drop 67108864 read) q.1.ends in
+      (sym (append_assoc q.0 q.1.rest (drop 67108864 read)) ∙ ap (λ s. s ++ drop 67108864 read) q.1.cut ∙ take-append-drop 67108864 read) q.1.ends in
       (transcript_of opened q.0, t.0, t.1, q.2)
 
 module _ (name : List ℕ) (w w' : Option (List ℕ)) where
@@ -194,8 +195,8 @@ Ends-cause told name l l' w w' n status.Done e = (ok_told name told e.0 e.1 e.4.
 Ends-cause told name l l' w w' n status.Refused e = (err_told name told e.0 e.1 e.4.0, none_read l l' e.2 e.3 e.4.1)
 Ends-cause told name l l' w w' n status.Usage e = e.4
 Ends-cause told name l l' w w' n status.ReadFault e = elim e.4 [
-  inl h ↦ (inl h.0, (e.2, e.3, let none : length e.2 ≡ 0 = ap length h.1 in omega (arith, none))) |
-  inr h ↦ (inr h.0, (e.2, e.3, h.1))
+  | inl h ↦ (inl h.0, (e.2, e.3, let none : length e.2 ≡ 0 = ap length h.1 in omega (arith, none)))
+  | inr h ↦ (inr h.0, (e.2, e.3, h.1))
 ]
 Ends-cause told name l l' w w' n status.WriteFault e = (e.4.0, (e.2, e.3, e.4.1))
 Ends-cause told name l l' w w' n status.NoMemory e = (e.2, e.3, e.4.0)

@@ -14,3 +14,6 @@ mod top;
 
 pub use command::Command;
 pub use top::run;
+
+#[cfg(test)]
+mod tests;

@@ -2,7 +2,10 @@
 ghost use Rattle.std.specs.Prelude.{◌≡◌, IfSome, IfNone, IfErr, OnOk};
 ghost use Rattle.std.specs.Option.{option_map};
 ghost use Rattle.opa_talk.specs.Halt.{IsCause};
+ghost use Rattle.opa_talk.specs.Transcript.{CutsAnywhere};
+ghost use Rattle.opa_tree.specs.declared.rulebase.Rulebase.{Rulebase as Base};
 ghost use Rattle.opa_top.specs.Parts.{IsSoundBase};
+ghost use Rattle.opa_top.specs.Reply.{replying};
 ghost use Rattle.opa_top.specs.Run.{Ends, TalksAll, TalksPart, end_of, said, words_of, mode_of, begins_with_dash, counts, SaysUsage, Wrote, WroteLines, HasStatusCause, Completes};
 
 use crate::load::LoadError;
@@ -62,6 +65,9 @@ pub fn run<S: Source, F: Shelf, K: Sink>(
 
     // Where nothing fails, the rulebase decides.
     ensures complete { IfSome (mode_of (words_of words.now)) (λ name. Completes (F.files shelf.old) name (S.left input.old) (counts F.take_faults S.faults K.faults shelf.old shelf.new input.old input.new out.old out.new) result) }
+
+    // An input may be cut at any line feed: the replies to the rest go on from what the first part leaves.
+    ensures parts { (base : Base) → CutsAnywhere (replying base) }
 
     // The shelf's files are as they were.
     ensures files { F.files shelf.new ≡ F.files shelf.old }

@@ -41,12 +41,7 @@ fn declared_phrase(alloc: Global, pos: &[u8], line: &[u8]) -> Result<Option<Byte
 }
 
 /// Declares the phrase of a line, and answers whether the line declares one that wasn't declared.
-fn declare(
-    alloc: Global,
-    phrases: &mut Phrases,
-    pos: &[u8],
-    line: &[u8],
-) -> Result<bool, NoMemory>
+fn declare(alloc: Global, phrases: &mut Phrases, pos: &[u8], line: &[u8]) -> Result<bool, NoMemory>
     ensures declares { IfOk result (λ ok. (more : Seq (Seq ℕ)) → declares phrases.old pos.now (line.now ∷ more) ≡ (if ok then declares phrases.new pos.now more else None)) }
     ensures few { length phrases.new ≤ length phrases.old + 1 }
 {

@@ -82,11 +82,7 @@ fn kept_lines(alloc: Global, bytes: &[u8]) -> Result<Option<List<Bytes>>, NoMemo
 }
 
 /// The rulebase of these phrases, goals and rule.
-fn base_over(
-    alloc: Global,
-    phrases: Phrases,
-    lines: &[Bytes],
-) -> Result<Option<Rulebase>, NoMemory>
+fn base_over(alloc: Global, phrases: Phrases, lines: &[Bytes]) -> Result<Option<Rulebase>, NoMemory>
     requires { length phrases < 2 ^ 32 }
     ensures base { IfOk result (λ base. base ≡ base_over phrases lines.now) }
     ensures sound { IfOk result (λ base. IfSome base IsSoundBase) }

@@ -82,11 +82,7 @@ fn head_of(phrases: &Phrases, line: &[u8]) -> Option<AttrId>
 }
 
 /// The rule of a head and its conditions.
-pub fn rule_of(
-    alloc: Global,
-    phrases: &Phrases,
-    lines: &[Bytes],
-) -> Result<Option<Rule>, NoMemory>
+pub fn rule_of(alloc: Global, phrases: &Phrases, lines: &[Bytes]) -> Result<Option<Rule>, NoMemory>
     requires { length phrases.now < 2 ^ 32 }
     ensures rule { IfOk result (λ rule. rule ≡ rule_of phrases.now lines.now) }
     ensures sound { IfOk result (λ rule. IfSome rule (IsSoundRule (length phrases.now))) }

@@ -1,3 +1,5 @@
+use Rattle.opa_talk.proofs.TranscriptLaws.{cuts_anywhere}
+use Rattle.opa_top.specs.Reply.{replying}
 use Rattle.opa_top.proofs.RunLaws.{Ends-wrote, Ends-lines, Ends-cause, Ends-complete}
 use Rattle.opa_top.proofs.top.run.Goals as goal
 
@@ -12,3 +14,9 @@ returns-in-Some-clause-cause g c = rw (← c.in-Some.ensures) (Ends-cause _ _ _ 
 
 pub returns-in-Some-clause-complete : goal.returns-in-Some-clause-complete
 returns-in-Some-clause-complete g c = rw (← c.in-Some.ensures) (Ends-complete _ _ _ _ _ _ _ _ c.open_and_talk.ensures.ends)
+
+pub returns-in-Some-clause-parts : goal.returns-in-Some-clause-parts
+returns-in-Some-clause-parts g c = λ base. cuts_anywhere (replying base)
+
+pub returns-in-None-clause-parts : goal.returns-in-None-clause-parts
+returns-in-None-clause-parts g c = λ base. cuts_anywhere (replying base)
