@@ -1,0 +1,4 @@
+pub mod Gregorian
+pub mod Laws
+pub mod Moves
+pub mod Texts

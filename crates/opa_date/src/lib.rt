@@ -1,0 +1,25 @@
+//! The days from 1600-01-01 to 2399-12-31 by number: day 0 is 1600-01-01, and day 292,193 is 2399-12-31.
+#![tactic(auto)]
+
+mod civil;
+mod fault;
+mod laws;
+mod moves;
+mod texts;
+mod years;
+
+pub use civil::parts;
+pub use fault::DayFault;
+pub use laws::{
+    agrees_with_jiff, dates_have_days, days_have_dates, only_texts_are_read, texts_are_read,
+    years_are_added, years_rise,
+};
+pub use moves::{add_days, add_months, add_years};
+pub use texts::{day_text, parse_day};
+pub use years::years_between;
+
+/// How many days the calendar has.
+pub const DAYS: u32 = 292_194;
+
+#[cfg(test)]
+mod tests;

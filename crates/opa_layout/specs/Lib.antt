@@ -1,0 +1,5 @@
+pub mod Lines
+pub mod Indents
+pub mod Faults
+pub mod Blocks
+pub mod Laws

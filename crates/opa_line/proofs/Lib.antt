@@ -1,0 +1,10 @@
+pub mod ByDays
+pub mod Differing
+pub mod Growing
+pub mod LineLaws
+pub mod LastPairs
+pub mod Merging
+pub mod MoreDays
+pub mod OneLine
+pub mod Tracking
+pub mod Zipping

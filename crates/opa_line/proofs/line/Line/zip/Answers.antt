@@ -1,0 +1,24 @@
+use Rattle.std.proofs.Common.{rules, ◌∙◌, sym, ap}
+use Rattle.opa_date.specs.declared.TheConstants.{DAYS}
+use Rattle.opa_line.specs.Lines.{at}
+use Rattle.opa_line.proofs.Zipping.{joined_now, joined_next, joined_end}
+use Rattle.opa_line.proofs.line.Line.zip.Goals as goal
+
+pub f-requires : goal.f-requires
+f-requires g c =
+    let r = joined_now g.F.Fn c.args.f DAYS c.args.self.now c.args.other.now _ _ _ _ _ c.loop-day.invariant in
+    let h = c.requires c.loop-day.out.0 in
+    let lt = r.0 in
+    let a = r.1 in
+    let b = r.2 in
+    search rules
+
+pub loop-day-preserved : goal.loop-day-preserved
+loop-day-preserved g c =
+    let e = joined_next g.F.Fn c.args.f DAYS c.args.self.now c.args.other.now c.loop-day.x c.loop-day.y _ _ _ c.until.new.self c.in-Some.day c.in_ok-value.value c.loop-day.invariant (sym c.next_day.ensures ∙ c.in-Some.is) c.in_ok-value.ensures c.in_ok-until.ensures in
+    rw (c.reached_value-x.ensures, c.reached_value-y.ensures, c.reached_rest-left.ensures, c.reached_rest-right.ensures) e
+
+pub returns : goal.returns
+returns g c =
+    let e = joined_end g.F.Fn c.args.f DAYS c.args.self.now c.args.other.now c.loop-day.x c.loop-day.y _ _ _ c.until-2.new.self c.in_ok-last.last c.loop-day.invariant (sym c.next_day.ensures ∙ c.in_default.is) c.in_ok-last.ensures c.in_ok-until-2.ensures in
+    λ d lt. let v = e.1 d lt in (v.0, v.1, ap (λ l. at l d) c.finish.ensures ∙ v.2)

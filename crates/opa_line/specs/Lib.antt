@@ -1,0 +1,7 @@
+pub mod Differences
+pub mod Growth
+pub mod Laws
+pub mod Lines
+pub mod Pairs
+pub mod Pointwise
+pub mod Walks

@@ -1,0 +1,67 @@
+// Lines of a function's answers on the values of other lines.
+ghost use Rattle.std.specs.Prelude.{IfOk};
+ghost use Rattle.opa_line.specs.Pointwise.{EachDay, MayJoin, Joins, MayMap, Maps};
+
+use crate::walk::{next_day, reached_rest, reached_value};
+use crate::{Builder, Line};
+use opa_date::DAYS;
+use opa_io::{NoMemory, Same};
+use std::alloc::Global;
+
+impl<T> Line<T> {
+    /// The line whose value at each day is f's answer on the values of that day.
+    pub fn zip<U, V: Same + Drop, F: Fn(&T, &U) -> Result<V, NoMemory>>(
+        &self,
+        alloc: Global,
+        other: &Line<U>,
+        f: F,
+    ) -> Result<Line<V>, NoMemory>
+    where
+        F: Drop,
+        requires { MayJoin F.Fn f DAYS self.now other.now }
+        ensures { IfOk result (EachDay (Joins F.Fn f self.now other.now) DAYS) }
+    {
+        let xs = self.segments();
+        let ys = other.segments();
+        let mut out = Builder::new(alloc);
+        let mut x = &xs[0].1;
+        let mut y = &ys[0].1;
+        let mut left = &xs[1..];
+        let mut right = &ys[1..];
+        while let Some(day) = next_day(left, right) {
+            let value = f(x, y)?;
+            out.until(day, value)?;
+            x = reached_value(day, x, left);
+            y = reached_value(day, y, right);
+            left = reached_rest(day, left);
+            right = reached_rest(day, right);
+        }
+        let last = f(x, y)?;
+        out.until(DAYS, last)?;
+        Ok(out.finish())
+    }
+}
+
+impl<T> Line<T> {
+    /// The line whose value at each day is f's answer on the value of that day.
+    pub fn map<U: Same + Drop, F: Fn(&T) -> Result<U, NoMemory>>(
+        &self,
+        alloc: Global,
+        f: F,
+    ) -> Result<Line<U>, NoMemory>
+    where
+        F: Drop,
+        requires { MayMap F.Fn f DAYS self.now }
+        ensures { IfOk result (EachDay (Maps F.Fn f self.now) DAYS) }
+    {
+        let unit = Line::constant(alloc, ())?;
+        self.zip(
+            alloc,
+            &unit,
+            move |x: &T, _unit: &()|
+                requires { F.pre f x }
+                ensures { F.post f x.entry result }
+            { f(x) },
+        )
+    }
+}

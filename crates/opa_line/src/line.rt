@@ -1,0 +1,61 @@
+// A line: its form, its pairs and its values.
+ghost use Rattle.std.specs.Prelude.{◌≡◌, ◌<◌, ◌∷◌, [], Some, IfOk};
+ghost use Rattle.opa_line.specs.Lines.{at, IsLine, StandsFor};
+
+use opa_date::DAYS;
+use opa_io::NoMemory;
+use std::alloc::Global;
+use std::marker::Model;
+
+/// A value at each day of the calendar.
+#[derive(Debug, Drop)]
+pub struct Line<T> {
+    pub(crate) pairs: Vec<(u32, T)>,
+}
+
+impl<T> Model for Line<T> {
+    ghost use Rattle.std.specs.Prelude.{List, ℕ};
+    ghost use Rattle.std.specs.Coded.{coded_list, coded×, coded_ℕ};
+    ghost use Rattle.opa_date.specs.declared.TheConstants.{DAYS};
+    ghost use Rattle.opa_line.specs.Lines.{IsLine};
+
+    ghost Value = { List (ℕ × T) };
+
+    ghost coded = { coded_list (coded× coded_ℕ T.code) };
+
+    ghost view = { λ l. l.pairs.items };
+
+    ghost invariant = { λ l. IsLine DAYS l.pairs.items };
+}
+
+impl<T> Line<T> {
+    /// The same value at every day.
+    pub fn constant(alloc: Global, value: T) -> Result<Line<T>, NoMemory>
+    where
+        T: Drop,
+        ensures pair { IfOk result (λ l. l ≡ (0, value) ∷ []) }
+        ensures everywhere { IfOk result (StandsFor DAYS (λ _. value)) }
+    {
+        let mut pairs = Vec::new(alloc);
+        pairs.push((0, value))?;
+        Ok(Line { pairs })
+    }
+
+    /// The pairs.
+    pub fn segments(&self) -> &[(u32, T)]
+        ensures value { result.now ≡ self.now }
+        ensures form { IsLine DAYS self.now }
+    {
+        self.pairs.as_slice()
+    }
+
+    /// The value at a day.
+    pub fn at(&self, day: u32) -> &T
+        requires { day < DAYS }
+        ensures { at self.now day ≡ Some result.now }
+    {
+        let pairs = self.segments();
+        let reached = pairs.partition_point(|pair| pair.0 <= day);
+        &pairs[reached - 1].1
+    }
+}
