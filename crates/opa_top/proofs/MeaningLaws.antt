@@ -3,7 +3,8 @@ use Rattle.std.proofs.Common.{◌+◌, ◌<◌, ◌≤◌, length, slice_index_o
 use Rattle.std.specs.List.{list_any, list_all}
 use Rattle.opa_value.specs.declared.value.Value.{Value}
 use Rattle.opa_value.specs.declared.value.Value.TheVariants as value
-use Rattle.opa_value.specs.Truth.{all_of, all2_of, is_false, is_unknown, is_uncertain}
+use Rattle.opa_value.specs.Truth.{all_of, all2_of}
+use Rattle.opa_value.proofs.TruthLaws.{all_of_push}
 use Rattle.opa_tree.specs.declared.model.AttrId.{AttrId}
 use Rattle.opa_tree.specs.declared.expr.Expr.{Expr}
 use Rattle.opa_tree.specs.declared.expr.Expr.TheVariants as expr
@@ -17,43 +18,6 @@ tree_value_All case es = fold-All Value (tree_step case) es
 
 pub tree_value_Attr : (case : List Value) (attr : AttrId) → tree_value case (expr.Attr attr) ≡ answer_of case attr
 tree_value_Attr case attr = fold-Attr Value (tree_step case) attr
-
--- what three tests of a list choose
-abbrev chosen : Bool → Bool → Bool → Value
-chosen f u c = if f then value.Bool false else if u then value.Unknown else if c then value.Uncertain else value.Bool true
-
-or_false : (b : Bool) → (b || false) ≡ b
-or_false true = refl
-or_false false = refl
-
-or_assoc : (a b c : Bool) → (a || (b || c)) ≡ ((a || b) || c)
-or_assoc true b c = refl
-or_assoc false b c = refl
-
-list_any_push : (p : Value → Bool) (xs : List Value) (v : Value) → list_any p (xs ++ v ∷ []) ≡ (list_any p xs || p v)
-list_any_push p [] v = or_false (p v)
-list_any_push p (x ∷ xs) v = ap (λ b. p x || b) (list_any_push p xs v) ∙ or_assoc (p x) (list_any p xs) (p v)
-
-two : (f u c : Bool) (v : Value) → all2_of (chosen f u c) v ≡ chosen (f || is_false v) (u || is_unknown v) (c || is_uncertain v)
-two true u c v = refl
-two false true c value.Unknown = refl
-two false true c value.Uncertain = refl
-two false true c (value.Bool true) = refl
-two false true c (value.Bool false) = refl
-two false false true value.Unknown = refl
-two false false true value.Uncertain = refl
-two false false true (value.Bool true) = refl
-two false false true (value.Bool false) = refl
-two false false false value.Unknown = refl
-two false false false value.Uncertain = refl
-two false false false (value.Bool true) = refl
-two false false false (value.Bool false) = refl
-
--- one operand more
-pub all_of_push : (xs : List Value) (v : Value) → all2_of (all_of xs) v ≡ all_of (xs ++ v ∷ [])
-all_of_push xs v =
-    two (list_any is_false xs) (list_any is_unknown xs) (list_any is_uncertain xs) v
-    ∙ rw (list_any_push is_false xs v, list_any_push is_unknown xs v, list_any_push is_uncertain xs v) refl
 
 module _ (e : Expr) (es items : List Expr) (i : ℕ) (r : Expr) (is_all : e ≡ expr.All es) (items_is : items ≡ es) (r_is : r ≡ slice_index_or items i r) (inside : i < length items) where
   -- an operand is lower than the whole

@@ -11,12 +11,13 @@ use Rattle.opa_top.specs.Meaning.{mean}
 use Rattle.opa_talk.specs.Lines.{input_lines}
 use Rattle.opa_talk.specs.Transcript.{Rule, transcript}
 
--- how a value is printed
+-- how a truth value is printed; the first form has no others
 abbrev pub value_text : Value → List ℕ
 value_text value.Unknown = codes "unknown"
 value_text value.Uncertain = codes "uncertain"
 value_text (value.Bool true) = codes "true"
 value_text (value.Bool false) = codes "false"
+value_text _ = []
 
 -- `PHRASE: VALUE`
 abbrev pub shown : Rulebase → List Value → AttrId → List ℕ

@@ -11,7 +11,7 @@ use opa_tree::{AttrId, Rulebase};
 use opa_value::Value;
 use std::alloc::Global;
 
-/// How a value is printed.
+/// How a truth value is printed; the first form has no others.
 fn value_text(value: &Value) -> &'static str
     ensures { result.now ≡ value_text value.now }
 {
@@ -20,6 +20,7 @@ fn value_text(value: &Value) -> &'static str
         Value::Uncertain => "uncertain",
         Value::Bool(true) => "true",
         Value::Bool(false) => "false",
+        _ => "",
     }
 }
 
@@ -31,7 +32,7 @@ fn shown(alloc: Global, base: &Rulebase, case: &Case, attr: AttrId) -> Result<Ve
     ensures { IfOk result (λ text. text.items ≡ shown base.now case.now attr) }
 {
     let phrase = base.model.phrases.get(attr.0 as usize);
-    let value = mean(base, case, attr)?;
+    let value = mean(alloc, base, case, attr)?;
     let mut text = phrase.to_vec(alloc)?;
     text.extend_from_slice(b": ")?;
     text.extend_from_slice(value_text(&value).as_bytes())?;
