@@ -4,10 +4,10 @@ use Rattle.std.specs.Prelude.{if◌then◌else◌, ◌==◌}
 use Rattle.std.specs.Option.{option_map}
 use Rattle.std.proofs.lemmas.Grind.{common_steps}
 use Rattle.std.specs.List.{list_all}
-use Rattle.opa_tree.specs.declared.expr.Expr.{Expr}
-use Rattle.opa_tree.specs.declared.expr.Expr.TheVariants as expr
-use Rattle.opa_tree.specs.Trees.{mentions_below}
-use Rattle.opa_tree.proofs.TreeLaws.{mentions_below_All}
+use Rattle.opa_top.specs.declared.first.expr.Expr.{Expr}
+use Rattle.opa_top.specs.declared.first.expr.Expr.TheVariants as expr
+use Rattle.opa_top.specs.Trees.{mentions_below}
+use Rattle.opa_top.proofs.TreeLaws.{mentions_below_All}
 use Rattle.opa_top.specs.First.{cut_at}
 
 -- these bytes stand before what is cut

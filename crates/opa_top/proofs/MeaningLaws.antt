@@ -5,11 +5,11 @@ use Rattle.opa_value.specs.declared.value.Value.{Value}
 use Rattle.opa_value.specs.declared.value.Value.TheVariants as value
 use Rattle.opa_value.specs.Truth.{all_of, all2_of}
 use Rattle.opa_value.proofs.TruthLaws.{all_of_push}
-use Rattle.opa_tree.specs.declared.model.AttrId.{AttrId}
-use Rattle.opa_tree.specs.declared.expr.Expr.{Expr}
-use Rattle.opa_tree.specs.declared.expr.Expr.TheVariants as expr
-use Rattle.opa_tree.specs.Trees.{height, highest, mentions_below}
-use Rattle.opa_tree.proofs.TreeLaws.{fold-All, fold-Attr, height_All, height_at, mentions_at, mentions_below_All}
+use Rattle.opa_top.specs.declared.first.model.AttrId.{AttrId}
+use Rattle.opa_top.specs.declared.first.expr.Expr.{Expr}
+use Rattle.opa_top.specs.declared.first.expr.Expr.TheVariants as expr
+use Rattle.opa_top.specs.Trees.{height, highest, mentions_below}
+use Rattle.opa_top.proofs.TreeLaws.{fold-All, fold-Attr, height_All, height_at, mentions_at, mentions_below_All}
 use Rattle.std.proofs.lemmas.List.{map_more, take_all}
 use Rattle.opa_top.specs.Meaning.{tree_value, tree_step, answer_of}
 

@@ -10,7 +10,7 @@ use Rattle.opa_io.proofs.Appended.{Appends-none, Consumes-none}
 use Rattle.opa_io.specs.declared.fault.Status.{Status}
 use Rattle.opa_io.specs.declared.fault.Status.TheVariants as status
 use Rattle.opa_value.specs.declared.value.Value.{Value}
-use Rattle.opa_tree.specs.declared.rulebase.Rulebase.{Rulebase}
+use Rattle.opa_top.specs.declared.first.rulebase.Rulebase.{Rulebase}
 use Rattle.opa_talk.specs.declared.halt.Halt.{Halt}
 use Rattle.opa_talk.specs.declared.halt.Halt.TheVariants as halt
 use Rattle.opa_talk.specs.Halt.{IsCause}

@@ -2,7 +2,7 @@
 use Rattle.std.specs.Prelude.{ℕ, ◌<◌, ◌-◌, Bool, true, false, List, [], ◌∷◌, take, drop, length, position, codes, Option, Some, None, ◌==◌, ◌||◌, if◌then◌else◌}
 use Rattle.std.specs.Option.{option_map, option_and_then}
 use Rattle.std.specs.Str.{bytes_eq}
-use Rattle.opa_tree.specs.declared.model.AttrId.{AttrId}
+use Rattle.opa_top.specs.declared.first.model.AttrId.{AttrId}
 use Rattle.opa_top.specs.declared.command.Command.{Command}
 use Rattle.opa_top.specs.declared.command.Command.TheVariants as command
 

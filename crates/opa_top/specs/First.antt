@@ -3,12 +3,12 @@ use Rattle.std.specs.Prelude.{ℕ, ◌++◌, Bool, true, false, List, [], ◌∷
 use Rattle.std.specs.Option.{option_map, option_and_then, option_map_or}
 use Rattle.std.specs.Str.{bytes_eq}
 use Rattle.std.specs.List.{list_all, list_any, prefix_len}
-use Rattle.opa_tree.specs.declared.model.AttrId.{AttrId}
-use Rattle.opa_tree.specs.declared.expr.Expr.{Expr}
-use Rattle.opa_tree.specs.declared.expr.Expr.TheVariants as expr
-use Rattle.opa_tree.specs.declared.rulebase.Rule.{Rule}
-use Rattle.opa_tree.specs.declared.rulebase.Rulebase.{Rulebase}
-use Rattle.opa_tree.specs.Phrases.{is_declared}
+use Rattle.opa_top.specs.declared.first.model.AttrId.{AttrId}
+use Rattle.opa_top.specs.declared.first.expr.Expr.{Expr}
+use Rattle.opa_top.specs.declared.first.expr.Expr.TheVariants as expr
+use Rattle.opa_top.specs.declared.first.rulebase.Rule.{Rule}
+use Rattle.opa_top.specs.declared.first.rulebase.Rulebase.{Rulebase}
+use Rattle.opa_top.specs.Phrases.{is_declared}
 use Rattle.opa_talk.specs.Lines.{input_lines}
 use Rattle.opa_top.specs.Command.{is_idle, after_front, before_end, attribute_of}
 

@@ -3,5 +3,8 @@ pub mod First
 pub mod Meaning
 pub mod Opening
 pub mod Parts
+pub mod Phrases
 pub mod Reply
 pub mod Run
+pub mod Sets
+pub mod Trees

@@ -3,11 +3,11 @@ use Rattle.std.specs.Prelude.{ℕ, List, slice_index_or, ◌==◌, if◌then◌e
 use Rattle.opa_value.specs.declared.value.Value.{Value}
 use Rattle.opa_value.specs.declared.value.Value.TheVariants.{Unknown}
 use Rattle.opa_value.specs.Truth.{all_of}
-use Rattle.opa_tree.specs.declared.expr.Expr.{Expr}
-use Rattle.opa_tree.specs.declared.expr.Expr.TheOpen.{Expr-F}
-use Rattle.opa_tree.specs.declared.expr.Expr.TheFolds.{fold-Expr}
-use Rattle.opa_tree.specs.declared.model.AttrId.{AttrId}
-use Rattle.opa_tree.specs.declared.rulebase.Rulebase.{Rulebase}
+use Rattle.opa_top.specs.declared.first.expr.Expr.{Expr}
+use Rattle.opa_top.specs.declared.first.expr.Expr.TheOpen.{Expr-F}
+use Rattle.opa_top.specs.declared.first.expr.Expr.TheFolds.{fold-Expr}
+use Rattle.opa_top.specs.declared.first.model.AttrId.{AttrId}
+use Rattle.opa_top.specs.declared.first.rulebase.Rulebase.{Rulebase}
 
 -- what is held of an attribute: its answer, or unknown
 abbrev pub answer_of : List Value → AttrId → Value

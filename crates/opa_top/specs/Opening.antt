@@ -2,7 +2,7 @@
 use Rattle.std.specs.Prelude.{ℕ, ◌≡◌, List, [], ◌∷◌, ◌++◌, map, length, codes, nat_lt, ◌||◌, ◌==◌, Option, Some, None, Result, Ok, Err, if◌then◌else◌}
 use Rattle.std.specs.FinMap as map_of
 use Rattle.opa_io.specs.Outside.{Files, Rose}
-use Rattle.opa_tree.specs.declared.rulebase.Rulebase.{Rulebase}
+use Rattle.opa_top.specs.declared.first.rulebase.Rulebase.{Rulebase}
 use Rattle.opa_top.specs.declared.load.LoadError.{LoadError}
 use Rattle.opa_top.specs.declared.load.LoadError.TheVariants as load
 use Rattle.opa_top.specs.First.{base_of}

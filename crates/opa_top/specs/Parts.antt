@@ -2,11 +2,11 @@
 use Rattle.std.specs.Prelude.{ℕ, ◌≡◌, ◌<◌, ◌^◌, ◌++◌, Bool, true, List, length, nat_lt, Option}
 use Rattle.std.specs.Option.{option_map}
 use Rattle.std.specs.List.{list_all}
-use Rattle.opa_tree.specs.declared.model.AttrId.{AttrId}
-use Rattle.opa_tree.specs.declared.expr.Expr.{Expr}
-use Rattle.opa_tree.specs.declared.rulebase.Rule.{Rule}
-use Rattle.opa_tree.specs.declared.rulebase.Rulebase.{Rulebase}
-use Rattle.opa_tree.specs.Trees.{mentions_below, is_sound}
+use Rattle.opa_top.specs.declared.first.model.AttrId.{AttrId}
+use Rattle.opa_top.specs.declared.first.expr.Expr.{Expr}
+use Rattle.opa_top.specs.declared.first.rulebase.Rule.{Rule}
+use Rattle.opa_top.specs.declared.first.rulebase.Rulebase.{Rulebase}
+use Rattle.opa_top.specs.Trees.{mentions_below, is_sound}
 
 -- the items of a list, and then those
 abbrev pub grown : {X : Type 0} → List X → Option (List X) → Option (List X)

@@ -2,8 +2,8 @@
 use Rattle.std.specs.Prelude.{length, replicate, ℕ, Bool, true, false, List, [], ◌∷◌, ◌++◌, codes, Option, Some, None, slice_index_or, slice_set, ◌==◌, if◌then◌else◌}
 use Rattle.opa_value.specs.declared.value.Value.{Value}
 use Rattle.opa_value.specs.declared.value.Value.TheVariants as value
-use Rattle.opa_tree.specs.declared.model.AttrId.{AttrId}
-use Rattle.opa_tree.specs.declared.rulebase.Rulebase.{Rulebase}
+use Rattle.opa_top.specs.declared.first.model.AttrId.{AttrId}
+use Rattle.opa_top.specs.declared.first.rulebase.Rulebase.{Rulebase}
 use Rattle.opa_top.specs.declared.command.Command.{Command}
 use Rattle.opa_top.specs.declared.command.Command.TheVariants as command
 use Rattle.opa_top.specs.Command.{command_of}

@@ -3,7 +3,7 @@ ghost use Rattle.std.specs.Prelude.{◌≡◌, ◌<◌, length, slice_set, slice
 ghost use Rattle.opa_value.specs.declared.value.Value.TheVariants as value;
 
 use opa_io::NoMemory;
-use opa_tree::AttrId;
+use crate::first::AttrId;
 use opa_value::Value;
 use std::alloc::Global;
 use std::marker::Model;

@@ -3,7 +3,7 @@ ghost use Rattle.std.specs.Prelude.{◌≡◌, ◌<◌, length, ◌^◌, IfSome}
 ghost use Rattle.std.specs.Option.{option_map};
 ghost use Rattle.opa_top.specs.Command.{without_indent, is_idle, after_front, before_end, attribute_of, IsDeclared, show_of, answer_of, command_of};
 
-use opa_tree::{AttrId, Phrases};
+use crate::first::{AttrId, Phrases};
 
 /// What a line asks for.
 #[derive(Clone, Copy, Debug, PartialEq, Eq)]

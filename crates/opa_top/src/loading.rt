@@ -7,7 +7,7 @@ use crate::bytes::Bytes;
 use crate::first::read_base;
 use crate::load::LoadError;
 use opa_io::{NoMemory, Shelf, TakeFault};
-use opa_tree::Rulebase;
+use crate::first::Rulebase;
 use std::alloc::Global;
 
 /// How many bytes a rule file may have.

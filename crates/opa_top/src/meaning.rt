@@ -1,11 +1,11 @@
 // The value of a tree and of an attribute, determined anew.
 ghost use Rattle.std.specs.Prelude.{◌≡◌, ◌<◌, length, IsTrue, IfOk};
-ghost use Rattle.opa_tree.specs.Trees.{mentions_below, is_sound};
+ghost use Rattle.opa_top.specs.Trees.{mentions_below, is_sound};
 ghost use Rattle.opa_top.specs.Meaning.{tree_value, mean};
 
 use crate::case::Case;
 use opa_io::NoMemory;
-use opa_tree::{AttrId, Expr, Rulebase};
+use crate::first::{AttrId, Expr, Rulebase};
 use opa_value::Value;
 use std::alloc::Global;
 

@@ -1,13 +1,13 @@
 // The reply to a line: what it prints, and what is held after it.
 ghost use Rattle.std.specs.Prelude.{◌≡◌, ◌<◌, ◌^◌, length, IsTrue, IfOk, OnOk, OnErr};
-ghost use Rattle.opa_tree.specs.Trees.{is_sound};
+ghost use Rattle.opa_top.specs.Trees.{is_sound};
 ghost use Rattle.opa_top.specs.Reply.{value_text, shown, printed, reply, next};
 
 use crate::case::Case;
 use crate::command::{Command, read_command};
 use crate::meaning::mean;
 use opa_io::NoMemory;
-use opa_tree::{AttrId, Rulebase};
+use crate::first::{AttrId, Rulebase};
 use opa_value::Value;
 use std::alloc::Global;
 

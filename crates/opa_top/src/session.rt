@@ -2,15 +2,15 @@
 ghost use Rattle.std.specs.Prelude.{◌≡◌, ◌<◌, ◌^◌, List, length, IsTrue, IfOk, replicate};
 ghost use Rattle.opa_value.specs.declared.value.Value.{Value as Answer};
 ghost use Rattle.opa_value.specs.declared.value.Value.TheVariants as value;
-ghost use Rattle.opa_tree.specs.declared.rulebase.Rulebase.{Rulebase as Base};
-ghost use Rattle.opa_tree.specs.Trees.{is_sound};
+ghost use Rattle.opa_top.specs.declared.first.rulebase.Rulebase.{Rulebase as Base};
+ghost use Rattle.opa_top.specs.Trees.{is_sound};
 ghost use Rattle.opa_top.specs.Reply.{session_rule};
 
 use crate::case::Case;
 use crate::reply::reply;
 use opa_io::NoMemory;
 use opa_talk::{Halt, Prompt, Replier};
-use opa_tree::Rulebase;
+use crate::first::Rulebase;
 use std::alloc::Global;
 
 /// A rulebase, and what is held of its attributes.

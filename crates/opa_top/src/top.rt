@@ -3,7 +3,7 @@ ghost use Rattle.std.specs.Prelude.{◌≡◌, IfSome, IfNone, IfErr, OnOk};
 ghost use Rattle.std.specs.Option.{option_map};
 ghost use Rattle.opa_talk.specs.Halt.{IsCause};
 ghost use Rattle.opa_talk.specs.Transcript.{CutsAnywhere};
-ghost use Rattle.opa_tree.specs.declared.rulebase.Rulebase.{Rulebase as Base};
+ghost use Rattle.opa_top.specs.declared.first.rulebase.Rulebase.{Rulebase as Base};
 ghost use Rattle.opa_top.specs.Parts.{IsSoundBase};
 ghost use Rattle.opa_top.specs.Reply.{replying};
 ghost use Rattle.opa_top.specs.Run.{Ends, TalksAll, TalksPart, end_of, said, words_of, mode_of, begins_with_dash, counts, SaysUsage, Wrote, WroteLines, HasStatusCause, Completes};
@@ -13,7 +13,7 @@ use crate::loading::load_rulebase;
 use crate::session::Session;
 use opa_io::{Failed, Shelf, Sink, Source, Status, write_all_of};
 use opa_talk::{Halt, converse};
-use opa_tree::Rulebase;
+use crate::first::Rulebase;
 use std::alloc::Global;
 
 const USAGE: &[u8] = b"usage: opa MODE NAME [NAME]\n";

@@ -10,7 +10,7 @@ use crate::bytes::Bytes;
 use crate::command::{after_front, attribute_of};
 use crate::first::phrase::{bool_parts, is_goal, is_indented, is_phrase};
 use opa_io::{List, NoMemory};
-use opa_tree::{AttrId, Phrases};
+use crate::first::{AttrId, Phrases};
 use std::alloc::Global;
 
 /// The phrase of a line `bool SUBJECT [POS] REST`.

@@ -2,7 +2,7 @@
 ghost use Rattle.std.specs.Prelude.{◌≡◌, ◌<◌, ◌≤◌, ◌+◌, ◌∷◌, ◌^◌, ℕ, List as Seq, length, IfOk, IfSome, IsTrue, None, if◌then◌else◌};
 ghost use Rattle.std.specs.List.{list_all};
 ghost use Rattle.std.specs.Str.Lines.{lines};
-ghost use Rattle.opa_tree.specs.Trees.{is_sound};
+ghost use Rattle.opa_top.specs.Trees.{is_sound};
 ghost use Rattle.opa_top.specs.First.{is_plain, without_spaces, is_kept, kept_of, base_over, base_below, base_of_lines, base_of};
 ghost use Rattle.opa_top.specs.Parts.{grown, IsSoundBase};
 
@@ -13,7 +13,7 @@ use crate::first::phrase::verb_of;
 use crate::first::rule::rule_of;
 use opa_io::{List, NoMemory};
 use opa_talk::{cut, without_mark, without_return};
-use opa_tree::{Model, Phrases, Rulebase};
+use crate::first::{Model, Phrases, Rulebase};
 use std::alloc::Global;
 
 fn is_plain(line: &[u8]) -> bool

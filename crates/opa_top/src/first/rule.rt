@@ -1,14 +1,14 @@
 // The rule of a rule file.
 ghost use Rattle.std.specs.Prelude.{◌≡◌, ◌<◌, ◌^◌, ℕ, length, IfOk, IfSome, IsTrue};
 ghost use Rattle.std.specs.Option.{option_map};
-ghost use Rattle.opa_tree.specs.Trees.{mentions_below};
+ghost use Rattle.opa_top.specs.Trees.{mentions_below};
 ghost use Rattle.opa_top.specs.First.{is_none_left, condition_text, condition_of, conditions_of, tree_of, head_of, rule_of};
 ghost use Rattle.opa_top.specs.Parts.{all_mention_below, IsSoundRule};
 
 use crate::bytes::Bytes;
 use crate::command::{after_front, attribute_of, before_end};
 use opa_io::{List, NoMemory};
-use opa_tree::{AttrId, Expr, Phrases, Rule};
+use crate::first::{AttrId, Expr, Phrases, Rule};
 use std::alloc::Global;
 
 /// A line of level 1 without its connector.

@@ -1,5 +1,5 @@
 use Rattle.std.proofs.Common.{◌<◌, arith}
-use Rattle.opa_tree.specs.Trees.{height}
+use Rattle.opa_top.specs.Trees.{height}
 use Rattle.opa_top.proofs.MeaningLaws.{lower, mentions_operand, operand_more, operands_all}
 use Rattle.opa_top.proofs.meaning.+value_of.Goals as goal
 

@@ -1,7 +1,7 @@
 use Rattle.std.proofs.Common.{ap₂, ◌≡◌, List}
 use Rattle.std.proofs.lemmas.Result.{err_from_is_err_and}
 use Rattle.opa_value.specs.declared.value.Value.{Value}
-use Rattle.opa_tree.specs.declared.rulebase.Rulebase.{Rulebase}
+use Rattle.opa_top.specs.declared.first.rulebase.Rulebase.{Rulebase}
 use Rattle.opa_talk.proofs.EndLaws.{halts_memory}
 use Rattle.opa_top.specs.Reply.{nothing_held, session_rule}
 use Rattle.opa_top.proofs.RunLaws.{talks_all, talks_part}

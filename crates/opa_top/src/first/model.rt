@@ -1,5 +1,5 @@
 // What a rule file declares.
-use crate::Phrases;
+use crate::first::Phrases;
 use opa_io::List;
 
 /// An attribute, by its place in declared order.

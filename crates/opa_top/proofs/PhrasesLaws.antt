@@ -1,7 +1,7 @@
 -- The first place of a text among texts.
 use Rattle.std.proofs.Common.{◌≡◌, ◌↔◌, ◌+◌, ◌<◌, ℕ, suc, Bool, true, false, not, cond, nat_lt, List, [], ◌∷◌, ◌++◌, map, length, position, Option, Some, None, IfSome, IsNone, ◌||◌, slice_get, Contains, refl, sym, ap, ap₂, ◌∙◌, rules, arith}
 use Rattle.std.specs.Prelude.{if◌then◌else◌}
-use Rattle.opa_tree.specs.Phrases.{is_declared, Declares}
+use Rattle.opa_top.specs.Phrases.{is_declared, Declares}
 use Rattle.std.proofs.lemmas.List.{length-map, map-append}
 use Rattle.std.proofs.lemmas.Bool.{ltb-false}
 use Rattle.std.specs.Str.{bytes_eq}

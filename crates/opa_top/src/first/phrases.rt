@@ -1,7 +1,7 @@
 // Declared phrases, found by their bytes.
 ghost use Rattle.std.specs.Prelude.{◌≡◌, ◌<◌, ◌^◌, [], length, position, slice_index_or, IfOk, OnErr};
 ghost use Rattle.std.specs.Str.{bytes_eq};
-ghost use Rattle.opa_tree.specs.Phrases.{Declares};
+ghost use Rattle.opa_top.specs.Phrases.{Declares};
 
 use indexmap::IndexSet;
 use opa_io::NoMemory;
@@ -16,7 +16,7 @@ pub struct Phrases {
 
 impl Model for Phrases {
     ghost use Rattle.std.specs.Prelude.{ℕ, List};
-    ghost use Rattle.opa_tree.specs.Sets.{phrases_of};
+    ghost use Rattle.opa_top.specs.Sets.{phrases_of};
 
     ghost Value = { List (List ℕ) };
 
