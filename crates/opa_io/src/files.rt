@@ -19,7 +19,10 @@ pub struct FileShelf<'a, R: Files> {
 }
 
 impl<'a, R: Files> FileShelf<'a, R> {
-    pub fn new(rt: &'a R) -> FileShelf<'a, R> {
+    pub fn new(rt: &'a R) -> FileShelf<'a, R>
+        ensures take_faults { ⟦<FileShelf<'a, R> as Shelf>⟧.take_faults result ≡ 0 }
+        ensures keep_faults { ⟦<FileShelf<'a, R> as Shelf>⟧.keep_faults result ≡ 0 }
+    {
         FileShelf {
             rt,
             take_faults: 0,

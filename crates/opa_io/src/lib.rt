@@ -22,3 +22,6 @@ pub use same::Same;
 pub use shelf::MemShelf;
 pub use standard::{StdSink, StdSource};
 pub use text::Txt;
+
+#[cfg(test)]
+mod tests;

@@ -12,3 +12,6 @@ pub use halt::Halt;
 pub use line::{without_mark, without_return};
 pub use replier::{Prompt, Replier};
 pub use talk::cut;
+
+#[cfg(test)]
+mod tests;

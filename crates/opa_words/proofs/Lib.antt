@@ -1,0 +1,10 @@
+pub mod Letters
+pub mod Scans
+pub mod Longest
+pub mod InsideLaws
+pub mod CutLaws
+pub mod OneCut
+pub mod PlaceLaws
+pub mod ResultLaws
+pub mod PhraseLaws
+pub mod QuoteLaws

@@ -1,0 +1,162 @@
+-- Quotes written twice.
+use Rattle.std.proofs.Common.{◌≡◌, ◌≢◌, ◌<◌, ℕ, suc, List, [], ◌∷◌, ◌++◌, length, get_or, Bool, true, false, cond, refl, sym, ap, subst, ◌∙◌, arith, append_assoc, append-nil, length-append, take}
+use Rattle.std.proofs.Math.Seq.{take-append_seam}
+use Rattle.std.specs.Prelude.{◌||◌, ◌==◌}
+use Rattle.std.specs.List.{list_any}
+use Rattle.std.specs.Str.{chars, IsUtf8}
+use lib.Utf8.{encode, encodes}
+use Rattle.std.proofs.lemmas.Str.{encodes-chars, encodes-append, inside_one}
+use Rattle.opa_words.specs.Kinds.{doubled, quoted, IsText}
+use Rattle.opa_words.specs.Quotes.{HasNoQuote, SplitsAtQuote, BeginsWithQuote, IsDoubled, QuotedTellsApart}
+
+not_quote : (b : ℕ) → b ≢ 34 → (b == 34) ≡ false
+not_quote b h = grind (arith, h)
+
+quote_is : (b : ℕ) → (b == 34) ≡ true → b ≡ 34
+quote_is b h = grind (arith, h)
+
+pub no_quote : (bs : List ℕ) → ((i : ℕ) → i < length bs → get_or bs i 0 ≢ 34) → HasNoQuote bs
+no_quote [] h = refl
+no_quote (b ∷ bs) h = ap (λ t. t || list_any (λ x. x == 34) bs) (not_quote b (h 0 (omega arith))) ∙ no_quote bs (λ i l. h (suc i) (omega (arith, l)))
+
+or_left : (a b : Bool) → (a || b) ≡ false → a ≡ false
+or_left true b h = absurd (cc h)
+or_left false b h = refl
+
+or_right : (a b : Bool) → (a || b) ≡ false → b ≡ false
+or_right true b h = absurd (cc h)
+or_right false b h = h
+
+doubled-append : (bs cs : List ℕ) → doubled (bs ++ cs) ≡ doubled bs ++ doubled cs
+doubled-append [] cs = refl
+doubled-append (b ∷ bs) cs = go (b == 34) (doubled-append bs cs)
+  where
+    go : (t : Bool) → doubled (bs ++ cs) ≡ doubled bs ++ doubled cs → cond t (34 ∷ 34 ∷ doubled (bs ++ cs)) (b ∷ doubled (bs ++ cs)) ≡ cond t (34 ∷ 34 ∷ doubled bs) (b ∷ doubled bs) ++ doubled cs
+    go true h = ap (λ x. 34 ∷ 34 ∷ x) h
+    go false h = ap (λ x. b ∷ x) h
+
+doubled_plain : (bs : List ℕ) → HasNoQuote bs → doubled bs ≡ bs
+doubled_plain [] h = refl
+doubled_plain (b ∷ bs) h =
+    ap (λ t. cond t (34 ∷ 34 ∷ doubled bs) (b ∷ doubled bs)) (or_left (b == 34) (list_any (λ x. x == 34) bs) h) ∙ ap (λ x. b ∷ x) (doubled_plain bs (or_right (b == 34) (list_any (λ x. x == 34) bs) h))
+
+doubled_split : (bs front later : List ℕ) → SplitsAtQuote bs front later → doubled bs ≡ front ++ 34 ∷ 34 ∷ doubled later
+doubled_split bs front later h = ap doubled h.0 ∙ doubled-append front (34 ∷ later) ∙ ap (λ x. x ++ 34 ∷ 34 ∷ doubled later) (doubled_plain front h.1)
+
+-- ---- writing
+
+pub quote_goes : (out rest front later all mid out2 : List ℕ) → out ++ (doubled rest ++ 34 ∷ []) ≡ all → SplitsAtQuote rest front later → mid ≡ out ++ front → out2 ≡ mid ++ 34 ∷ 34 ∷ [] → out2 ++ (doubled later ++ 34 ∷ []) ≡ all
+quote_goes out rest front later all mid out2 h s m n =
+    ap (λ x. x ++ (doubled later ++ 34 ∷ [])) (n ∙ ap (λ x. x ++ 34 ∷ 34 ∷ []) m)
+    ∙ append_assoc (out ++ front) (34 ∷ 34 ∷ []) (doubled later ++ 34 ∷ [])
+    ∙ append_assoc out front (34 ∷ 34 ∷ (doubled later ++ 34 ∷ []))
+    ∙ ap (λ x. out ++ x) (sym (append_assoc front (34 ∷ 34 ∷ doubled later) (34 ∷ [])) ∙ ap (λ x. x ++ 34 ∷ []) (sym (doubled_split rest front later s)))
+    ∙ h
+
+pub quote_ends : (out rest all mid out2 : List ℕ) → out ++ (doubled rest ++ 34 ∷ []) ≡ all → HasNoQuote rest → mid ≡ out ++ rest → out2 ≡ mid ++ 34 ∷ [] → out2 ≡ all
+quote_ends out rest all mid out2 h s m n = n ∙ ap (λ x. x ++ 34 ∷ []) m ∙ append_assoc out rest (34 ∷ []) ∙ ap (λ x. out ++ (x ++ 34 ∷ [])) (sym (doubled_plain rest s)) ∙ h
+
+-- ---- reading
+
+pub record Second (later : List ℕ) : Type 0 where
+  pub more : List ℕ
+  pub is : later ≡ 34 ∷ more
+  pub doubled : IsDoubled more
+
+second_of : (inner front later : List ℕ) → HasNoQuote front → doubled inner ≡ front ++ 34 ∷ later → Second later
+second_of [] [] later n e = absurd (cc e)
+second_of [] (f ∷ front) later n e = absurd (cc e)
+second_of (c ∷ inner) [] later n e = go (c == 34) refl e
+  where
+    go : (t : Bool) → (c == 34) ≡ t → cond t (34 ∷ 34 ∷ doubled inner) (c ∷ doubled inner) ≡ 34 ∷ later → Second later
+    go true h k = record { more = doubled inner; is = sym (let f : 34 ∷ doubled inner ≡ later = cc k in f); doubled = (inner, refl) }
+    go false h k = absurd (let f : c ≡ 34 = cc k in let g : (c == 34) ≡ true = grind (arith, f) in let x : true ≡ false = sym g ∙ h in cc x)
+second_of (c ∷ inner) (f ∷ front) later n e = go (c == 34) refl e (second_of inner front later (or_right (f == 34) (list_any (λ x. x == 34) front) n))
+  where
+    go : (t : Bool) → (c == 34) ≡ t → cond t (34 ∷ 34 ∷ doubled inner) (c ∷ doubled inner) ≡ f ∷ (front ++ 34 ∷ later) → (doubled inner ≡ front ++ 34 ∷ later → Second later) → Second later
+    go true h k r = absurd (let g : 34 ≡ f = cc k in let q : (f == 34) ≡ true = grind (arith, g) in let x : true ≡ false = sym q ∙ or_left (f == 34) (list_any (λ x. x == 34) front) n in cc x)
+    go false h k r = r (let g : doubled inner ≡ front ++ 34 ∷ later = cc k in g)
+
+second : (rest front later : List ℕ) → IsDoubled rest → SplitsAtQuote rest front later → Second later
+second rest front later d s = second_of d.0 front later s.1 (sym d.1 ∙ s.0)
+
+pub begins : (rest front later : List ℕ) → IsDoubled rest → SplitsAtQuote rest front later → BeginsWithQuote later
+begins rest front later d s = let x = second rest front later d s in subst BeginsWithQuote (sym x.is) refl
+
+pub still_doubled : (rest front later more : List ℕ) → IsDoubled rest → SplitsAtQuote rest front later → later ≡ 34 ∷ more → IsDoubled more
+still_doubled rest front later more d s e =
+    let x = second rest front later d s in
+    subst IsDoubled (let f : 34 ∷ x.more ≡ 34 ∷ more = sym x.is ∙ e in let g : x.more ≡ more = cc f in g) x.doubled
+
+pub read_goes : (out rest front later more all mid out2 : List ℕ) → doubled out ++ rest ≡ all → SplitsAtQuote rest front later → later ≡ 34 ∷ more → mid ≡ out ++ front → out2 ≡ mid ++ 34 ∷ [] → doubled out2 ++ more ≡ all
+read_goes out rest front later more all mid out2 h s e m n =
+    ap (λ x. doubled x ++ more) (n ∙ ap (λ x. x ++ 34 ∷ []) m)
+    ∙ ap (λ x. x ++ more) (doubled-append (out ++ front) (34 ∷ []) ∙ ap (λ x. x ++ 34 ∷ 34 ∷ []) (doubled-append out front ∙ ap (λ x. doubled out ++ x) (doubled_plain front s.1)))
+    ∙ append_assoc (doubled out ++ front) (34 ∷ 34 ∷ []) more ∙ append_assoc (doubled out) front (34 ∷ 34 ∷ more)
+    ∙ ap (λ x. doubled out ++ (front ++ 34 ∷ x)) (sym e) ∙ ap (λ x. doubled out ++ x) (sym s.0) ∙ h
+
+pub read_ends : (out rest all out2 : List ℕ) → doubled out ++ rest ≡ all → HasNoQuote rest → out2 ≡ out ++ rest → doubled out2 ≡ all
+read_ends out rest all out2 h s n = ap doubled n ∙ doubled-append out rest ∙ ap (λ x. doubled out ++ x) (doubled_plain rest s) ∙ h
+
+pub read_whole : (t inner token : List ℕ) → doubled t ≡ inner → token ≡ 34 ∷ (inner ++ 34 ∷ []) → quoted t ≡ token
+read_whole t inner token e k = ap (λ x. 34 ∷ (x ++ 34 ∷ [])) e ∙ sym k
+
+-- ---- a Text token's bytes
+
+encode_plain : (c : ℕ) → (c == 34) ≡ false → HasNoQuote (encode c)
+encode_plain c h = no_quote (encode c) (λ i l e. let k : c ≡ get_or (encode c) i 0 = inside_one c [] (encode c) i (sym (append-nil (encode c))) l (omega (arith, e)) in
+    let same : c ≡ 34 = k ∙ e in let q : (c == 34) ≡ true = grind (arith, same) in let x : true ≡ false = sym q ∙ h in absurd (cc x))
+
+encodes_doubled : (cs : List ℕ) → encodes (doubled cs) ≡ doubled (encodes cs)
+unfolding encode
+encodes_doubled [] = refl
+encodes_doubled (c ∷ cs) = go (c == 34) refl (encodes_doubled cs)
+  where
+    go : (t : Bool) → (c == 34) ≡ t → encodes (doubled cs) ≡ doubled (encodes cs) → encodes (cond t (34 ∷ 34 ∷ doubled cs) (c ∷ doubled cs)) ≡ doubled (encode c ++ encodes cs)
+    go true e h = ap (λ x. 34 ∷ 34 ∷ x) h ∙ ap (λ x. doubled (encode x ++ encodes cs)) (sym (quote_is c e))
+    go false e h = ap (λ x. encode c ++ x) h ∙ ap (λ x. x ++ doubled (encodes cs)) (sym (doubled_plain (encode c) (encode_plain c e))) ∙ sym (doubled-append (encode c) (encodes cs))
+
+pub text_is : (bs : List ℕ) → IsUtf8 bs → IsText (chars bs) → (inner : List ℕ) × (bs ≡ quoted inner)
+unfolding encode
+text_is bs u t =
+    (encodes t.0, sym (encodes-chars bs u) ∙ ap encodes t.2 ∙ ap (λ x. 34 ∷ x) (encodes-append (doubled t.0) (34 ∷ []) ∙ ap (λ x. x ++ 34 ∷ []) (encodes_doubled t.0)))
+
+pub begins_not : (bs : List ℕ) → BeginsWithQuote bs → ((rest : List ℕ) → bs ≢ 34 ∷ rest) → ⊥
+begins_not [] h k = h
+begins_not (b ∷ bs) h k = k bs (ap (λ x. x ∷ bs) h)
+
+same_last : (xs ys : List ℕ) → xs ++ 34 ∷ [] ≡ ys ++ 34 ∷ [] → xs ≡ ys
+same_last xs ys e =
+    let wide : length xs ≡ length ys = omega (arith, ap length e, length-append xs (34 ∷ []), length-append ys (34 ∷ [])) in
+    sym (take-append_seam xs (34 ∷ [])) ∙ ap (take (length xs)) e ∙ ap (λ n. take n (ys ++ 34 ∷ [])) wide ∙ take-append_seam ys (34 ∷ [])
+
+inner_is : (bs more : List ℕ) → IsUtf8 bs → IsText (chars bs) → bs ≡ 34 ∷ more → (inner : List ℕ) × (more ≡ doubled inner ++ 34 ∷ [])
+inner_is bs more u t e = let x = text_is bs u t in (x.0, let f : 34 ∷ more ≡ 34 ∷ (doubled x.0 ++ 34 ∷ []) = sym e ∙ x.1 in let g : more ≡ doubled x.0 ++ 34 ∷ [] = cc f in g)
+
+pub text_begins : (bs : List ℕ) → IsUtf8 bs → IsText (chars bs) → BeginsWithQuote bs
+text_begins bs u t = let x = text_is bs u t in subst BeginsWithQuote (sym x.1) refl
+
+pub text_ends : (bs more : List ℕ) → IsUtf8 bs → IsText (chars bs) → bs ≡ 34 ∷ more → ((front : List ℕ) → more ≢ front ++ 34 ∷ []) → ⊥
+text_ends bs more u t e n = let x = inner_is bs more u t e in n (doubled x.0) x.1
+
+pub text_inner : (bs more inner : List ℕ) → IsUtf8 bs → IsText (chars bs) → bs ≡ 34 ∷ more → more ≡ inner ++ 34 ∷ [] → IsDoubled inner
+text_inner bs more inner u t e f = let x = inner_is bs more u t e in (x.0, same_last inner (doubled x.0) (sym f ∙ x.1))
+
+pub quoted_tells_apart : QuotedTellsApart
+quoted_tells_apart bs cs e = undo bs cs (same_last (doubled bs) (doubled cs) (let f : doubled bs ++ 34 ∷ [] ≡ doubled cs ++ 34 ∷ [] = cc e in f))
+  where
+    first : (b c : ℕ) (x y : List ℕ) (p q : Bool) → (b == 34) ≡ p → (c == 34) ≡ q → cond p (34 ∷ 34 ∷ x) (b ∷ x) ≡ cond q (34 ∷ 34 ∷ y) (c ∷ y) → (b ≡ c) × (x ≡ y)
+    first b c x y true true hp hq k = (quote_is b hp ∙ sym (quote_is c hq), let f : x ≡ y = cc k in f)
+    first b c x y true false hp hq k = absurd (let f : 34 ≡ c = cc k in let q : (c == 34) ≡ true = grind (arith, f) in let z : true ≡ false = sym q ∙ hq in cc z)
+    first b c x y false true hp hq k = absurd (let f : b ≡ 34 = cc k in let q : (b == 34) ≡ true = grind (arith, f) in let z : true ≡ false = sym q ∙ hp in cc z)
+    first b c x y false false hp hq k = (let f : b ≡ c = cc k in f, let f : x ≡ y = cc k in f)
+
+    none : (c : ℕ) (y : List ℕ) (q : Bool) → [] ≡ cond q (34 ∷ 34 ∷ y) (c ∷ y) → ⊥
+    none c y true k = absurd (cc k)
+    none c y false k = absurd (cc k)
+
+    undo : (bs cs : List ℕ) → doubled bs ≡ doubled cs → bs ≡ cs
+    undo [] [] k = refl
+    undo [] (c ∷ cs) k = absurd (none c (doubled cs) (c == 34) k)
+    undo (b ∷ bs) [] k = absurd (none b (doubled bs) (b == 34) (sym k))
+    undo (b ∷ bs) (c ∷ cs) k = let h = first b c (doubled bs) (doubled cs) (b == 34) (c == 34) refl refl k in ap (λ x. x ∷ bs) h.0 ∙ ap (λ x. c ∷ x) (undo bs cs h.1)

@@ -1,0 +1,9 @@
+pub mod Characters
+pub mod Kinds
+pub mod Scan
+pub mod Cuts
+pub mod Laws
+pub mod Places
+pub mod Reserved
+pub mod Phrases
+pub mod Quotes
