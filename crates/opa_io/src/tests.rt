@@ -30,7 +30,10 @@ fn files_are_a_shelf(rt: HostRuntime) -> Result<(), Fail> {
     let mut shelf = FileShelf::new(&rt);
     assert_eq!(rt; shelf.keep("kept.txt", b"abc"), Ok(()));
     let taken = shelf.take(alloc, "kept.txt", 3);
-    assert_eq!(rt; taken.is_ok_and(|bytes| bytes.as_slice() == b"abc".as_slice()), true);
+    assert_eq!(rt;
+        taken.is_ok_and(|bytes| bytes.as_slice() == b"abc".as_slice()),
+        true
+    );
     assert_eq!(rt; shelf.take(alloc, "kept.txt", 2).is_err(), true);
     assert_eq!(rt; shelf.take(alloc, "no such file.txt", 3).is_err(), true);
     Ok(())
@@ -45,7 +48,12 @@ fn a_shelf_in_memory(rt: HostRuntime) -> Result<(), Fail> {
     assert_eq!(rt; shelf.file("a"), None);
     assert_eq!(rt; shelf.keep("a", b"second"), Ok(()));
     assert_eq!(rt; shelf.keep("a", b"third"), Ok(()));
-    assert_eq!(rt; shelf.file("a").is_some_and(|bytes| bytes == b"third".as_slice()), true);
+    assert_eq!(rt;
+        shelf
+            .file("a")
+            .is_some_and(|bytes| bytes == b"third".as_slice()),
+        true
+    );
     Ok(())
 }
 

@@ -1,12 +1,11 @@
 -- The lines of a rule file, one after another.
-use Rattle.std.proofs.Common.{◌<◌, ◌≤◌, ◌+◌, ◌&&◌, arith, ◌≡◌, ℕ, Bool, true, false, List, [], ◌∷◌, ◌++◌, Option, Some, None, ap, sym, ◌∙◌, refl, append_assoc, append-nil, length}
+use Rattle.std.proofs.Common.{◌≡◌, ℕ, Bool, true, false, List, [], ◌∷◌, ◌++◌, Option, Some, None, ap, sym, ◌∙◌, refl, append_assoc, append-nil, length}
 use Rattle.std.specs.Prelude.{if◌then◌else◌, ◌==◌}
 use Rattle.std.specs.Option.{option_map}
-use Rattle.std.specs.List.{list_all}
 use Rattle.std.specs.Str.Lines.{lines, strip_carriage_return}
 use Rattle.opa_talk.specs.Lines.{IsPart}
 use Rattle.opa_talk.proofs.LinesLaws.{lines_first, lines_last}
-use Rattle.opa_top.specs.First.{is_plain, is_kept, kept_of}
+use Rattle.opa_top.specs.First.{kept_of}
 use Rattle.opa_top.specs.Parts.{grown}
 
 from_nothing : {X : Type 0} (o : Option (List X)) → grown [] o ≡ o

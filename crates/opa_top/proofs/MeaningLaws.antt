@@ -1,8 +1,7 @@
 -- The value of a tree, and of all of its operands.
-use Rattle.std.proofs.Common.{◌+◌, ◌<◌, ◌≤◌, length, slice_index_or, take, sym, arith, ◌≡◌, ℕ, Bool, true, false, List, [], ◌∷◌, ◌++◌, ◌||◌, map, ap, refl, ◌∙◌, if◌then◌else◌}
-use Rattle.std.specs.List.{list_any, list_all}
+use Rattle.std.proofs.Common.{◌+◌, ◌<◌, ◌≤◌, length, slice_index_or, take, sym, arith, ◌≡◌, ℕ, true, List, [], ◌∷◌, ◌++◌, map, ap, ◌∙◌}
+use Rattle.std.specs.List.{list_all}
 use Rattle.opa_value.specs.declared.value.Value.{Value}
-use Rattle.opa_value.specs.declared.value.Value.TheVariants as value
 use Rattle.opa_value.specs.Truth.{all_of, all2_of}
 use Rattle.opa_value.proofs.TruthLaws.{all_of_push}
 use Rattle.opa_top.specs.declared.first.model.AttrId.{AttrId}

@@ -1,7 +1,6 @@
 -- How a run ends, from what its parts ensure.
-use Rattle.std.proofs.Common.{IfSome, IsOk, IsErr, Bool, true, false, length, length-append, subst, sym, ap, ◌∙◌, append-nil, append_assoc, take, drop, ◌≡◌, ◌≤◌, ◌⊎◌, ℕ, List, [], ◌∷◌, ◌++◌, Option, Some, None, Result, Ok, Err, OnOk, OnErr, IfErr, inl, inr, refl, arith}
+use Rattle.std.proofs.Common.{IfSome, IsOk, IsErr, true, false, length, length-append, subst, sym, ap, ◌∙◌, append-nil, append_assoc, take, drop, ◌≡◌, ◌≤◌, ℕ, List, [], ◌∷◌, ◌++◌, Option, Some, None, Result, Ok, Err, OnOk, IfErr, inl, inr, refl, arith}
 use Rattle.std.specs.Prelude.{nat_lt, if◌then◌else◌}
-use Rattle.std.specs.FinMap as map_of
 use Rattle.std.specs.Io.KnownBytes.{Appends, Consumes, IsAtEnd}
 use Rattle.std.proofs.lemmas.List.{take-append-drop}
 use Rattle.std.proofs.lemmas.Bool.Decides.{nat_tests}
@@ -14,7 +13,7 @@ use Rattle.opa_top.specs.declared.first.rulebase.Rulebase.{Rulebase}
 use Rattle.opa_talk.specs.declared.halt.Halt.{Halt}
 use Rattle.opa_talk.specs.declared.halt.Halt.TheVariants as halt
 use Rattle.opa_talk.specs.Halt.{IsCause}
-use Rattle.opa_talk.specs.Lines.{IsWhole, EndsLine, input_lines, lines_from}
+use Rattle.opa_talk.specs.Lines.{EndsLine, input_lines, lines_from}
 use Rattle.opa_talk.specs.Points.{is_empty}
 use Rattle.opa_talk.specs.Transcript.{replies, transcript, after}
 use Rattle.opa_talk.specs.Talk.{Halted, Paused, Converses, Halts}
@@ -23,7 +22,7 @@ use Rattle.opa_talk.proofs.TranscriptLaws.{transcript-append}
 use Rattle.opa_top.specs.declared.load.LoadError.TheVariants as load
 use Rattle.opa_top.specs.First.{base_of}
 use Rattle.opa_top.specs.Opening.{opening, opening_of_file, opening_of_bytes, refusal, Opens}
-use Rattle.opa_top.specs.Reply.{reply, next, replying, session_rule, nothing_held, transcript_over}
+use Rattle.opa_top.specs.Reply.{reply, next, replying, session_rule, nothing_held}
 use Rattle.opa_top.specs.Run.{Counts, Ends, IsOpening, end_of, said, transcript_of, WholeLines, TalksAll, TalksPart, WroteAll, Wrote, WroteLines, HasStatusCause, Completes, Calm, end_opened}
 
 not_lt : (a b : ℕ) → b ≤ a → nat_lt a b ≡ false

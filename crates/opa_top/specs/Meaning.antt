@@ -1,5 +1,5 @@
 -- What a tree and an attribute mean, over the answers alone.
-use Rattle.std.specs.Prelude.{ℕ, List, slice_index_or, ◌==◌, if◌then◌else◌}
+use Rattle.std.specs.Prelude.{List, slice_index_or, ◌==◌, if◌then◌else◌}
 use Rattle.opa_value.specs.declared.value.Value.{Value}
 use Rattle.opa_value.specs.declared.value.Value.TheVariants.{Unknown}
 use Rattle.opa_value.specs.Truth.{all_of}

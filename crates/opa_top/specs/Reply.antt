@@ -1,5 +1,5 @@
 -- What a line of the input prints, and what is held after it.
-use Rattle.std.specs.Prelude.{length, replicate, ℕ, Bool, true, false, List, [], ◌∷◌, ◌++◌, codes, Option, Some, None, slice_index_or, slice_set, ◌==◌, if◌then◌else◌}
+use Rattle.std.specs.Prelude.{length, replicate, ℕ, true, false, List, [], ◌∷◌, ◌++◌, codes, Option, Some, None, slice_index_or, slice_set, ◌==◌, if◌then◌else◌}
 use Rattle.opa_value.specs.declared.value.Value.{Value}
 use Rattle.opa_value.specs.declared.value.Value.TheVariants as value
 use Rattle.opa_top.specs.declared.first.model.AttrId.{AttrId}

@@ -1,5 +1,5 @@
 -- What a run answers, reads and writes.
-use Rattle.std.specs.Prelude.{String, IfSome, map, ◌≢◌, ℕ, ◌≡◌, ◌⊎◌, ◌≤◌, Bool, true, false, List, [], ◌∷◌, ◌++◌, length, take, codes, not, ◌&&◌, ◌==◌, Option, Some, None, Result, Ok, Err, IsOk, IsErr, if◌then◌else◌}
+use Rattle.std.specs.Prelude.{String, IfSome, map, ◌≢◌, ℕ, ◌≡◌, ◌⊎◌, ◌≤◌, Bool, false, List, [], ◌∷◌, ◌++◌, length, take, codes, not, ◌&&◌, ◌==◌, Option, Some, None, Result, Ok, Err, IsOk, IsErr, if◌then◌else◌}
 use Rattle.std.specs.Str.{bytes_eq}
 use Rattle.std.specs.String.{string_bytes}
 use Rattle.std.specs.declared.alloc.Global.{Global}

@@ -2,8 +2,8 @@
 ghost use Rattle.std.specs.Prelude.{◌≡◌, ◌<◌, length, slice_set, slice_index_or, replicate, IfOk};
 ghost use Rattle.opa_value.specs.declared.value.Value.TheVariants as value;
 
-use opa_io::NoMemory;
 use crate::first::AttrId;
+use opa_io::NoMemory;
 use opa_value::Value;
 use std::alloc::Global;
 use std::marker::Model;

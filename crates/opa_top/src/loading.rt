@@ -4,10 +4,9 @@ ghost use Rattle.opa_top.specs.Opening.{shown, refusal, Opens};
 ghost use Rattle.opa_top.specs.Parts.{IsSoundBase};
 
 use crate::bytes::Bytes;
-use crate::first::read_base;
+use crate::first::{Rulebase, read_base};
 use crate::load::LoadError;
 use opa_io::{NoMemory, Shelf, TakeFault};
-use crate::first::Rulebase;
 use std::alloc::Global;
 
 /// How many bytes a rule file may have.

@@ -4,8 +4,8 @@ ghost use Rattle.opa_top.specs.Trees.{mentions_below, is_sound};
 ghost use Rattle.opa_top.specs.Meaning.{tree_value, mean};
 
 use crate::case::Case;
-use opa_io::NoMemory;
 use crate::first::{AttrId, Expr, Rulebase};
+use opa_io::NoMemory;
 use opa_value::Value;
 use std::alloc::Global;
 

@@ -5,9 +5,9 @@ ghost use Rattle.opa_top.specs.Reply.{value_text, shown, printed, reply, next};
 
 use crate::case::Case;
 use crate::command::{Command, read_command};
+use crate::first::{AttrId, Rulebase};
 use crate::meaning::mean;
 use opa_io::NoMemory;
-use crate::first::{AttrId, Rulebase};
 use opa_value::Value;
 use std::alloc::Global;
 

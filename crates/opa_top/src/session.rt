@@ -7,10 +7,10 @@ ghost use Rattle.opa_top.specs.Trees.{is_sound};
 ghost use Rattle.opa_top.specs.Reply.{session_rule};
 
 use crate::case::Case;
+use crate::first::Rulebase;
 use crate::reply::reply;
 use opa_io::NoMemory;
 use opa_talk::{Halt, Prompt, Replier};
-use crate::first::Rulebase;
 use std::alloc::Global;
 
 /// A rulebase, and what is held of its attributes.

@@ -8,12 +8,12 @@ ghost use Rattle.opa_top.specs.Parts.{IsSoundBase};
 ghost use Rattle.opa_top.specs.Reply.{replying};
 ghost use Rattle.opa_top.specs.Run.{Ends, TalksAll, TalksPart, end_of, said, words_of, mode_of, begins_with_dash, counts, SaysUsage, Wrote, WroteLines, HasStatusCause, Completes};
 
+use crate::first::Rulebase;
 use crate::load::LoadError;
 use crate::loading::load_rulebase;
 use crate::session::Session;
 use opa_io::{Failed, Shelf, Sink, Source, Status, write_all_of};
 use opa_talk::{Halt, converse};
-use crate::first::Rulebase;
 use std::alloc::Global;
 
 const USAGE: &[u8] = b"usage: opa MODE NAME [NAME]\n";

@@ -9,8 +9,8 @@ ghost use Rattle.opa_top.specs.Parts.{all_below};
 use crate::bytes::Bytes;
 use crate::command::{after_front, attribute_of};
 use crate::first::phrase::{bool_parts, is_goal, is_indented, is_phrase};
-use opa_io::{List, NoMemory};
 use crate::first::{AttrId, Phrases};
+use opa_io::{List, NoMemory};
 use std::alloc::Global;
 
 /// The phrase of a line `bool SUBJECT [POS] REST`.

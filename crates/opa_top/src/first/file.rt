@@ -11,9 +11,9 @@ use crate::command::is_idle;
 use crate::first::declarations::{declare_all, goal_count, goals_of, indented_count};
 use crate::first::phrase::verb_of;
 use crate::first::rule::rule_of;
+use crate::first::{Model, Phrases, Rulebase};
 use opa_io::{List, NoMemory};
 use opa_talk::{cut, without_mark, without_return};
-use crate::first::{Model, Phrases, Rulebase};
 use std::alloc::Global;
 
 fn is_plain(line: &[u8]) -> bool

@@ -7,8 +7,8 @@ ghost use Rattle.opa_top.specs.Parts.{all_mention_below, IsSoundRule};
 
 use crate::bytes::Bytes;
 use crate::command::{after_front, attribute_of, before_end};
-use opa_io::{List, NoMemory};
 use crate::first::{AttrId, Expr, Phrases, Rule};
+use opa_io::{List, NoMemory};
 use std::alloc::Global;
 
 /// A line of level 1 without its connector.
