@@ -7,4 +7,6 @@ pub mod OneCut
 pub mod PlaceLaws
 pub mod ResultLaws
 pub mod PhraseLaws
+pub mod JoinedLaws
+pub mod FoundLaws
 pub mod QuoteLaws

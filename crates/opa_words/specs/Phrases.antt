@@ -1,6 +1,6 @@
 -- Which phrase stands among the tokens of a text.
-use Rattle.std.specs.Prelude.{◌≡◌, ◌≤◌, ◌<◌, ◌+◌, ℕ, List, [], ◌∷◌, length, take, drop, Option, Some, None, ◌==◌, nat_lt, if◌then◌else◌, slice_get}
-use Rattle.std.specs.Option.{option_map}
+use Rattle.std.specs.Prelude.{◌≡◌, ◌≤◌, ◌<◌, ◌+◌, ℕ, List, [], ◌∷◌, ◌++◌, length, take, drop, Bool, Option, Some, None, ◌==◌, nat_lt, if◌then◌else◌, slice_get}
+use Rattle.std.specs.Option.{option_map, option_or}
 use Rattle.std.specs.Str.{bytes_eq}
 use Rattle.opa_words.specs.declared.kinds.Token.{Token}
 use Rattle.opa_words.specs.Places.{token_text}
@@ -23,6 +23,39 @@ abbrev pub NoneIsSpelled : List (List ℕ) → List ℕ → List Token → Type 
 NoneIsSpelled phrases bytes ts = (j m : ℕ) (other : List ℕ) → slice_get phrases j ≡ Some other → Spells bytes ts other m → ⊥
 
 -- ---- how it is found
+
+-- the first position of a text, counted from this one
+abbrev pub first_position : List ℕ → ℕ → List (List ℕ) → Option ℕ
+first_position t k [] = None
+first_position t k (p ∷ ps) = if bytes_eq t p then Some k else first_position t (k + 1) ps
+
+-- what is found for each text is its first position
+abbrev pub FindsFirst : (List ℕ → Option ℕ) → List (List ℕ) → Type 0
+FindsFirst find phrases = (t : List ℕ) → find t ≡ first_position t 0 phrases
+
+-- what is found once a text has this position, unless it had one
+abbrev pub FindsAlso : (List ℕ → Option ℕ) → List ℕ → ℕ → (List ℕ → Option ℕ) → Type 0
+FindsAlso old text position new = (t : List ℕ) → new t ≡ option_or (old t) (if bytes_eq t text then Some position else None)
+
+abbrev pub FindsNoneWider : (List ℕ → Option ℕ) → ℕ → Type 0
+FindsNoneWider find widest = (t : List ℕ) → widest < length t → find t ≡ None
+
+-- nothing is found for the text of more than `few` of the first tokens, up to `many`
+abbrev pub FindsNoneFrom : (List ℕ → Option ℕ) → List ℕ → List Token → ℕ → ℕ → Type 0
+FindsNoneFrom find bytes ts few many = (m : ℕ) → few < m → m ≤ many → find (phrase_text bytes (take m ts)) ≡ None
+
+-- of the texts of one token, of two and so on up to `many` this is the last that is found, and what is found for it
+abbrev pub IsLastFound : (List ℕ → Option ℕ) → List ℕ → List Token → ℕ → Option (ℕ × ℕ) → Type 0
+IsLastFound find bytes ts many None = FindsNoneFrom find bytes ts 0 many
+IsLastFound find bytes ts many (Some x) = (0 < x.1) × (x.1 ≤ many) × (find (phrase_text bytes (take x.1 ts)) ≡ Some x.0) × FindsNoneFrom find bytes ts x.1 many
+
+abbrev pub found_or : Option (ℕ × ℕ) → Option ℕ → ℕ → Option (ℕ × ℕ)
+found_or best None count = best
+found_or best (Some position) count = Some (position, count)
+
+-- a word after a front: after a space, if it isn't the first
+abbrev pub with_word : List ℕ → Bool → List ℕ → List ℕ
+with_word front is_first word = if is_first then front ++ word else front ++ 32 ∷ word
 
 -- what follows the front, where the bytes begin with it
 abbrev pub after_front : List ℕ → List ℕ → Option (List ℕ)

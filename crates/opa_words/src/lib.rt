@@ -8,6 +8,7 @@ mod fault;
 mod kinds;
 mod laws;
 mod phrases;
+mod positions;
 mod quotes;
 mod reserved;
 mod scan;
@@ -18,7 +19,7 @@ pub use kinds::{Token, TokenKind};
 pub use laws::{one_cut, quoted_tells_apart};
 pub use phrases::Phrases;
 pub use quotes::{quoted, text_of_token};
-pub use reserved::{is_ending, is_phrase, is_reserved, token_text};
+pub use reserved::{is_ending, is_phrase, is_reserved, phrase_text, token_text};
 
 #[cfg(test)]
 mod tests;

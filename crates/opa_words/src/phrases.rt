@@ -5,25 +5,32 @@ ghost use Rattle.opa_words.specs.Places.{IsWithin, token_text};
 ghost use Rattle.opa_words.specs.Phrases.{IsLongestPhrase, NoneIsSpelled, spelled, longer, at_position, longest_from};
 
 use crate::Token;
+use crate::positions::{ROOM, last_found, positions_of, widest_of};
 use crate::reserved::token_text;
 use opa_io::{List, NoMemory, Txt};
 use std::alloc::Global;
+use std::collections::HashMap;
 use std::marker::Model;
 
 /// Phrases that are looked up among tokens.
 #[derive(Debug, Drop)]
 pub struct Phrases {
     texts: List<Txt>,
+    positions: HashMap<String, u32>,
+    widest: usize,
 }
 
 impl Model for Phrases {
-    ghost use Rattle.std.specs.Prelude.{ℕ, List as Seq, ◌<◌, ◌^◌, length};
+    ghost use Rattle.std.specs.Prelude.{ℕ, List as Seq, ◌<◌, ◌≤◌, ◌^◌, length};
+    ghost use Rattle.std.specs.HashMap.{get_by_text};
+    ghost use Rattle.std.specs.List.{All};
+    ghost use Rattle.opa_words.specs.Phrases.{FindsFirst};
 
     ghost Value = { Seq (Seq ℕ) };
 
     ghost view = { λ p. p.texts };
 
-    ghost invariant = { λ p. length p.texts < 2 ^ 32 };
+    ghost invariant = { λ p. (length p.texts < 2 ^ 32) × FindsFirst (get_by_text p.positions) p.texts × All (λ t. length t ≤ p.widest) p.texts };
 }
 
 impl Phrases {
@@ -33,16 +40,24 @@ impl Phrases {
     {
         Ok(Phrases {
             texts: copied(alloc, texts.as_slice())?,
+            positions: positions_of(alloc, texts.as_slice())?,
+            widest: widest_of(texts.as_slice()),
         })
     }
 
     /// The position of the longest phrase that the tokens of the text spell from `place` on, and how many they are. Of
-    /// equal phrases it is the first. Takes no memory.
+    /// equal phrases it is the first. Takes no memory, and one look-up for each of the first tokens that the longest
+    /// phrase has room for. Only where a phrase takes more than 1,024 bytes does it go over all phrases.
     pub fn longest(&self, text: &str, tokens: &[Token], place: usize) -> Option<(u32, usize)>
         requires { All (IsWithin text.now) tokens.now }
         ensures { MatchOption result (NoneIsSpelled self.now text.now (drop place tokens.now)) (λ x. IsLongestPhrase self.now text.now (drop place tokens.now) x.0 x.1) }
     {
-        longest_of(self.texts.as_slice(), text, rest_from(tokens, place))
+        let rest = rest_from(tokens, place);
+        if self.widest <= ROOM {
+            last_found(&self.positions, self.widest, text, rest)
+        } else {
+            longest_of(self.texts.as_slice(), text, rest)
+        }
     }
 }
 

@@ -1,10 +1,12 @@
 // Reserved words, and which tokens are a phrase.
-ghost use Rattle.std.specs.Prelude.{◌≡◌, ◌≤◌, length, IfOk};
+ghost use Rattle.std.specs.Prelude.{◌≡◌, ◌≤◌, ◌∷◌, [], length, IfOk, if◌then◌else◌};
 ghost use Rattle.std.specs.List.{All, list_all};
 ghost use Rattle.opa_words.specs.Places.{IsWithin, token_text};
-ghost use Rattle.opa_words.specs.Reserved.{is_reserved, is_ending, is_word_kind, is_phrase_kind, ends_badly, begins_well, are_phrase};
+ghost use Rattle.opa_words.specs.Reserved.{is_reserved, is_ending, is_word_kind, is_phrase_kind, ends_badly, begins_well, are_phrase, phrase_text};
 
 use crate::{Token, TokenKind};
+use opa_io::{NoMemory, Txt};
+use std::alloc::Global;
 
 /// Whether no phrase may begin with the word.
 pub fn is_reserved(word: &str) -> bool
@@ -55,6 +57,26 @@ pub fn is_phrase(text: &str, tokens: &[Token]) -> bool
     } else {
         false
     }
+}
+
+/// The text of a phrase that these tokens are: theirs, joined by one space.
+pub fn phrase_text(alloc: Global, text: &str, tokens: &[Token]) -> Result<Txt, NoMemory>
+    requires { All (IsWithin text.now) tokens.now }
+    ensures { IfOk result (λ t. t ≡ phrase_text text.now tokens.now) }
+{
+    let mut out = String::new(alloc);
+    for (before, token) in tokens.iter().enumerate() {
+        out.push_str(space_before(before == 0))?;
+        out.push_str(token_text(text, *token))?;
+    }
+    Txt::from_str(alloc, out.as_str())
+}
+
+/// What stands before a word of a phrase.
+fn space_before(is_first: bool) -> &'static str
+    ensures { result.now ≡ (if is_first then [] else 32 ∷ []) }
+{
+    if is_first { "" } else { " " }
 }
 
 fn are_words(tokens: &[Token]) -> bool

@@ -98,15 +98,25 @@ fn tells_phrases(rt: HostRuntime) -> Result<(), Fail> {
             assert_eq!(rt; is_phrase(text, &found), want, "at {text}");
         }
     }
+    for (text, want) in [
+        ("", ""),
+        ("the", "the"),
+        (" the \t child's  friend", "the child's friend"),
+    ] {
+        if text.len() < 1000 {
+            let found = tokens(rt.alloc(), text)?;
+            assert_eq!(rt; phrase_text(rt.alloc(), text, &found)?.as_str(), want);
+        }
+    }
     assert!(rt;
         is_reserved("uncertain") && !is_reserved("Verb") && is_ending("or") && !is_ending("any")
     );
     Ok(())
 }
 
-#[test]
-fn finds_the_longest(rt: HostRuntime) -> Result<(), Fail> {
-    let mut texts = List::new(rt.alloc());
+/// The phrases of the test, and one of so many bytes.
+fn phrases_with(alloc: Global, width: usize) -> Result<List<Txt>, Fail> {
+    let mut texts = List::new(alloc);
     for phrase in [
         "the child",
         "the child's friend",
@@ -114,26 +124,36 @@ fn finds_the_longest(rt: HostRuntime) -> Result<(), Fail> {
         "the child's friend",
         "at 1.0",
     ] {
-        texts.push(Txt::from_str(rt.alloc(), phrase)?)?;
+        texts.push(Txt::from_str(alloc, phrase)?)?;
     }
-    if texts.as_slice().len() > 9 {
-        return Ok(());
-    }
-    let phrases = Phrases::new(rt.alloc(), &texts)?;
-    for (text, place, want) in [
-        ("the child's \t friend is", 0, Some((1, 3))),
-        ("the child's friend", 2, Some((2, 1))),
-        ("the child's", 0, None),
-        ("the child is", 0, Some((0, 2))),
-        ("the childish", 0, None),
-        ("at 1", 0, None),
-        ("at 1.0 (", 0, Some((4, 2))),
-        ("friend", 1, None),
-        ("friend", 9, None),
-    ] {
-        if text.len() < 1000 {
-            let found = tokens(rt.alloc(), text)?;
-            assert_eq!(rt; phrases.longest(text, &found, place), want, "at {text}");
+    let long = "a".repeat(alloc, width)?;
+    texts.push(Txt::from_str(alloc, long.as_str())?)?;
+    Ok(texts)
+}
+
+#[test]
+fn finds_the_longest(rt: HostRuntime) -> Result<(), Fail> {
+    for width in [1, 1024, 1025] {
+        let texts = phrases_with(rt.alloc(), width)?;
+        if texts.as_slice().len() > 9 {
+            return Ok(());
+        }
+        let phrases = Phrases::new(rt.alloc(), &texts)?;
+        for (text, place, want) in [
+            ("the child's \t friend is", 0, Some((1, 3))),
+            ("the child's friend", 2, Some((2, 1))),
+            ("the child's", 0, None),
+            ("the child is", 0, Some((0, 2))),
+            ("the childish", 0, None),
+            ("at 1", 0, None),
+            ("at 1.0 (", 0, Some((4, 2))),
+            ("friend", 1, None),
+            ("friend", 9, None),
+        ] {
+            if text.len() < 1000 {
+                let found = tokens(rt.alloc(), text)?;
+                assert_eq!(rt; phrases.longest(text, &found, place), want, "at {text}");
+            }
         }
     }
     Ok(())

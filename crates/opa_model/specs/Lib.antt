@@ -1,0 +1,4 @@
+pub mod Lookups
+pub mod Models
+pub mod Phrases
+pub mod Sets

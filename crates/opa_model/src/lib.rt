@@ -1,0 +1,13 @@
+//! What a rulebase declares: entities, attributes, relations, verbs, screens and goals.
+#![tactic(auto)]
+
+mod ids;
+mod lists;
+mod model;
+mod phrases;
+mod things;
+
+pub use ids::{AttrId, EntityId, RelId};
+pub use lists::Lists;
+pub use model::{Model, Ruled};
+pub use things::{Attribute, Entity, Item, Kind, Relation, Screen, Sentence, Verb};

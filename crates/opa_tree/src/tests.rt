@@ -1,0 +1,74 @@
+//! What trees mention, and rules by their attributes.
+use super::{Expr, OpKind, Quant, RbKind, Row, Rule, Rules, WinKind, mentions};
+use opa_io::{Boxed, List, NoMemory};
+use opa_model::{AttrId, RelId};
+use opa_value::Value;
+use std::alloc::Global;
+
+fn attr(place: u32) -> Expr {
+    Expr::Attr(AttrId(place))
+}
+
+fn attrs(alloc: Global, places: &[u32]) -> Result<List<Expr>, NoMemory> {
+    let mut list = List::new(alloc);
+    for place in places {
+        list.push(attr(*place))?;
+    }
+    Ok(list)
+}
+
+/// A table of two rows, with a quantifier in a condition and a window in a value.
+fn table(alloc: Global) -> Result<Expr, NoMemory> {
+    let listed = Expr::Over(Quant::Exists, RelId(0), attrs(alloc, &[3])?);
+    let window = Expr::Window(WinKind::Always, attrs(alloc, &[5, 3, 1])?);
+    let sum = Expr::Op(OpKind::Add, attrs(alloc, &[4, 4])?);
+    let mut rows = List::new(alloc);
+    rows.push(Row {
+        cond: listed,
+        value: attr(1),
+    })?;
+    rows.push(Row {
+        cond: Expr::Not(Boxed::new(alloc, attr(0))?),
+        value: window,
+    })?;
+    Ok(Expr::Table(rows, Boxed::new(alloc, sum)?))
+}
+
+#[test]
+fn written_order(rt: HostRuntime) {
+    let expr = table(rt.alloc()).expect(&rt, "a tree");
+    let found = mentions(rt.alloc(), &expr).expect(&rt, "the attributes");
+    let want = [AttrId(3), AttrId(1), AttrId(0), AttrId(5), AttrId(4)];
+    assert!(rt; found.as_slice() == want.as_slice());
+    let none = mentions(rt.alloc(), &Expr::Const(Value::Uncertain)).expect(&rt, "no attributes");
+    assert!(rt; none.as_slice().is_empty());
+}
+
+fn rule(place: u32, line: u32) -> Rule {
+    Rule {
+        attr: AttrId(place),
+        expr: attr(0),
+        file: 0,
+        line,
+        by_if: true,
+    }
+}
+
+#[test]
+fn first_rules(rt: HostRuntime) {
+    let mut list = List::new(rt.alloc());
+    for (place, line) in [(2, 7), (1, 9), (2, 11)] {
+        list.push(rule(place, line)).expect(&rt, "a rule");
+    }
+    let rules = Rules::from_list(list);
+    for (place, line) in [(2, Some(7)), (1, Some(9)), (0, None)] {
+        assert!(rt; rules.of(AttrId(place)).map(|rule| rule.line) == line);
+    }
+}
+
+#[test]
+fn numbers(rt: HostRuntime) {
+    assert_eq!(rt; RbKind::Bytes.number(), 1);
+    assert_eq!(rt; RbKind::Cycle.number(), 7);
+    assert_eq!(rt; RbKind::Missing.number(), 9);
+}

@@ -1,0 +1,11 @@
+pub mod Anniversaries
+pub mod Beaten
+pub mod CalendarDays
+pub mod FoldLaws
+pub mod LastDays
+pub mod RunSteps
+pub mod Seen
+pub mod Spreading
+pub mod Stretching
+pub mod Totals
+pub mod Turning
