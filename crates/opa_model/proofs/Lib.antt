@@ -1,1 +1,2 @@
 pub mod PhrasesLaws
+pub mod SampleModels

@@ -24,7 +24,7 @@ module _ {X Y : Type 0} (p : Y → Bool) (f : X → Y) where
 same_text : (t u : List ℕ) → bytes_eq t u ≡ true → t ≡ u
 same_text t u e = search (rules, bytes_eq-Decides t u, e)
 
-own_text : (t : List ℕ) → bytes_eq t t ≡ true
+pub own_text : (t : List ℕ) → bytes_eq t t ≡ true
 own_text t = search (rules, bytes_eq-Decides t t)
 
 -- the text stands at its place

@@ -11,3 +11,6 @@ pub use ids::{AttrId, EntityId, RelId};
 pub use lists::Lists;
 pub use model::{Model, Ruled};
 pub use things::{Attribute, Entity, Item, Kind, Relation, Screen, Sentence, Verb};
+
+#[cfg(test)]
+mod tests;
