@@ -1,7 +1,8 @@
 use crate::{
     Boxed, FileShelf, List, MemShelf, Same, Shelf, Sink, Source, Status, StdSink, StdSource, Txt,
-    write_all_of,
+    front, write_all_of,
 };
+use std::cmp::Ordering;
 use std::test::Fail;
 
 #[test]
@@ -75,5 +76,25 @@ fn texts_lists_and_boxes(rt: HostRuntime) -> Result<(), Fail> {
     assert_eq!(rt; *boxed.get(), 5);
     assert_eq!(rt; boxed.into_inner(), 5);
     assert_eq!(rt; Status::InputLimit.number(), 6);
+    Ok(())
+}
+
+#[test]
+fn ends_of_lists_and_the_order_of_texts(rt: HostRuntime) -> Result<(), Fail> {
+    let alloc = rt.alloc();
+    let mut list = List::new(alloc);
+    list.push(7u32)?;
+    list.push(8)?;
+    assert_eq!(rt; list.len(), 2);
+    assert_eq!(rt; front(list.as_slice()).map(|parts| *parts.0), Some(7));
+    assert_eq!(rt; list.pop(), Some(8));
+    assert_eq!(rt; list.pop(), Some(7));
+    assert_eq!(rt; list.pop(), None);
+    assert_eq!(rt; front(list.as_slice()).is_none(), true);
+    let text = Txt::from_str(alloc, "Ben")?;
+    let longer = Txt::from_str(alloc, "Benno")?;
+    assert_eq!(rt; text.copy(alloc)? == text, true);
+    assert_eq!(rt; text.cmp(&longer), Ordering::Less);
+    assert_eq!(rt; longer.partial_cmp(&text), Some(Ordering::Greater));
     Ok(())
 }
