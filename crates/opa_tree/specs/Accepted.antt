@@ -9,7 +9,7 @@ use Rattle.opa_tree.specs.declared.rules.Rule.{Rule}
 use Rattle.opa_tree.specs.Kinds.{is_kind, rule_has_kind}
 use Rattle.opa_tree.specs.Ranks.{AreRanks}
 use Rattle.opa_tree.specs.Scopes.{rule_is_reached}
-use Rattle.opa_tree.specs.Trees.{HasForm}
+use Rattle.opa_tree.specs.Trees.{HasForm, IsShallow}
 
 -- a rule that is written by "if" concludes a bool
 abbrev pub concludes_bool : Lists → Rule → Bool
@@ -36,3 +36,7 @@ HaveForm rules = All (λ r. HasForm r.expr) rules
 -- each rule stands in one of so many files
 abbrev pub AreFiled : ℕ → List Rule → Type 0
 AreFiled files rules = All (λ r. r.file < files) rules
+
+-- no rule's tree is too deep
+abbrev pub AreShallow : List Rule → Type 0
+AreShallow rules = All (λ r. IsShallow r.expr) rules

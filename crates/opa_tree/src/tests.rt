@@ -1,5 +1,7 @@
-//! What trees mention, and rules by their attributes.
-use super::{Expr, OpKind, Quant, RbKind, Row, Rule, Rules, WinKind, mentions};
+//! What trees mention, how deep they are, rules by their attributes, and first faults.
+use super::{
+    Expr, OpKind, Quant, RbFault, RbKind, Row, Rule, Rules, WinKind, first_of, is_shallow, mentions,
+};
 use opa_io::{Boxed, List, NoMemory};
 use opa_model::{AttrId, RelId};
 use opa_value::Value;
@@ -37,10 +39,13 @@ fn table(alloc: Global) -> Result<Expr, NoMemory> {
 #[test]
 fn written_order(rt: HostRuntime) {
     let expr = table(rt.alloc()).expect(&rt, "a tree");
+    assert!(rt; is_shallow(&expr));
     let found = mentions(rt.alloc(), &expr).expect(&rt, "the attributes");
     let want = [AttrId(3), AttrId(1), AttrId(0), AttrId(5), AttrId(4)];
     assert!(rt; found.as_slice() == want.as_slice());
-    let none = mentions(rt.alloc(), &Expr::Const(Value::Uncertain)).expect(&rt, "no attributes");
+    let literal = Expr::Const(Value::Uncertain);
+    assert!(rt; is_shallow(&literal));
+    let none = mentions(rt.alloc(), &literal).expect(&rt, "no attributes");
     assert!(rt; none.as_slice().is_empty());
 }
 
@@ -71,4 +76,49 @@ fn numbers(rt: HostRuntime) {
     assert_eq!(rt; RbKind::Bytes.number(), 1);
     assert_eq!(rt; RbKind::Cycle.number(), 7);
     assert_eq!(rt; RbKind::Missing.number(), 9);
+}
+
+fn fault(alloc: Global, kind: RbKind, file: u32, line: u32) -> Option<RbFault> {
+    Some(RbFault {
+        file,
+        line,
+        kind,
+        cycle: List::new(alloc),
+    })
+}
+
+#[test]
+fn first_faults(rt: HostRuntime) {
+    let alloc = rt.alloc();
+    for (kind, file, line) in [
+        (RbKind::Limit, 0, 2),
+        (RbKind::Syntax, 1, 2),
+        (RbKind::Syntax, 0, 10),
+    ] {
+        let first = first_of(
+            fault(alloc, kind, file, line),
+            fault(alloc, RbKind::Syntax, 0, 9),
+        );
+        assert!(rt; first.is_some_and(|found| found.line == 9 && found.file == 0));
+    }
+    assert!(rt; first_of(None, None).is_none());
+    let other = first_of(fault(alloc, RbKind::Name, 3, 4), None);
+    assert!(rt; other.is_some_and(|found| found.line == 4));
+}
+
+/// A tree of so many levels.
+fn nested(alloc: Global, levels: u32) -> Result<Expr, NoMemory> {
+    let mut expr = attr(0);
+    for _ in 1..levels {
+        expr = Expr::Not(Boxed::new(alloc, expr)?);
+    }
+    Ok(expr)
+}
+
+#[test]
+fn depths(rt: HostRuntime) {
+    for (levels, wanted) in [(1, true), (63, true), (64, true), (65, false)] {
+        let expr = nested(rt.alloc(), levels).expect(&rt, "a tree");
+        assert!(rt; is_shallow(&expr) == wanted, "{levels}");
+    }
 }
