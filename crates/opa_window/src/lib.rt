@@ -25,3 +25,5 @@ pub use years::years_since;
 
 #[cfg(test)]
 mod tests;
+#[cfg(test)]
+mod walks;

@@ -16,7 +16,7 @@ const C: Value = Value::Uncertain;
 
 const T: Value = Value::Bool(true);
 
-fn line(alloc: Global, pairs: &[(u32, Value)]) -> Result<Line<Value>, LineFault> {
+pub fn line(alloc: Global, pairs: &[(u32, Value)]) -> Result<Line<Value>, LineFault> {
     let mut given = Vec::new(alloc);
     for (day, value) in pairs {
         let Ok(value) = value.copy(alloc) else {
@@ -29,7 +29,7 @@ fn line(alloc: Global, pairs: &[(u32, Value)]) -> Result<Line<Value>, LineFault>
     Line::from_pairs(alloc, given)
 }
 
-fn number(units: i64) -> Value {
+pub fn number(units: i64) -> Value {
     match Number::from_count(i128::from(units) * 10_000) {
         Some(number) => Value::Num(number),
         None => Value::Unknown,
