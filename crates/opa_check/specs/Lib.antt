@@ -1,0 +1,4 @@
+pub mod Circles
+pub mod Faults
+pub mod KindSets
+pub mod Refused

@@ -1,0 +1,6 @@
+//! The check of rules: what is reached, of which kinds it is, one rule for each attribute, and no circles.
+#![tactic(auto, using(crate::proofs::SetLaws::same_typing))]
+
+mod declared;
+mod kinds;
+mod sets;
