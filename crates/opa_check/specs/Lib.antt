@@ -1,4 +1,6 @@
 pub mod Circles
 pub mod Faults
+pub mod Found
 pub mod KindSets
 pub mod Refused
+pub mod RowScopes

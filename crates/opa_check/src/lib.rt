@@ -3,4 +3,5 @@
 
 mod declared;
 mod kinds;
+mod scopes;
 mod sets;
