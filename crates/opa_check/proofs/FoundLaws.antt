@@ -1,6 +1,6 @@
 -- Ranks that are found stay found, and tell which attributes are taken away and which are left.
 use Rattle.std.proofs.Common.{◌≡◌, ◌≢◌, ◌∙◌, ◌+◌, ◌<◌, ◌≤◌, ◌⊎◌, inl, inr, max, ℕ, zero, suc, arith, Bool, true, false, ◌||◌, List, [], ◌∷◌, length, map, refl, sym, ap, subst, Contains, nat_le}
-use Rattle.std.specs.Prelude.{Option, None, Some, slice_get}
+use Rattle.std.specs.Prelude.{Option, None, Some, slice_get, slice_index_or}
 use Rattle.std.specs.List.{list_any}
 use Rattle.std.specs.Option.{option_map}
 use Rattle.std.proofs.lemmas.Bool.{false≢true}
@@ -9,7 +9,8 @@ use Rattle.opa_model.specs.declared.ids.AttrId.{AttrId}
 use Rattle.opa_tree.specs.declared.rules.Rule.{Rule}
 use Rattle.opa_tree.specs.Laws.{AreDeclared}
 use Rattle.opa_tree.specs.Mentions.{mentions}
-use Rattle.opa_tree.specs.Ranks.{mentions_of}
+use Rattle.opa_tree.specs.Ranks.{mentions_of, rank_at, rank_by, AreRanks}
+use Rattle.std.proofs.lemmas.List.{length-map}
 use Rattle.opa_tree.specs.Rules.{rule_of}
 use Rattle.opa_tree.specs.Trees.{highest}
 use Rattle.opa_tree.proofs.Members.{none_in, contains_head, contains_tail, contains_cases}
@@ -191,3 +192,29 @@ module _ (rules : List Rule) (ranks : List (Option ℕ)) (all : AreAll rules ran
   unfolding stays
   is_left a none zero = refl
   is_left a none (suc n) = left_step n a none (λ b there. is_left b there n) (rule_of rules a) refl
+
+-- the ranks, where each is found
+complete_at : (values : List ℕ) (n : ℕ) → or_zero (slice_get (map (λ (v : ℕ). Some v) values) n) ≡ Some (slice_index_or values n 0)
+complete_at [] n = refl
+complete_at (v ∷ values) zero = refl
+complete_at (v ∷ values) (suc n) = complete_at values n
+
+within_at : (values : List ℕ) (n : ℕ) → n < length values → slice_get (map (λ (v : ℕ). Some v) values) n ≡ Some (Some (slice_index_or values n 0))
+within_at [] n lt = absurd (omega (arith, lt))
+within_at (v ∷ values) zero lt = refl
+within_at (v ∷ values) (suc n) lt = within_at values n (omega (arith, lt))
+
+module _ (count : ℕ) (rules : List Rule) (values : List ℕ) (taken : ℕ) (found : AreFound count rules (map (λ (v : ℕ). Some v) values) taken) where
+  rank_is : (a : AttrId) (n : ℕ) (o : Option Rule) → rule_of rules a ≡ o → found_by (map (λ (v : ℕ). Some v) values) (option_map (λ r. mentions r.expr) o) ≡ Some n → n ≡ rank_by values o
+  rank_is a n None of is = cc
+  rank_is a n (Some r) of is =
+      let whole : Some (1 + highest (map (rank_at values) (mentions r.expr))) ≡ Some n =
+          sym (ap (option_map (λ k. 1 + k)) (highest_is (rank_found (map (λ (v : ℕ). Some v) values)) (rank_at values) (mentions r.expr) (λ b. complete_at values b.0))) ∙ is in
+      let same : 1 + highest (map (rank_at values) (mentions r.expr)) ≡ n = cc in sym same
+
+  pub are_ranks : AreRanks count rules values
+  are_ranks = record {
+    for_each = sym (length-map values (λ (v : ℕ). Some v)) ∙ found.for_each;
+    by_rules = λ a lt. rank_is a (rank_at values a) (rule_of rules a) refl
+        (found.right a (rank_at values a) (within_at values a.0 (omega (arith, lt, sym (length-map values (λ (v : ℕ). Some v)) ∙ found.for_each))));
+  }

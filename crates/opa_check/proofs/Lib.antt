@@ -1,3 +1,4 @@
 pub mod FoundLaws
 pub mod ScopeSteps
 pub mod SetLaws
+pub mod UseLaws

@@ -5,3 +5,4 @@ mod declared;
 mod kinds;
 mod scopes;
 mod sets;
+mod uses;
