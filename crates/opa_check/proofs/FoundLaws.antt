@@ -10,13 +10,12 @@ use Rattle.opa_tree.specs.declared.rules.Rule.{Rule}
 use Rattle.opa_tree.specs.Laws.{AreDeclared}
 use Rattle.opa_tree.specs.Mentions.{mentions}
 use Rattle.opa_tree.specs.Ranks.{mentions_of, rank_at, rank_by, AreRanks}
-use Rattle.std.proofs.lemmas.List.{length-map}
 use Rattle.opa_tree.specs.Rules.{rule_of}
 use Rattle.opa_tree.specs.Trees.{highest}
 use Rattle.opa_tree.proofs.Members.{none_in, contains_head, contains_tail, contains_cases}
 use Rattle.opa_tree.proofs.RankLaws.{rule_declared}
 use Rattle.opa_check.specs.Circles.{stays, IsLeft, IsTaken}
-use Rattle.opa_check.specs.Found.{uses_by, or_zero, rank_found, higher, highest_found, found_by, found_count, AreFound, AreAll}
+use Rattle.opa_check.specs.Found.{uses_by, or_zero, rank_found, higher, highest_found, found_by}
 
 or_right : (a b : Bool) → b ≡ true → (a || b) ≡ true
 or_right true b h = refl
@@ -171,7 +170,7 @@ module _ (count : ℕ) (rules : List Rule) (ranks : List (Option ℕ)) (declared
   pub is_taken : (a : AttrId) (n : ℕ) → rank_found ranks a ≡ Some n → IsTaken rules a
   is_taken a n is = (suc n, taken_at n a n (omega arith) is)
 
-module _ (rules : List Rule) (ranks : List (Option ℕ)) (all : AreAll rules ranks) where
+module _ (rules : List Rule) (ranks : List (Option ℕ)) (all : (a : AttrId) → slice_get ranks a.0 ≡ Some None → found_by ranks (uses_by rules a) ≡ None) where
   by_missing : (n : ℕ) (a : AttrId) (r : Rule) → rule_of rules a ≡ Some r → found_by ranks (uses_by rules a) ≡ None
       → ((b : AttrId) → slice_get ranks b.0 ≡ Some None → stays rules n b ≡ true) → list_any (stays rules n) (mentions r.expr) ≡ true
   by_missing n a r of is before = by (highest_found (map (rank_found ranks) (mentions r.expr))) refl (sym (ap (λ o. found_by ranks (option_map (λ (q : Rule). mentions q.expr) o)) of) ∙ is)
@@ -204,7 +203,7 @@ within_at [] n lt = absurd (omega (arith, lt))
 within_at (v ∷ values) zero lt = refl
 within_at (v ∷ values) (suc n) lt = within_at values n (omega (arith, lt))
 
-module _ (count : ℕ) (rules : List Rule) (values : List ℕ) (taken : ℕ) (found : AreFound count rules (map (λ (v : ℕ). Some v) values) taken) where
+module _ (count : ℕ) (rules : List Rule) (values : List ℕ) (length_is : length values ≡ count) (right : (a : AttrId) (n : ℕ) → slice_get (map (λ (v : ℕ). Some v) values) a.0 ≡ Some (Some n) → found_by (map (λ (v : ℕ). Some v) values) (uses_by rules a) ≡ Some n) where
   rank_is : (a : AttrId) (n : ℕ) (o : Option Rule) → rule_of rules a ≡ o → found_by (map (λ (v : ℕ). Some v) values) (option_map (λ r. mentions r.expr) o) ≡ Some n → n ≡ rank_by values o
   rank_is a n None of is = cc
   rank_is a n (Some r) of is =
@@ -214,7 +213,6 @@ module _ (count : ℕ) (rules : List Rule) (values : List ℕ) (taken : ℕ) (fo
 
   pub are_ranks : AreRanks count rules values
   are_ranks = record {
-    for_each = sym (length-map values (λ (v : ℕ). Some v)) ∙ found.for_each;
-    by_rules = λ a lt. rank_is a (rank_at values a) (rule_of rules a) refl
-        (found.right a (rank_at values a) (within_at values a.0 (omega (arith, lt, sym (length-map values (λ (v : ℕ). Some v)) ∙ found.for_each))));
+    for_each = length_is;
+    by_rules = λ a lt. rank_is a (rank_at values a) (rule_of rules a) refl (right a (rank_at values a) (within_at values a.0 (omega (arith, lt, length_is))));
   }

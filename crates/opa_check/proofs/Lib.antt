@@ -1,4 +1,5 @@
 pub mod FoundLaws
 pub mod ScopeSteps
 pub mod SetLaws
+pub mod TakeLaws
 pub mod UseLaws

@@ -45,10 +45,10 @@ or_first : (o : Option Rule) (rule : Rule) → option_map (λ r. mentions r.expr
 or_first None rule is = refl
 or_first (Some r) rule is = cc
 
-same_place : (m n : ℕ) → (m == n) ≡ true → n ≡ m
+pub same_place : (m n : ℕ) → (m == n) ≡ true → n ≡ m
 same_place m n is = grind (arith, is)
 
-other_place : (m n : ℕ) → (m == n) ≡ false → n ≢ m
+pub other_place : (m n : ℕ) → (m == n) ≡ false → n ≢ m
 other_place m n is = λ same. false≢true (sym is ∙ (let own : (m == n) ≡ true = grind (arith, same) in own))
 
 module _ (count : ℕ) (before : List Rule) (rule : Rule) (uses : List (Option (List AttrId))) (are : AreUses count before uses) where

@@ -45,13 +45,18 @@ found_count [] = 0
 found_count (None ∷ ranks) = found_count ranks
 found_count (Some n ∷ ranks) = 1 + found_count ranks
 
--- each rank that is found is that of its attribute, and none is above the number of those that are found
-pub record AreFound (count : ℕ) (rules : List Rule) (ranks : List (Option ℕ)) (taken : ℕ) : Type 0 where
-  pub for_each : length ranks ≡ count
+-- Each rank that is found is the one that an attribute has by what its rule mentions, and none is above the number of those
+-- that are found.
+pub record AreFound (uses : List (Option (List AttrId))) (ranks : List (Option ℕ)) (taken : ℕ) : Type 0 where
+  pub for_each : length ranks ≡ length uses
   pub counted : found_count ranks ≡ taken
-  pub right : (a : AttrId) (n : ℕ) → slice_get ranks a.0 ≡ Some (Some n) → found_by ranks (uses_by rules a) ≡ Some n
+  pub right : (a : AttrId) (n : ℕ) (u : Option (List AttrId)) → slice_get ranks a.0 ≡ Some (Some n) → slice_get uses a.0 ≡ Some u → found_by ranks u ≡ Some n
   pub low : (a : AttrId) (n : ℕ) → slice_get ranks a.0 ≡ Some (Some n) → n ≤ taken
 
+-- no rank of the attribute can be found
+abbrev pub IsDone : List (Option (List AttrId)) → List (Option ℕ) → AttrId → Type 0
+IsDone uses ranks a = (u : Option (List AttrId)) → slice_get ranks a.0 ≡ Some None → slice_get uses a.0 ≡ Some u → found_by ranks u ≡ None
+
 -- no more ranks can be found
-abbrev pub AreAll : List Rule → List (Option ℕ) → Type 0
-AreAll rules ranks = (a : AttrId) → slice_get ranks a.0 ≡ Some None → found_by ranks (uses_by rules a) ≡ None
+abbrev pub AreAll : List (Option (List AttrId)) → List (Option ℕ) → Type 0
+AreAll uses ranks = (a : AttrId) → IsDone uses ranks a

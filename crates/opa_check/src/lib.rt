@@ -3,6 +3,8 @@
 
 mod declared;
 mod kinds;
+mod order;
+mod ranks;
 mod scopes;
 mod sets;
 mod uses;
