@@ -124,12 +124,12 @@ found_grows old new (Some ms) n more is = here (highest_found (map (rank_found o
     here None e is = cc
     here (Some k) e is = ap (option_map (λ j. 1 + j)) (highest_grows (rank_found old) (rank_found new) ms k more e) ∙ is
 
-past : (ranks : List (Option ℕ)) (n : ℕ) → n < length ranks → slice_get ranks n ≡ None → ⊥
+pub past : (ranks : List (Option ℕ)) (n : ℕ) → n < length ranks → slice_get ranks n ≡ None → ⊥
 past [] n lt is = omega (arith, lt)
 past (x ∷ ranks) zero lt is = cc
 past (x ∷ ranks) (suc n) lt is = past ranks n (omega (arith, lt)) is
 
-unranked : (o : Option (Option ℕ)) → or_zero o ≡ None → o ≡ Some None
+pub unranked : (o : Option (Option ℕ)) → or_zero o ≡ None → o ≡ Some None
 unranked None is = cc
 unranked (Some x) is = ap Some is
 

@@ -4,3 +4,4 @@ pub mod Found
 pub mod KindSets
 pub mod Refused
 pub mod RowScopes
+pub mod Settled

@@ -1,6 +1,7 @@
 //! The check of rules: what is reached, of which kinds it is, one rule for each attribute, and no circles.
 #![tactic(auto, using(crate::proofs::SetLaws::same_typing))]
 
+mod circle;
 mod declared;
 mod kinds;
 mod order;
