@@ -1,7 +1,10 @@
 pub mod CircleLaws
+pub mod FaultLaws
 pub mod FoundLaws
+pub mod MarkLaws
 pub mod ScopeSteps
 pub mod SetLaws
 pub mod TakeLaws
 pub mod UseLaws
+pub mod VerdictLaws
 pub mod WalkLaws

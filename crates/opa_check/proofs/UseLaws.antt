@@ -30,7 +30,7 @@ module _ {X : Type 0} where
   set_length (y ∷ xs) (suc i) x = ap suc (set_length xs i x)
 
 -- a rule that comes after others concludes its attribute where none of them does
-rule_after : (before : List Rule) (rule : Rule) (a : AttrId) (t : Bool) → concludes a rule ≡ t → rule_of (before ++ rule ∷ []) a ≡ option_or (rule_of before a) (cond t (Some rule) None)
+pub rule_after : (before : List Rule) (rule : Rule) (a : AttrId) (t : Bool) → concludes a rule ≡ t → rule_of (before ++ rule ∷ []) a ≡ option_or (rule_of before a) (cond t (Some rule) None)
 rule_after before rule a t is = find-append (concludes a) before (rule ∷ []) ∙ ap (λ b. option_or (rule_of before a) (cond b (Some rule) None)) is
 
 or_none : (o : Option Rule) → option_or o None ≡ o

@@ -73,7 +73,7 @@ fn unvisited(alloc: Global, count: usize) -> Result<Vec<bool>, NoMemory>
 }
 
 /// The circle that an attribute without a rank leads to.
-fn circle(
+pub fn circle(
     alloc: Global,
     rules: &[Rule],
     uses: &[Option<List<AttrId>>],

@@ -3,9 +3,13 @@
 
 mod circle;
 mod declared;
+mod faults;
 mod kinds;
 mod order;
 mod ranks;
 mod scopes;
 mod sets;
 mod uses;
+mod verdict;
+
+pub use verdict::check;
