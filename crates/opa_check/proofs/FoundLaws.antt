@@ -193,12 +193,12 @@ module _ (rules : List Rule) (ranks : List (Option ℕ)) (all : (a : AttrId) →
   is_left a none (suc n) = left_step n a none (λ b there. is_left b there n) (rule_of rules a) refl
 
 -- the ranks, where each is found
-complete_at : (values : List ℕ) (n : ℕ) → or_zero (slice_get (map (λ (v : ℕ). Some v) values) n) ≡ Some (slice_index_or values n 0)
+pub complete_at : (values : List ℕ) (n : ℕ) → or_zero (slice_get (map (λ (v : ℕ). Some v) values) n) ≡ Some (slice_index_or values n 0)
 complete_at [] n = refl
 complete_at (v ∷ values) zero = refl
 complete_at (v ∷ values) (suc n) = complete_at values n
 
-within_at : (values : List ℕ) (n : ℕ) → n < length values → slice_get (map (λ (v : ℕ). Some v) values) n ≡ Some (Some (slice_index_or values n 0))
+pub within_at : (values : List ℕ) (n : ℕ) → n < length values → slice_get (map (λ (v : ℕ). Some v) values) n ≡ Some (Some (slice_index_or values n 0))
 within_at [] n lt = absurd (omega (arith, lt))
 within_at (v ∷ values) zero lt = refl
 within_at (v ∷ values) (suc n) lt = within_at values n (omega (arith, lt))

@@ -1,7 +1,10 @@
+pub mod AcceptedLaws
 pub mod CircleLaws
+pub mod ExistLaws
 pub mod FaultLaws
 pub mod FoundLaws
 pub mod MarkLaws
+pub mod RoundLaws
 pub mod ScopeSteps
 pub mod SetLaws
 pub mod TakeLaws

@@ -5,6 +5,7 @@ mod circle;
 mod declared;
 mod faults;
 mod kinds;
+mod laws;
 mod order;
 mod ranks;
 mod scopes;
@@ -12,4 +13,5 @@ mod sets;
 mod uses;
 mod verdict;
 
+pub use laws::{accepted_are_not_refused, circles_are_round, ranks_exist};
 pub use verdict::check;
