@@ -46,6 +46,7 @@ apart before rule r free differ = ap (λ o. is_some o) (rule_after before rule r
   where
     same_id : (m n : ℕ) → (m == n) ≡ true → m ≡ n
     same_id m n e = grind (arith, e)
+
     here : (t : Bool) → concludes r.attr rule ≡ t → (o : Option Rule) → is_some o ≡ false → is_some (option_or o (cond t (Some rule) None)) ≡ false
     here true e o f = absurd (differ (ap (λ (n : ℕ). let x : AttrId = record { 0 = n } in x) (same_id rule.attr.0 r.attr.0 e)))
     here false e None f = refl
@@ -59,8 +60,8 @@ no_second before [] free differ = refl
 no_second before (rule ∷ rules) free differ =
     ap (λ (t : Bool). when t (fault_at Twice rule) ++ second_faults (before ++ rule ∷ []) rules) (All-head (IsFree before) rule rules free)
     ∙ no_second (before ++ rule ∷ []) rules
-        (still_free before rule rules (All-tail (IsFree before) rule rules free) (λ k d lt. differ 0 (suc k) d (omega arith) (omega (arith, lt))))
-        (λ i j d lt within. differ (suc i) (suc j) d (omega (arith, lt)) (omega (arith, within)))
+    (still_free before rule rules (All-tail (IsFree before) rule rules free) (λ k d lt. differ 0 (suc k) d (omega arith) (omega (arith, lt))))
+    (λ i j d lt within. differ (suc i) (suc j) d (omega (arith, lt)) (omega (arith, within)))
 
 none_concluded : (rules : List Rule) → All (IsFree []) rules
 none_concluded [] = All-nil (IsFree [])

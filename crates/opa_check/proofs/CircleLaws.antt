@@ -31,6 +31,7 @@ module _ {X : Type 0} (p : X → Bool) where
     where
       later : (y : X) (xs : List X) (x : X) → p y ≡ false → IsFound p xs x → IsFound p (y ∷ xs) x
       later y xs x e f = record { before = y ∷ f.before; after = f.after; is = ap (λ ys. y ∷ ys) f.is; passes = f.passes; others = All-cons (λ z. p z ≡ false) y f.before e f.others }
+
       here : (y : X) (xs : List X) (x : X) → (find p xs ≡ Some x → IsFound p xs x) → (t : Bool) → p y ≡ t → cond t (Some y) (find p xs) ≡ Some x → IsFound p (y ∷ xs) x
       here y xs x rest true e h =
           let same : y ≡ x = cc in
@@ -115,6 +116,7 @@ module _ (rules : List Rule) (uses : List (Option (List AttrId))) (ranks : List 
     where
       found : (b : AttrId) × (Contains ms b × (rank_found ranks b ≡ None)) → ⊥
       found (b, (there, e)) = find_has (λ x. not (is_some (rank_found ranks x))) ms b there (none_passes (rank_found ranks b) e) none
+
       by : (y : Option ℕ) → highest_found (map (rank_found ranks) ms) ≡ y → option_map (λ k. 1 + k) (highest_found (map (rank_found ranks) ms)) ≡ None → ⊥
       by None e h = found (one_missing (rank_found ranks) ms e)
       by (Some k) e h = some_none (1 + k) (sym (ap (option_map (λ j. 1 + j)) e) ∙ h)

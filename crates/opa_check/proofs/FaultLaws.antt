@@ -91,7 +91,7 @@ all_free before [] h = All-nil (IsFree before)
 all_free before (rule ∷ rules) h =
     All-cons (IsFree before) rule rules (fails (is_some (rule_of before rule.attr)) (fault_at Twice rule) (none_left _ (second_faults (before ++ rule ∷ []) rules) h))
     (all_by (IsFree (before ++ rule ∷ [])) (IsFree before) rules (λ r free. free_before before rule r (concludes r.attr rule) refl (free_of before rule r free))
-        (all_free (before ++ rule ∷ []) rules (none_right (when (is_some (rule_of before rule.attr)) (fault_at Twice rule)) _ h)))
+    (all_free (before ++ rule ∷ []) rules (none_right (when (is_some (rule_of before rule.attr)) (fault_at Twice rule)) _ h)))
 
 no_pairs : {X : Type 0} (R : X → X → Type 0) → AllPairs R []
 no_pairs R i j d lt within = absurd (omega arith)

@@ -56,6 +56,7 @@ gone rules (suc m) n a le is = here rules m n a le is (λ within. gone rules m n
     later : (rules : List Rule) (m : ℕ) (a : AttrId) (t : Bool) → stays rules (suc m) a ≡ t → stays rules m a ≡ false → stays rules (suc m) a ≡ false
     later rules m a true e before = absurd (false≢true (sym before ∙ stays_before rules m a e))
     later rules m a false e before = e
+
     here : (rules : List Rule) (m n : ℕ) (a : AttrId) → n ≤ suc m → stays rules n a ≡ false → (n ≤ m → stays rules m a ≡ false) → (t : Bool) → nat_le n m ≡ t → stays rules (suc m) a ≡ false
     here rules m n a le is rest true e = let within : n ≤ m = grind (arith, e) in later rules m a (stays rules (suc m) a) refl (rest within)
     here rules m n a le is rest false e = let same : n ≡ suc m = grind (arith, e, le) in subst (λ k. stays rules k a ≡ false) same is
@@ -67,6 +68,7 @@ each_found f (m ∷ ms) n is b h = here f m ms n b (λ j rest there. each_found 
   where
     deeper : (f : AttrId → Option ℕ) (b : AttrId) (n j k : ℕ) → max k j ≡ n → (i : ℕ) × ((f b ≡ Some i) × (i ≤ j)) → (i : ℕ) × ((f b ≡ Some i) × (i ≤ n))
     deeper f b n j k top (i, (is, low)) = (i, (is, omega (arith, low, top)))
+
     here : (f : AttrId → Option ℕ) (m : AttrId) (ms : List AttrId) (n : ℕ) (b : AttrId) → ((j : ℕ) → highest_found (map f ms) ≡ Some j → Contains ms b → (i : ℕ) × ((f b ≡ Some i) × (i ≤ j)))
         → (x y : Option ℕ) → f m ≡ x → highest_found (map f ms) ≡ y → higher x y ≡ Some n → (m ≡ b) ⊎ Contains ms b → (k : ℕ) × ((f b ≡ Some k) × (k ≤ n))
     here f m ms n b rest None y e others is c = cc
@@ -81,6 +83,7 @@ one_missing f (m ∷ ms) is = here f m ms (one_missing f ms) (f m) (highest_foun
   where
     deeper : (f : AttrId → Option ℕ) (m : AttrId) (ms : List AttrId) → (b : AttrId) × (Contains ms b × (f b ≡ None)) → (b : AttrId) × (Contains (m ∷ ms) b × (f b ≡ None))
     deeper f m ms (b, (there, is)) = (b, (contains_tail m b ms there, is))
+
     here : (f : AttrId → Option ℕ) (m : AttrId) (ms : List AttrId) → (highest_found (map f ms) ≡ None → (b : AttrId) × (Contains ms b × (f b ≡ None)))
         → (x y : Option ℕ) → f m ≡ x → highest_found (map f ms) ≡ y → higher x y ≡ None → (b : AttrId) × (Contains (m ∷ ms) b × (f b ≡ None))
     here f m ms rest None y e others is = (m, (contains_head m ms, e))
@@ -177,6 +180,7 @@ module _ (rules : List Rule) (ranks : List (Option ℕ)) (all : (a : AttrId) →
     where
       found : (b : AttrId) × (Contains (mentions r.expr) b × (rank_found ranks b ≡ None)) → list_any (stays rules n) (mentions r.expr) ≡ true
       found (b, (there, none)) = any_true (stays rules n) (mentions r.expr) b there (before b (unranked (slice_get ranks b.0) none))
+
       by : (y : Option ℕ) → highest_found (map (rank_found ranks) (mentions r.expr)) ≡ y → option_map (λ k. 1 + k) (highest_found (map (rank_found ranks) (mentions r.expr))) ≡ None → list_any (stays rules n) (mentions r.expr) ≡ true
       by None e h = found (one_missing (rank_found ranks) (mentions r.expr) e)
       by (Some k) e h = let bad : Some (1 + k) ≡ None = sym (ap (option_map (λ k. 1 + k)) e) ∙ h in cc
@@ -208,7 +212,7 @@ module _ (count : ℕ) (rules : List Rule) (values : List ℕ) (length_is : leng
   rank_is a n None of is = cc
   rank_is a n (Some r) of is =
       let whole : Some (1 + highest (map (rank_at values) (mentions r.expr))) ≡ Some n =
-          sym (ap (option_map (λ k. 1 + k)) (highest_is (rank_found (map (λ (v : ℕ). Some v) values)) (rank_at values) (mentions r.expr) (λ b. complete_at values b.0))) ∙ is in
+      sym (ap (option_map (λ k. 1 + k)) (highest_is (rank_found (map (λ (v : ℕ). Some v) values)) (rank_at values) (mentions r.expr) (λ b. complete_at values b.0))) ∙ is in
       let same : 1 + highest (map (rank_at values) (mentions r.expr)) ≡ n = cc in sym same
 
   pub are_ranks : AreRanks count rules values

@@ -30,6 +30,7 @@ leads_from rules (x ∷ walk) a h there = here rules x walk a h (leads_from rule
       where
         itself : (n : ℕ) → (n == n) ≡ true
         itself n = grind arith
+
     here : (rules : List Rule) (x : AttrId) (walk : List AttrId) (a : AttrId) → LeadsTo rules (x ∷ walk) a → (LeadsTo rules walk a → Contains walk a → LeadsTo rules (from_visit a walk) a)
         → (t : Bool) → (a.0 == x.0) ≡ t → (x ≡ a) ⊎ Contains walk a → LeadsTo rules (cond t (x ∷ walk) (from_visit a walk)) a
     here rules x walk a h rest true e c = h

@@ -87,13 +87,13 @@ module _ (uses : List (Option (List AttrId))) (ranks : List (Option ℕ)) (taken
           subst (λ w. found_by (slice_set ranks p (Some n)) w ≡ Some m) own (subst (λ (k : ℕ). found_by (slice_set ranks p (Some n)) u ≡ Some k) same (found_grows ranks (slice_set ranks p (Some n)) u n grows is))
       right_by a m v at used false e =
           found_grows ranks (slice_set ranks p (Some n)) v m grows (found.right a m v (sym (set_other ranks p a.0 (Some n) (other_place p a.0 e)) ∙ at) used)
+
       low_by : (a : AttrId) (m : ℕ) → slice_get (slice_set ranks p (Some n)) a.0 ≡ Some (Some m) → (t : Bool) → (p == a.0) ≡ t → m ≤ taken + 1
       low_by a m at true e =
           let here : slice_get (slice_set ranks p (Some n)) p ≡ Some (Some m) = subst (λ (j : ℕ). slice_get (slice_set ranks p (Some n)) j ≡ Some (Some m)) (same_place p a.0 e) at in
           let whole : Some (Some n) ≡ Some (Some m) = sym set_at ∙ here in
           let same : n ≡ m = cc in let own : n ≤ taken + 1 = own_low u is in omega (arith, same, own)
       low_by a m at false e = let old : m ≤ taken = found.low a m (sym (set_other ranks p a.0 (Some n) (other_place p a.0 e)) ∙ at) in omega (arith, old)
-
 
 -- no rank is found yet
 none_counted : (ranks : List (Option ℕ)) → ((n : ℕ) → n < length ranks → slice_get ranks n ≡ Some None) → found_count ranks ≡ 0

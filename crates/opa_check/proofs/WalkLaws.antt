@@ -63,15 +63,19 @@ module _ (rules : List Rule) (ranks : List (Option ℕ)) (start : AttrId) (walk 
     where
       fresh : Contains walk at → ⊥
       fresh h = let both : Some false ≡ Some true = sym new ∙ w.marks at h in let bad : false ≡ true = cc in false≢true bad
+
       marked_by : (x : AttrId) → slice_get (slice_set visited at.0 true) x.0 ≡ Some true → (t : Bool) → (at.0 == x.0) ≡ t → Contains (walk ++ at ∷ []) x
       marked_by x h true e = Contains-append_right walk (at ∷ []) x (subst (λ (y : AttrId). Contains (at ∷ []) y) (one_id at x e) (contains_head at []))
       marked_by x h false e = Contains-append_left walk (at ∷ []) x (w.marked x (sym (set_other visited at.0 x.0 true (other_place at.0 x.0 e)) ∙ h))
+
       kept : (x : AttrId) → slice_get visited x.0 ≡ Some true → (t : Bool) → (at.0 == x.0) ≡ t → slice_get (slice_set visited at.0 true) x.0 ≡ Some true
       kept x h true e = let both : Some false ≡ Some true = sym new ∙ subst (λ (j : ℕ). slice_get visited j ≡ Some true) (same_place at.0 x.0 e) h in let bad : false ≡ true = cc in absurd (false≢true bad)
       kept x h false e = set_other visited at.0 x.0 true (other_place at.0 x.0 e) ∙ h
+
       own : (x : AttrId) → (at ≡ x) ⊎ Contains [] x → slice_get (slice_set visited at.0 true) x.0 ≡ Some true
       own x (inl same) = subst (λ (y : AttrId). slice_get (slice_set visited at.0 true) y.0 ≡ Some true) same (set_same visited at.0 true (slice_get_within visited at.0 false new))
       own x (inr h) = absurd (none_in x h)
+
       marks_by : (x : AttrId) → Contains walk x ⊎ Contains (at ∷ []) x → slice_get (slice_set visited at.0 true) x.0 ≡ Some true
       marks_by x (inl h) = kept x (w.marks x h) (at.0 == x.0) refl
       marks_by x (inr h) = own x (contains_cases at x [] h)

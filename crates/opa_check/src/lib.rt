@@ -15,3 +15,6 @@ mod verdict;
 
 pub use laws::{accepted_are_not_refused, circles_are_round, ranks_exist};
 pub use verdict::check;
+
+#[cfg(test)]
+mod tests;

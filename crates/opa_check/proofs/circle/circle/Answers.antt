@@ -20,7 +20,7 @@ loop-visited-preserved c =
     let lt : a.0 < length visited = (let n : a.0 < length c.args.ranks.now = slice_get_within c.args.ranks.now a.0 None w.is_open in omega (arith, n, w.for_each)) in
     let new : slice_get visited a.0 ≡ Some false = slice_get-get_or visited a.0 c.index.result.now lt ∙ ap Some (sym c.index.ensures ∙ c.loop-visited-test.true) in
     subst (λ (walk : List AttrId). Walks c.args.rules.now c.args.ranks.now c.args.start walk c.next_open-at.result (slice_set visited a.0 true)) (sym c.in_ok-push.ensures.ok)
-        (walks_on c.args.rules.now c.args.ranks.now c.args.start c.loop-visited.walk a visited w c.next_open-at.result new c.next_open-at.ensures.next c.next_open-at.ensures.is_open)
+    (walks_on c.args.rules.now c.args.ranks.now c.args.start c.loop-visited.walk a visited w c.next_open-at.result new c.next_open-at.ensures.next c.next_open-at.ensures.is_open)
 
 pub returns-clause-circle : goal.returns-clause-circle
 returns-clause-circle c =

@@ -11,7 +11,7 @@ unreachable-requires c =
     let lt : a.0 < s.count = within rules uses ranks s a None c.requires.is_open in
     let used : slice_get uses a.0 ≡ Some (Some c.in-Some.mentioned) = slice_get-get_or uses a.0 c.index-uses-at.result (omega (arith, lt, s.used.for_each)) ∙ ap Some (sym c.index-uses-at.is ∙ c.in-Some.is) in
     never_missing rules uses ranks s a c.in-Some.mentioned c.requires.is_open used
-        (ap (find (λ b. not (is_some (rank_found ranks b)))) (sym c.as_slice.ensures) ∙ sym c.first_open.ensures ∙ c.in-None-first_open.is)
+    (ap (find (λ b. not (is_some (rank_found ranks b)))) (sym c.as_slice.ensures) ∙ sym c.first_open.ensures ∙ c.in-None-first_open.is)
 
 pub unreachable-requires-in-None : goal.unreachable-requires-in-None
 unreachable-requires-in-None c =
@@ -25,7 +25,7 @@ returns-clause-next c =
     let lt : a.0 < s.count = within rules uses ranks s a None c.requires.is_open in
     let used : slice_get uses a.0 ≡ Some (Some c.in-Some.mentioned) = slice_get-get_or uses a.0 c.index-uses-at.result (omega (arith, lt, s.used.for_each)) ∙ ap Some (sym c.index-uses-at.is ∙ c.in-Some.is) in
     let w = next_is rules uses ranks s a c.in-Some-first_open.next c.in-Some.mentioned c.requires.is_open used
-        (ap (find (λ b. not (is_some (rank_found ranks b)))) (sym c.as_slice.ensures) ∙ sym c.first_open.ensures ∙ c.in-Some-first_open.is) in w.0
+    (ap (find (λ b. not (is_some (rank_found ranks b)))) (sym c.as_slice.ensures) ∙ sym c.first_open.ensures ∙ c.in-Some-first_open.is) in w.0
 
 pub returns-clause-is_open : goal.returns-clause-is_open
 returns-clause-is_open c =
@@ -33,4 +33,4 @@ returns-clause-is_open c =
     let lt : a.0 < s.count = within rules uses ranks s a None c.requires.is_open in
     let used : slice_get uses a.0 ≡ Some (Some c.in-Some.mentioned) = slice_get-get_or uses a.0 c.index-uses-at.result (omega (arith, lt, s.used.for_each)) ∙ ap Some (sym c.index-uses-at.is ∙ c.in-Some.is) in
     let w = next_is rules uses ranks s a c.in-Some-first_open.next c.in-Some.mentioned c.requires.is_open used
-        (ap (find (λ b. not (is_some (rank_found ranks b)))) (sym c.as_slice.ensures) ∙ sym c.first_open.ensures ∙ c.in-Some-first_open.is) in w.1
+    (ap (find (λ b. not (is_some (rank_found ranks b)))) (sym c.as_slice.ensures) ∙ sym c.first_open.ensures ∙ c.in-Some-first_open.is) in w.1

@@ -76,7 +76,7 @@ kinds_of-returns-in_ok-kinds-in-Table t c =
     let m = c.args.model.now in
     let last : typing_of c.in_ok-kinds-in-Table.kinds ≡ typing m c.in-Table.last = c.in_ok-kinds-in-Table.ensures ∙ ap (typing m) c.get-in-Table.ensures in
     let rows : typing_of c.meet.result ≡ typed (λ k. list_all (λ row. row k) (map (row_typing m) c.in-Table.rows)) =
-        c.meet.ensures ∙ ap (λ (xs : List Typing). typed (all_can xs)) (ap (map typing_of) c.deref-in-Table.ensures.value ∙ c.in_ok-sets-in-Table.ensures ∙ ap (map (row_typed m)) c.as_slice-in-Table.ensures) ∙ rows_can m c.in-Table.rows in
+    c.meet.ensures ∙ ap (λ (xs : List Typing). typed (all_can xs)) (ap (map typing_of) c.deref-in-Table.ensures.value ∙ c.in_ok-sets-in-Table.ensures ∙ ap (map (row_typed m)) c.as_slice-in-Table.ensures) ∙ rows_can m c.in-Table.rows in
     c.and.ensures ∙ ap₂ (λ (s u : Typing). typed (λ k. s.can k && u.can k)) rows last
     ∙ sym (typing-Table m c.in-Table.rows c.in-Table.last) ∙ ap (typing m) (sym c.in-Table.is)
 

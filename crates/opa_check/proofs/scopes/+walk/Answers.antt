@@ -44,8 +44,8 @@ pub is_reached-returns-in_ok-rest-in-Table : goal.is_reached-returns-in_ok-rest-
 is_reached-returns-in_ok-rest-in-Table t c =
     let m = c.args.model.now in let at = c.args.enclosing.now in
     c.both-in-Table.ensures ∙ ap₂ (λ (a b : Bool). a && b)
-        (c.in_ok-all-in-Table.ensures ∙ ap (list_all (row_reached m at)) c.as_slice-in-Table.ensures ∙ row_scopes m at c.in-Table.rows)
-        (c.in_ok-rest-in-Table.ensures ∙ ap (λ e. is_reached m e at) c.get-in-Table.ensures)
+    (c.in_ok-all-in-Table.ensures ∙ ap (list_all (row_reached m at)) c.as_slice-in-Table.ensures ∙ row_scopes m at c.in-Table.rows)
+    (c.in_ok-rest-in-Table.ensures ∙ ap (λ e. is_reached m e at) c.get-in-Table.ensures)
     ∙ ap (λ (s : Scope). s at) (sym (scope-Table m c.in-Table.rows c.in-Table.last) ∙ ap (is_reached m) (sym c.in-Table.is))
 
 pub is_reached-returns-in_ok-all-in-Some : goal.is_reached-returns-in_ok-all-in-Some
@@ -53,6 +53,6 @@ is_reached-returns-in_ok-all-in-Some t c =
     let m = c.args.model.now in let at = c.args.enclosing.now in
     let inner : List EntityId = c.in-Some.relation.now.target ∷ at in
     c.both.ensures ∙ ap₂ (λ (a b : Bool). a && b) c.encloses.ensures
-        (c.in_ok-all-in-Some.ensures ∙ ap₂ (λ (here : List EntityId) es. list_all (λ e. is_reached m e here) es) (c.deref.ensures.value ∙ c.in_ok-inner-in-Some.ensures) c.as_slice-in-Some.ensures ∙ all_scopes m inner c.in-Over.parts)
+    (c.in_ok-all-in-Some.ensures ∙ ap₂ (λ (here : List EntityId) es. list_all (λ e. is_reached m e here) es) (c.deref.ensures.value ∙ c.in_ok-inner-in-Some.ensures) c.as_slice-in-Some.ensures ∙ all_scopes m inner c.in-Over.parts)
     ∙ ap (λ (o : Option Relation). option_map_or (λ x. encloses m at x.source && all_reached (map (is_reached m) c.in-Over.parts) (x.target ∷ at)) o false) c.in-Some.ensures
     ∙ ap (λ (s : Scope). s at) (sym (scope-Over m c.in-Over.field-0 c.in-Over.rel c.in-Over.parts) ∙ ap (is_reached m) (sym c.in-Over.is))

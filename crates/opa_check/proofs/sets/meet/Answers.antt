@@ -7,17 +7,19 @@ use Rattle.opa_check.proofs.SetLaws.{meets_more, meets_none}
 use Rattle.opa_check.proofs.sets.meet.Goals as goal
 
 pub loop-set-init : goal.loop-set-init
-loop-set-init c =
-    (ap (λ (t : Typing). t.is_decimals) c.every-kinds.ensures,
-    ap (λ (f : Kind → Bool). typed (λ k. f k && all_can (map typing_of c.args.sets.now) k)) (ap (λ (t : Typing). t.can) c.every-kinds.ensures))
+loop-set-init c = (
+  ap (λ (t : Typing). t.is_decimals) c.every-kinds.ensures,
+  ap (λ (f : Kind → Bool). typed (λ k. f k && all_can (map typing_of c.args.sets.now) k)) (ap (λ (t : Typing). t.can) c.every-kinds.ensures),
+)
 
 pub loop-set-preserved : goal.loop-set-preserved
-loop-set-preserved c =
-    (ap (λ (t : Typing). t.is_decimals) c.and-kinds.ensures,
-    ap (λ (f : Kind → Bool). typed (λ k. f k && all_can (map typing_of c.in-Some.later.now) k)) (ap (λ (t : Typing). t.can) c.and-kinds.ensures)
-    ∙ meets_more (has c.loop-set.kinds) (has c.in-Some.set.now) (all_can (map typing_of c.in-Some.later.now))
-    ∙ ap (λ (xs : List KindSet). typed (λ k. has c.loop-set.kinds k && all_can (map typing_of xs) k)) (sym c.in-Some.ensures)
-    ∙ c.loop-set.invariant.1)
+loop-set-preserved c = (
+  ap (λ (t : Typing). t.is_decimals) c.and-kinds.ensures,
+  ap (λ (f : Kind → Bool). typed (λ k. f k && all_can (map typing_of c.in-Some.later.now) k)) (ap (λ (t : Typing). t.can) c.and-kinds.ensures)
+      ∙ meets_more (has c.loop-set.kinds) (has c.in-Some.set.now) (all_can (map typing_of c.in-Some.later.now))
+      ∙ ap (λ (xs : List KindSet). typed (λ k. has c.loop-set.kinds k && all_can (map typing_of xs) k)) (sym c.in-Some.ensures)
+      ∙ c.loop-set.invariant.1,
+)
 
 pub returns : goal.returns
 returns c =

@@ -18,7 +18,7 @@ pub returns-in-None-clause-ranks : goal.returns-in-None-clause-ranks
 returns-in-None-clause-ranks c =
     let rules = c.args.rules.now in let uses = c.in_ok-uses.uses.items in let ranks = c.in_ok-ranking.ranking.ranks.items in
     let settled : AreSettled rules uses ranks = settled_by rules c.as_slice-2.result.now uses c.deref.result.now ranks (length c.args.model.now.attributes) c.attribute_count.result c.in_ok-ranking.ranking.taken
-        c.requires.declared c.attribute_count.ensures.count c.as_slice-2.ensures c.deref.ensures.value c.in_ok-uses.ensures c.in_ok-ranking.ensures.found c.in_ok-ranking.ensures.all in
+    c.requires.declared c.attribute_count.ensures.count c.as_slice-2.ensures c.deref.ensures.value c.in_ok-uses.ensures c.in_ok-ranking.ensures.found c.in_ok-ranking.ensures.all in
     let none : position (λ r. not (is_some r)) ranks ≡ None = ap (position (λ r. not (is_some r))) (sym c.deref-2.ensures.value) ∙ sym c.first_open.ensures ∙ c.in-None.is in
     subst (λ (values : List ℕ). AreRanks (length c.args.model.now.attributes) rules values) (sym (c.in_ok-found_ranks-in-None.ensures ∙ ap (map (λ r. unwrap_or r 0)) c.deref-in-None.ensures.value)) (ranks_by rules uses ranks settled none)
 
@@ -32,6 +32,6 @@ pub circle_fault-requires-clause-least : goal.circle_fault-requires-clause-least
 circle_fault-requires-clause-least c =
     let rules = c.args.rules.now in let uses = c.in_ok-uses.uses.items in let ranks = c.in_ok-ranking.ranking.ranks.items in let a : AttrId = record { 0 = c.in-Some-first_open.place } in
     let settled : AreSettled rules uses ranks = settled_by rules c.as_slice-2.result.now uses c.deref.result.now ranks (length c.args.model.now.attributes) c.attribute_count.result c.in_ok-ranking.ranking.taken
-        c.requires.declared c.attribute_count.ensures.count c.as_slice-2.ensures c.deref.ensures.value c.in_ok-uses.ensures c.in_ok-ranking.ensures.found c.in_ok-ranking.ensures.all in
+    c.requires.declared c.attribute_count.ensures.count c.as_slice-2.ensures c.deref.ensures.value c.in_ok-uses.ensures c.in_ok-ranking.ensures.found c.in_ok-ranking.ensures.all in
     let some : position (λ r. not (is_some r)) ranks ≡ Some a.0 = ap (position (λ r. not (is_some r))) (sym c.deref-2.ensures.value) ∙ sym c.first_open.ensures ∙ c.in-Some-first_open.is in
     least_at rules uses ranks settled a some

@@ -21,15 +21,15 @@ unreachable-requires-in-None-of c =
 pub returns : goal.returns
 returns c =
     let h = c.in-Some.ensures in record {
-    start = c.args.start;
-    least = c.requires.least;
-    circle = subst (λ (rules : List Rule). Circles rules [] c.args.start c.in_ok-cycle.cycle) c.as_slice.ensures c.in_ok-cycle.ensures.circle;
-    first = c.in-Some.first;
-    more = h.0;
-    begins = sym c.as_slice-2.ensures ∙ h.1;
-    rule = c.in-Some-of.rule.now;
-    of_first = sym c.of.ensures ∙ ap option_copied c.in-Some-of.is;
-    file = refl;
-    line = refl;
-    kind = refl;
-  }
+      start = c.args.start;
+      least = c.requires.least;
+      circle = subst (λ (rules : List Rule). Circles rules [] c.args.start c.in_ok-cycle.cycle) c.as_slice.ensures c.in_ok-cycle.ensures.circle;
+      first = c.in-Some.first;
+      more = h.0;
+      begins = sym c.as_slice-2.ensures ∙ h.1;
+      rule = c.in-Some-of.rule.now;
+      of_first = sym c.of.ensures ∙ ap option_copied c.in-Some-of.is;
+      file = refl;
+      line = refl;
+      kind = refl;
+    }
