@@ -1,0 +1,59 @@
+-- Counts of answers and of slots against their limits.
+use Rattle.std.specs.Prelude.{◌≡◌, ◌≤◌, ◌<◌, ◌+◌, ◌-◌, ℕ, zero, suc, nat_lt, nat_le, Bool, true, false, cond, List, is_some, refl}
+use Rattle.std.specs.FinMap.{FinMap, get, insert, remove, len, len-insert, len-remove}
+use Rattle.std.proofs.Common.{arith, tests, rules, ap, sym, subst, ◌∙◌}
+use Rattle.std.proofs.lemmas.Bool.{lt-ltb}
+use Rattle.opa_cells.specs.declared.instance.InstanceId.{InstanceId}
+use Rattle.opa_cells.specs.Keys.{cell_cmp}
+use Rattle.opa_cells.proofs.Orders.{cell_total}
+use Rattle.opa_case.specs.Cases.{Answer}
+use Rattle.opa_case.specs.Shapes.{Shape}
+use Rattle.opa_case.specs.Live.{Population}
+use Rattle.opa_case.specs.Steps.{slots_of, slots_upto}
+
+one_over : (n : ℕ) → nat_le 100000 n ≡ nat_lt 100000 (n + 1)
+one_over n = search (tests, arith, rules)
+
+one_less : (n : ℕ) → nat_lt 100001 n ≡ nat_lt 100000 (n - 1)
+one_less n = search (tests, arith, rules)
+
+module _ (m : FinMap cell_cmp Answer) (k : ℕ × InstanceId) where
+  pub over_with : (line : Answer) → is_some (get m k) ≡ true → nat_lt 100000 (len m) ≡ nat_lt 100000 (len (insert m k line))
+  over_with line has = ap (nat_lt 100000) (sym (len-insert cell_total m k line ∙ ap (λ b. cond b (len m) (len m + 1)) has))
+
+  pub over_with_new : (line : Answer) → is_some (get m k) ≡ false → nat_le 100000 (len m) ≡ nat_lt 100000 (len (insert m k line))
+  over_with_new line has = one_over (len m) ∙ ap (nat_lt 100000) (sym (len-insert cell_total m k line ∙ ap (λ b. cond b (len m) (len m + 1)) has))
+
+  pub over_without : is_some (get m k) ≡ true → nat_lt 100001 (len m) ≡ nat_lt 100000 (len (remove m k))
+  over_without has = one_less (len m) ∙ ap (nat_lt 100000) (sym (len-remove cell_total m k ∙ ap (λ b. cond b (len m - 1) (len m)) has))
+
+  pub over_without_one : is_some (get m k) ≡ false → nat_lt 100000 (len m) ≡ nat_lt 100000 (len (remove m k))
+  over_without_one has = ap (nat_lt 100000) (sym (len-remove cell_total m k ∙ ap (λ b. cond b (len m - 1) (len m)) has))
+
+module _ (s : Shape) (ruled : List Bool) (live : Population) where
+  pub slots_none : 0 ≡ slots_upto s ruled live 0
+  unfolding slots_upto
+  slots_none = refl
+
+  slots_step : (n : ℕ) → slots_upto s ruled live n + slots_of s ruled live (record { 0 = n }) ≡ slots_upto s ruled live (suc n)
+  unfolding slots_upto
+  slots_step n = refl
+
+  pub slots_next : (n : ℕ) → slots_upto s ruled live n + slots_of s ruled live (record { 0 = n }) ≡ slots_upto s ruled live (n + 1)
+  slots_next n = let same : suc n ≡ n + 1 = omega arith in slots_step n ∙ ap (slots_upto s ruled live) same
+
+  -- more attributes have no fewer slots
+  pub slots_rise : (k n m : ℕ) → n + k ≡ m → slots_upto s ruled live n ≤ slots_upto s ruled live m
+  slots_rise zero n m e = let same : n ≡ m = omega (arith, e) in subst (λ j. slots_upto s ruled live n ≤ slots_upto s ruled live j) same (omega arith)
+  slots_rise (suc k) n m e =
+      let before = slots_rise k n (n + k) refl in
+      let step = slots_step (n + k) in
+      let same : suc (n + k) ≡ m = omega (arith, e) in
+      subst (λ j. slots_upto s ruled live n ≤ slots_upto s ruled live j) same (omega (arith, before, step))
+
+  -- the slots of more attributes pass the limit
+  pub pass : (n count t more : ℕ) → n < count → t ≡ slots_upto s ruled live n → more ≡ slots_of s ruled live (record { 0 = n }) → t ≤ 2000000 → 2000000 - t < more → true ≡ nat_lt 2000000 (slots_upto s ruled live count)
+  pass n count t more lt total is few over =
+      let rise = slots_rise (count - (n + 1)) (n + 1) count (omega (arith, lt)) in
+      let step = slots_next n in
+      sym (lt-ltb 2000000 (slots_upto s ruled live count) (omega (arith, rise, step, total, is, few, over)))

@@ -1,0 +1,50 @@
+-- Names that are gone through from the last to the first, over a set of those behind.
+use Rattle.std.specs.Prelude.{◌≡◌, ◌<◌, ◌+◌, ◌-◌, ℕ, zero, suc, Bool, true, false, cond, ◌&&◌, ◌||◌, not, List, [], ◌∷◌, Option, Some, is_some, length, drop, slice_index_or, refl}
+use Rattle.std.specs.List.{list_any}
+use Rattle.std.specs.Ordering.{nat_cmp, is_eq}
+use Rattle.std.specs.Cmp.{eq_by_cmp_equiv}
+use Rattle.std.specs.Cmp.Lexicographic.{slice_cmp, nat_list_cmp_total}
+use Rattle.std.proofs.Common.{arith, ap, sym, ◌∙◌}
+use Rattle.std.proofs.lemmas.List.{drop_more}
+use mathlib.Core.Bool.{true≢false}
+use Rattle.opa_cells.specs.Instances.{is_text}
+use Rattle.opa_case.specs.Live.{Names}
+use Rattle.opa_case.specs.Cases.{are_names, is_empty}
+
+and_false : (a b : Bool) → b ≡ false → (a && b) ≡ false
+and_false true b e = e
+and_false false b e = refl
+
+both_false : (a b : Bool) → a ≡ false → (a && b) ≡ false
+both_false true b e = absurd (true≢false e)
+both_false false b e = refl
+
+both_true : (a b : Bool) → a ≡ true → b ≡ true → (a && b) ≡ true
+both_true true b e h = h
+both_true false b e h = e
+
+pub added : {X : Type 0} (name q : List ℕ) (x : X) (o : Option X) → is_some (cond (is_eq (slice_cmp nat_cmp name q)) (Some x) o) ≡ (is_text q name || is_some o)
+added name q x o = ap (λ b. is_some (cond b (Some x) o)) ((eq_by_cmp_equiv nat_list_cmp_total).symm name q) ∙ either (is_text q name) o
+  where
+    either : (b : Bool) (p : Option _) → is_some (cond b (Some x) p) ≡ (b || is_some p)
+    either true p = refl
+    either false p = refl
+
+-- the names from a place on
+pub from_place : (names : Names) (at : ℕ) (x : List ℕ) → 0 < at → at - 1 < length names → x ≡ slice_index_or names (at - 1) x → drop (at - 1) names ≡ x ∷ drop at names
+from_place names at x pos lt is =
+    let next : at - 1 + 1 ≡ at = omega (arith, pos) in
+    drop_more names (at - 1) x lt ∙ ap (λ y. y ∷ drop (at - 1 + 1) names) (sym is) ∙ ap (λ n. x ∷ drop n names) next
+
+-- the first of these names is bad
+pub fails : (k : ℕ) (names : Names) → are_names (drop k names) ≡ false → are_names names ≡ false
+fails zero names h = h
+fails (suc k) [] h = h
+fails (suc k) (n ∷ ns) h = and_false (not (is_empty n) && not (list_any (is_text n) ns)) (are_names ns) (fails k ns h)
+
+pub bad_at : (names : Names) (at : ℕ) (x : List ℕ) (has : Bool) → drop (at - 1) names ≡ x ∷ drop at names → has ≡ list_any (is_text x) (drop at names) → (not (is_empty x) && not has) ≡ false → false ≡ are_names names
+bad_at names at x has split is test =
+    sym (fails (at - 1) names (ap are_names split ∙ both_false _ (are_names (drop at names)) (ap (λ b. not (is_empty x) && not b) (sym is) ∙ test)))
+
+pub good_at : (names : Names) (at : ℕ) (x : List ℕ) (has : Bool) → drop (at - 1) names ≡ x ∷ drop at names → has ≡ list_any (is_text x) (drop at names) → (not (is_empty x) && not has) ≡ true → are_names (drop at names) ≡ true → are_names (drop (at - 1) names) ≡ true
+good_at names at x has split is test rest = ap are_names split ∙ both_true _ (are_names (drop at names)) (ap (λ b. not (is_empty x) && not b) (sym is) ∙ test) rest

@@ -1,0 +1,18 @@
+use Rattle.std.proofs.Common.{sym, ap, ◌∙◌, Some, cond, None, take, ◌++◌, ◌∷◌, []}
+use Rattle.std.specs.Option.{option_or}
+use Rattle.std.proofs.lemmas.List.{take_more}
+use Rattle.opa_cells.specs.Instances.{is_same, named}
+use Rattle.opa_case.specs.Live.{container_of}
+use Rattle.opa_case.proofs.Housed.{one_more}
+use Rattle.opa_case.proofs.living.homes_of.Goals as goal
+
+pub loop-inst-preserved : goal.loop-inst-preserved
+loop-inst-preserved c e n =
+    let x = c.loop-inst-item.result in
+    let k = c.loop-inst.inst-index in
+    let q = named e n in
+    c.in_ok-note.ensures e n
+    ∙ ap (λ o. option_or o (cond (is_same q x.0) (Some x.1) None)) (c.loop-inst.invariant e n)
+    ∙ sym (one_more (take k c.args.order.now) x q)
+    ∙ ap (λ y. container_of (take k c.args.order.now ++ y ∷ []) q) c.loop-inst-item.is
+    ∙ ap (λ xs. container_of xs q) (sym (take_more c.args.order.now k x c.loop-inst-test.true))

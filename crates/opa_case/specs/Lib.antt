@@ -1,0 +1,10 @@
+pub mod Cases
+pub mod Clean
+pub mod Fits
+pub mod Homes
+pub mod Laws
+pub mod Live
+pub mod Refusals
+pub mod Samples
+pub mod Shapes
+pub mod Steps

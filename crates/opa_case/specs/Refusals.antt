@@ -1,0 +1,12 @@
+-- The numbers of refusals.
+use Rattle.std.specs.Prelude.{ℕ}
+use Rattle.opa_case.specs.declared.change.Refusal.{Refusal}
+use Rattle.opa_case.specs.declared.change.Refusal.TheVariants.{Name, Kind, Range, Limit, NoMemory}
+
+-- 1 to 4; want of memory has none
+abbrev pub number_of : Refusal → ℕ
+number_of Name = 1
+number_of Kind = 2
+number_of Range = 3
+number_of Limit = 4
+number_of NoMemory = 0

@@ -1,0 +1,134 @@
+// The lists of the relations that are declared with `every`.
+ghost use Rattle.std.specs.Prelude.{◌≡◌, ◌<◌, ◌++◌, ◌∷◌, [], map, Option, IfOk, OnOk};
+ghost use Rattle.std.specs.Option.{option_map};
+ghost use Rattle.opa_cells.specs.Instances.{named, global};
+ghost use Rattle.opa_case.specs.Shapes.{shape_of};
+ghost use Rattle.opa_case.specs.Live as live;
+ghost use Rattle.opa_case.specs.Steps.{every_of, with_every};
+
+use crate::declared::{bond_of, nest_of};
+use crate::order::Lists;
+use opa_cells::{Cells, InstanceId};
+use opa_io::{List, NoMemory, Txt};
+use opa_model::{EntityId, Model, RelId};
+use std::alloc::Global;
+
+/// The lists of the relations that are declared with `every`.
+pub(crate) fn every_lists<L: Lists>(
+    alloc: Global,
+    model: &Model,
+    lists: &L,
+) -> Result<Cells<List<Txt>>, NoMemory>
+    ensures { IfOk result (λ every. every ≡ every_of (shape_of model.now) (L.lists lists.now)) }
+{
+    let count = model.relation_count();
+    let mut every = Cells::new(alloc);
+    let mut number = 0;
+    while number < count {
+        add_every(alloc, model, lists, number, &mut every)?;
+        number += 1;
+    }
+    Ok(every)
+}
+
+/// Adds the list of a relation, if it is declared with `every` and its Walk is known.
+fn add_every<L: Lists>(
+    alloc: Global,
+    model: &Model,
+    lists: &L,
+    number: u32,
+    every: &mut Cells<List<Txt>>,
+) -> Result<(), NoMemory>
+    ensures { OnOk result (every.new ≡ with_every (shape_of model.now) (L.lists lists.now) number every.old) }
+{
+    let bond = bond_of(model, number);
+    if !bond.every {
+        return Ok(());
+    }
+    match walk(alloc, model, lists, model.entity_count(), bond.target)? {
+        None => Ok(()),
+        Some(instances) => {
+            let names = names_of(alloc, &instances)?;
+            let key = InstanceId::global(alloc)?;
+            every.insert(number, key, names)
+        }
+    }
+}
+
+/// All instances of an entity, where all lists that lead to them are known.
+fn walk<L: Lists>(
+    alloc: Global,
+    model: &Model,
+    lists: &L,
+    steps: u32,
+    entity: u32,
+) -> Result<Option<Vec<InstanceId>>, NoMemory>
+    ensures { IfOk result (λ found. option_map (λ instances. instances.items) found ≡ live.walk (shape_of model.now) (L.lists lists.now) steps entity) }
+{
+    if steps == 0 {
+        return Ok(Some(root(alloc)?));
+    }
+    if entity == 0 {
+        return Ok(Some(root(alloc)?));
+    }
+    let nest = nest_of(model, entity);
+    match walk(alloc, model, lists, steps - 1, nest.parent)? {
+        None => Ok(None),
+        Some(containers) => gather(alloc, lists, nest.contained, entity, &containers),
+    }
+}
+
+fn root(alloc: Global) -> Result<Vec<InstanceId>, NoMemory>
+    ensures { IfOk result (λ found. found.items ≡ global ∷ []) }
+{
+    let mut found = Vec::new(alloc);
+    found.push(InstanceId::global(alloc)?)?;
+    Ok(found)
+}
+
+fn names_of(alloc: Global, instances: &[InstanceId]) -> Result<List<Txt>, NoMemory>
+    ensures { IfOk result (λ names. names ≡ map (λ i. i.name) instances.now) }
+{
+    let mut names = List::new(alloc);
+    for inst in instances {
+        names.push(inst.name.copy(alloc)?)?;
+    }
+    Ok(names)
+}
+
+/// What the containers have of an entity, where all their lists are known.
+fn gather<L: Lists>(
+    alloc: Global,
+    lists: &L,
+    rel: RelId,
+    entity: u32,
+    containers: &[InstanceId],
+) -> Result<Option<Vec<InstanceId>>, NoMemory>
+    ensures { IfOk result (λ found. option_map (λ instances. instances.items) found ≡ option_map (map (named entity)) (live.gathered (map (L.lists lists.now rel) containers.now))) }
+{
+    let mut found = Vec::new(alloc);
+    for container in containers {
+        match lists.list(rel, container) {
+            None => return Ok(None),
+            Some(names) => add_instances(alloc, entity, names.as_slice(), &mut found)?,
+        }
+    }
+    Ok(Some(found))
+}
+
+fn add_instances(
+    alloc: Global,
+    entity: u32,
+    names: &[Txt],
+    found: &mut Vec<InstanceId>,
+) -> Result<(), NoMemory>
+    ensures { OnOk result (found.new.items ≡ found.old.items ++ map (named entity) names.now) }
+{
+    for name in names {
+        found.push(InstanceId {
+            entity: EntityId(entity),
+            name: name.copy(alloc)?,
+        })?;
+    }
+    Ok(())
+}

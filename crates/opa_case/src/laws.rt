@@ -1,0 +1,47 @@
+// What holds of changes.
+ghost use Rattle.opa_case.specs.Laws as law;
+
+/// What a model declares has the form of a shape.
+pub fn models_are_shapes()
+    ensures { law.ModelsAreShapes }
+{}
+
+/// The empty case fits each model.
+pub fn empty_fits()
+    ensures { law.EmptyFits }
+{}
+
+/// A change that isn't refused leaves a case that fits.
+pub fn step_fits()
+    ensures { law.StepFits }
+{}
+
+/// A clean change leaves a clean case.
+pub fn step_is_clean()
+    ensures { law.StepIsClean }
+{}
+
+/// An instance is live exactly where a live container lists it.
+pub fn live_by_lists()
+    ensures { law.LiveByLists }
+{}
+
+/// An answer that is set and then withdrawn is as if it had never been.
+pub fn withdraw_undoes()
+    ensures { law.WithdrawUndoes }
+{}
+
+/// Withdrawing only loses.
+pub fn withdraw_loses()
+    ensures { law.WithdrawLoses }
+{}
+
+/// Forgetting only loses.
+pub fn forget_loses()
+    ensures { law.ForgetLoses }
+{}
+
+/// What a list that is set keeps, and what it takes.
+pub fn set_replaces()
+    ensures { law.SetReplaces }
+{}

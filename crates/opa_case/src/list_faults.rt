@@ -1,0 +1,120 @@
+// Why a list can't be set or forgotten.
+ghost use Rattle.std.specs.Prelude.{◌≡◌, ◌&&◌, ◌||◌, not, ℕ, List, length, nat_lt, Option, IfOk, OnOk};
+ghost use Rattle.std.specs.List.{list_any};
+ghost use Rattle.opa_cells.specs.Instances.{is_text};
+ghost use Rattle.opa_case.specs.Homes.{has_name};
+ghost use Rattle.opa_case.specs.Shapes.{shape_of};
+ghost use Rattle.opa_case.specs.Cases.{CaseView, are_names, is_empty};
+ghost use Rattle.opa_case.specs.Steps as step;
+
+use crate::case::Case;
+use crate::change::Refusal;
+use crate::declared::bond_of;
+use opa_cells::InstanceId;
+use opa_io::{NoMemory, Txt};
+use opa_model::{Model, RelId};
+use std::alloc::Global;
+use std::collections::BTreeMap;
+
+/// The most bytes of a name.
+const MOST_NAME: usize = 100;
+
+/// Why the list can't be set, but for the numbers of what it makes live.
+pub(crate) fn list_fault(
+    alloc: Global,
+    case: &Case,
+    model: &Model,
+    rel: RelId,
+    inst: &InstanceId,
+    names: &[Txt],
+) -> Result<Option<Refusal>, NoMemory>
+    ensures { IfOk result (λ fault. fault ≡ step.list_fault (shape_of model.now) case.now rel inst.now names.now) }
+{
+    if is_misplaced(case, model, rel, inst) {
+        return Ok(Some(Refusal::Name));
+    }
+    if !are_names(alloc, names)? {
+        return Ok(Some(Refusal::Name));
+    }
+    if cant_name_one(case, model, rel, inst, names) {
+        return Ok(Some(Refusal::Name));
+    }
+    if bond_of(model, rel.0).one && 1 < names.len() {
+        return Ok(Some(Refusal::Range));
+    }
+    if is_one_long(names) {
+        return Ok(Some(Refusal::Limit));
+    }
+    Ok(None)
+}
+
+/// Whether nothing can be said of the relation at the instance.
+pub(crate) fn is_misplaced(case: &Case, model: &Model, rel: RelId, inst: &InstanceId) -> bool
+    ensures { result ≡ step.is_misplaced (shape_of model.now) case.now rel inst.now }
+{
+    let bond = bond_of(model, rel.0);
+    bond.every || !case.live(inst) || !(inst.entity.0 == bond.source)
+}
+
+/// Whether no name is empty or stands twice. It goes from the last name to the first, over a set of those behind.
+fn are_names(alloc: Global, names: &[Txt]) -> Result<bool, NoMemory>
+    ensures { IfOk result (λ are. are ≡ are_names names.now) }
+{
+    let mut later = BTreeMap::new(alloc);
+    let mut at = names.len();
+    while 0 < at {
+        at -= 1;
+        let name = &names[at];
+        if !is_new(&later, name) {
+            return Ok(false);
+        }
+        add_name(alloc, &mut later, name)?;
+    }
+    Ok(true)
+}
+
+/// Whether a name isn't empty and isn't among the later ones.
+fn is_new(later: &BTreeMap<Txt, ()>, name: &Txt) -> bool
+    ensures { result ≡ (not (is_empty name.now) && not (has_name later.now name.now)) }
+{
+    !is_empty(name) && !later.contains_key(name)
+}
+
+fn is_empty(name: &Txt) -> bool
+    ensures { result ≡ is_empty name.now }
+{
+    name.as_str().is_empty()
+}
+
+fn add_name(alloc: Global, later: &mut BTreeMap<Txt, ()>, name: &Txt) -> Result<(), NoMemory>
+    ensures { OnOk result ((q : List ℕ) → has_name later.new q ≡ (is_text q name.now || has_name later.old q)) }
+{
+    let key = name.copy(alloc)?;
+    later.insert(key, ())?;
+    Ok(())
+}
+
+fn is_one_long(names: &[Txt]) -> bool
+    ensures { result ≡ list_any (λ n. nat_lt 100 (length n)) names.now }
+{
+    names.iter().any(|name| MOST_NAME < name.as_str().len())
+}
+
+fn cant_name_one(case: &Case, model: &Model, rel: RelId, inst: &InstanceId, names: &[Txt]) -> bool
+    ensures { result ≡ list_any (step.cant_name (shape_of model.now) case.now rel inst.now) names.now }
+{
+    names
+        .iter()
+        .any(|name| cant_name(case, model, rel, inst, name))
+}
+
+fn cant_name(case: &Case, model: &Model, rel: RelId, inst: &InstanceId, name: &Txt) -> bool
+    ensures { result ≡ step.cant_name (shape_of model.now) case.now rel inst.now name.now }
+{
+    let bond = bond_of(model, rel.0);
+    if bond.contains {
+        case.stands_elsewhere(inst, bond.target, name)
+    } else {
+        !case.is_named(bond.target, name)
+    }
+}

@@ -1,0 +1,4 @@
+pub mod Orders
+pub mod Rowed
+pub mod Walked
+pub mod Copied

@@ -1,0 +1,13 @@
+pub mod SizeLaws
+pub mod QuotedLaws
+pub mod LongestLaws
+pub mod LineLaws
+pub mod Machine
+pub mod Falls
+pub mod Meant
+pub mod SpelledIsRead
+pub mod BoundLaws
+pub mod Bounded
+pub mod Wholes
+pub mod LawsHold
+pub mod MeasureLaws

@@ -1,0 +1,15 @@
+use Rattle.std.proofs.Common.{◌≡◌, ◌++◌, length, false}
+use Rattle.std.specs.String.{string_bytes}
+use denote.Text.{Utf8}
+use denote.Shadow.{shadow}
+use Rattle.opa_sentence.specs.Quoted.{inside}
+use Rattle.opa_sentence.proofs.quotes.undoubled.Given as goal
+
+abbrev pub invariant-loop-front : goal.invariant-loop-front
+invariant-loop-front l = record {
+  utf8 : shadow (Utf8 l.rest);
+  same : string_bytes l.out ++ inside false l.rest ≡ inside false l.text;
+}
+
+abbrev pub decreases-loop-front : goal.decreases-loop-front
+decreases-loop-front l = length l.rest

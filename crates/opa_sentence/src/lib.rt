@@ -1,0 +1,35 @@
+//! The grammar of a line of a rule: how it is read, and how a tree is printed as one.
+#![tactic(auto)]
+
+mod calls;
+mod class;
+mod copies;
+mod cursor;
+mod functions;
+mod laws;
+mod literals;
+mod measure;
+mod names;
+mod quotes;
+mod reader;
+mod reading;
+mod sizes;
+mod sorts;
+mod table;
+mod whole;
+
+pub use calls::quantified;
+pub use class::{Class, class_of};
+pub use cursor::Cursor;
+pub use functions::{Argument, Function, argument_at};
+pub use laws::{measures_are_told, one_meaning, quoted_texts_are_read};
+pub use measure::{MOST_DEPTH, MOST_NESTING, MOST_NODES, MOST_TEXT, Measure};
+pub use names::{Member, Names, Operand, Relation};
+pub use reader::read;
+pub use reading::{Arguments, Parts, Reading};
+pub use sorts::{Frame, Sort};
+pub use table::{Step, relation_at};
+pub use whole::{line_of, operand_of};
+
+#[cfg(test)]
+mod tests;
