@@ -1,0 +1,5 @@
+pub mod Separate
+pub mod Longest
+pub mod Quoting
+pub mod Writing
+pub mod LawsHold
