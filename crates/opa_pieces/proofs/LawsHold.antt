@@ -5,9 +5,9 @@ use Rattle.opa_words.specs.Cuts.{Cuts}
 use Rattle.opa_words.proofs.OneCut.{one_cut_holds}
 use Rattle.opa_pieces.specs.Pieces.{Piece, pieces}
 use Rattle.opa_pieces.specs.Laws.{OneCutting}
+pub use Rattle.opa_pieces.proofs.Ascii.{ascii_is_token_holds}
 pub use Rattle.opa_pieces.proofs.Quoting.{quoted_is_token_holds}
 pub use Rattle.opa_pieces.proofs.Writing.{written_is_cut_holds}
 
 pub one_cutting_holds : OneCutting
 one_cutting_holds bytes ps qs x y = sym x.2 ∙ ap (pieces bytes) (one_cut_holds (length bytes) (chars bytes) x.0 y.0 x.1 y.1) ∙ y.2
-

@@ -59,7 +59,7 @@ goes_on (x ∷ xs) [] c g e = go (x == 34) refl e
 goes_on (x ∷ xs) (y ∷ ys) c g e = go (x == 34) (y == 34) refl refl e (goes_on xs ys c g)
   where
     go : (s t : Bool) → (x == 34) ≡ s → (y == 34) ≡ t → cond t (34 ∷ 34 ∷ doubled ys) (y ∷ doubled ys) ++ 34 ∷ [] ≡ cond s (34 ∷ 34 ∷ doubled xs) (x ∷ doubled xs) ++ 34 ∷ c ∷ g
-       → (doubled ys ++ 34 ∷ [] ≡ doubled xs ++ 34 ∷ c ∷ g → c ≡ 34) → c ≡ 34
+        → (doubled ys ++ 34 ∷ [] ≡ doubled xs ++ 34 ∷ c ∷ g → c ≡ 34) → c ≡ 34
     go true true h k e r = r (let f : doubled ys ++ 34 ∷ [] ≡ doubled xs ++ 34 ∷ c ∷ g = cc e in f)
     go true false h k e r = absurd (not_quote y (y == 34) refl k (let f : y ≡ 34 = cc e in f))
     go false true h k e r = absurd (not_quote x (x == 34) refl h (let f : 34 ≡ x = cc e in sym f))

@@ -34,21 +34,21 @@ unfolding ucd_derived ucd_category
 partings_no_letters = refl
 
 -- digits and points
-abbrev numeric : ℕ → Bool
+abbrev pub numeric : ℕ → Bool
 numeric c = is_digit c || (c == 46)
 
 -- digits and hyphens
-abbrev dated : ℕ → Bool
+abbrev pub dated : ℕ → Bool
 dated c = is_digit c || (c == 45)
 
 abbrev compares : ℕ → Bool
 compares c = (c == 61) || (c == 62)
 
-all_wider : (p q : ℕ → Bool) (cs : List ℕ) → ((c : ℕ) → p c ≡ true → q c ≡ true) → list_all p cs ≡ true → list_all q cs ≡ true
+pub all_wider : (p q : ℕ → Bool) (cs : List ℕ) → ((c : ℕ) → p c ≡ true → q c ≡ true) → list_all p cs ≡ true → list_all q cs ≡ true
 all_wider p q [] f h = refl
 all_wider p q (c ∷ cs) f h = both (q c) (list_all q cs) (f c (left (p c) (list_all p cs) h)) (all_wider p q cs f (right (p c) (list_all p cs) h))
 
-all_append : (p : ℕ → Bool) (cs ds : List ℕ) → list_all p cs ≡ true → list_all p ds ≡ true → list_all p (cs ++ ds) ≡ true
+pub all_append : (p : ℕ → Bool) (cs ds : List ℕ) → list_all p cs ≡ true → list_all p ds ≡ true → list_all p (cs ++ ds) ≡ true
 all_append p [] ds h k = k
 all_append p (c ∷ cs) ds h k = both (p c) (list_all p (cs ++ ds)) (left (p c) (list_all p cs) h) (all_append p cs ds (right (p c) (list_all p cs) h) k)
 
@@ -68,17 +68,17 @@ back_all p (c ∷ cs) ds h = back_all p cs ds (right (p c) (list_all p (cs ++ ds
 or_left : (a b : Bool) → a ≡ true → (a || b) ≡ true
 or_left a b h = ap (λ t. t || b) h
 
-digits_numeric : (cs : List ℕ) → list_all is_digit cs ≡ true → list_all numeric cs ≡ true
+pub digits_numeric : (cs : List ℕ) → list_all is_digit cs ≡ true → list_all numeric cs ≡ true
 digits_numeric cs h = all_wider is_digit numeric cs (λ c k. or_left (is_digit c) (c == 46) k) h
 
-number_numeric : (f : List ℕ) → IsNumber f → list_all numeric f ≡ true
+pub number_numeric : (f : List ℕ) → IsNumber f → list_all numeric f ≡ true
 number_numeric f (inl h) = digits_numeric f h.0
 number_numeric f (inr h) = subst (λ x. list_all numeric x ≡ true) (sym h.5) (all_append numeric h.0 (46 ∷ h.1) (digits_numeric h.0 h.2.0) (digits_numeric h.1 h.3.0))
 
 digit_dated : (c : ℕ) → is_digit c ≡ true → dated c ≡ true
 digit_dated c k = or_left (is_digit c) (c == 45) k
 
-date_dated : (f : List ℕ) → DateParts f → list_all dated f ≡ true
+pub date_dated : (f : List ℕ) → DateParts f → list_all dated f ≡ true
 date_dated f p =
     let all = all_wider is_digit dated (p.a ∷ p.b ∷ p.c ∷ p.d ∷ p.f ∷ p.g ∷ p.i ∷ p.j ∷ []) digit_dated p.digits in
     let year = all_wider is_digit dated (p.a ∷ p.b ∷ p.c ∷ p.d ∷ []) digit_dated (front4 p.a p.b p.c p.d (p.f ∷ p.g ∷ p.i ∷ p.j ∷ []) p.digits) in

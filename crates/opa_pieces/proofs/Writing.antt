@@ -147,7 +147,7 @@ pub record Rest (bytes : List ℕ) (ws : List Written) : Type 0 where
 
 -- one token before the rest
 one_more : (bytes pre : List ℕ) (w : Written) (ws : List Written) → AreWritten (w ∷ ws) → bytes ≡ pre ++ (w.piece.text ++ text_of ws) → Rest bytes ws
-         → (ts : List Token) × Cuts (length bytes) (chars w.piece.text ++ chars (text_of ws)) ts × (pieces bytes ts ≡ pieces_of (w ∷ ws))
+    → (ts : List Token) × Cuts (length bytes) (chars w.piece.text ++ chars (text_of ws)) ts × (pieces bytes ts ≡ pieces_of (w ∷ ws))
 one_more bytes pre w ws h e r = go (chars w.piece.text) refl (token_starts w.piece.kind (chars w.piece.text) h.0.token) (longest_written w.piece ws h.0 h.2 h.1)
   where
     p : List ℕ
@@ -185,10 +185,11 @@ one_more bytes pre w ws h e r = go (chars w.piece.text) refl (token_starts w.pie
 
     go : (cs : List ℕ) → chars p ≡ cs → Starts w.piece.kind cs → IsLongest (cs ++ chars rest) w.piece.kind (chars rest) → Result cs
     go [] q s l = absurd s
-    go (b ∷ cs) q s l =
-        (record { kind = w.piece.kind; start = length bytes - width (b ∷ (cs ++ chars rest)); end = length bytes - width (chars rest) } ∷ r.tokens,
-         c.cut w.piece.kind (chars rest) (not_blank w.piece.kind b s) l r.cuts,
-         ap (λ t. record { kind = w.piece.kind; text = t } ∷ pieces bytes r.tokens) (ap (λ cs. slice_range bytes (length bytes - width (cs ++ chars rest)) (length bytes - width (chars rest))) (sym q) ∙ text) ∙ ap (λ ps. w.piece ∷ ps) r.same)
+    go (b ∷ cs) q s l = (
+      record { kind = w.piece.kind; start = length bytes - width (b ∷ (cs ++ chars rest)); end = length bytes - width (chars rest) } ∷ r.tokens,
+      c.cut w.piece.kind (chars rest) (not_blank w.piece.kind b s) l r.cuts,
+      ap (λ t. record { kind = w.piece.kind; text = t } ∷ pieces bytes r.tokens) (ap (λ cs. slice_range bytes (length bytes - width (cs ++ chars rest)) (length bytes - width (chars rest))) (sym q) ∙ text) ∙ ap (λ ps. w.piece ∷ ps) r.same,
+    )
 
 -- what is left to write is cut into what is left to write
 written_rest : (bytes pre : List ℕ) (ws : List Written) → AreWritten ws → bytes ≡ pre ++ text_of ws → Rest bytes ws

@@ -1,8 +1,10 @@
 -- Laws of texts that are written token by token.
 use Rattle.std.specs.Prelude.{◌≡◌, ℕ, List}
 use Rattle.std.specs.Str.{chars, IsUtf8}
-use Rattle.std.specs.Prelude.{false}
-use Rattle.std.specs.List.{list_any}
+use Rattle.std.specs.Prelude.{true, false, nat_lt}
+use Rattle.std.specs.List.{list_all, list_any}
+use Rattle.opa_words.specs.declared.kinds.TokenKind.{TokenKind}
+use Rattle.opa_words.specs.Kinds.{IsToken}
 use Rattle.opa_words.specs.Characters.{is_control}
 use Rattle.opa_pieces.specs.Pieces.{Piece, IsPiece, IsCutInto, text}
 use Rattle.opa_pieces.specs.Written.{Written, AreWritten, text_of, pieces_of}
@@ -18,3 +20,7 @@ WrittenIsCut = (ws : List Written) → AreWritten ws → IsUtf8 (text_of ws) × 
 -- a text without control characters is a token between quotes
 abbrev pub QuotedIsToken : Type 0
 QuotedIsToken = (inner : List ℕ) → IsUtf8 inner → list_any is_control (chars inner) ≡ false → IsPiece (text inner)
+
+-- ASCII characters that are a token are one as a text too
+abbrev pub AsciiIsToken : Type 0
+AsciiIsToken = (k : TokenKind) (bytes : List ℕ) → list_all (λ b. nat_lt b 128) bytes ≡ true → IsToken k bytes → IsPiece (record { kind = k; text = bytes })

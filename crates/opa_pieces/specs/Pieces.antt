@@ -1,5 +1,5 @@
 -- The tokens of a text with their texts.
-use Rattle.std.specs.Prelude.{◌≡◌, ℕ, List, [], ◌∷◌, length, map}
+use Rattle.std.specs.Prelude.{◌≡◌, ℕ, List, [], ◌∷◌, length, map, Bool, true, false}
 use Rattle.std.specs.List.{All}
 use Rattle.std.specs.Str.{chars, IsUtf8}
 use Rattle.opa_words.specs.declared.kinds.TokenKind.{TokenKind}
@@ -24,6 +24,10 @@ pieces bytes ts = map (piece bytes) ts
 -- what is left of the tokens of a text
 abbrev pub seen : Pieces → List Piece
 seen p = pieces p.text.now p.tokens.now
+
+abbrev pub is_nothing : List Piece → Bool
+is_nothing [] = true
+is_nothing (p ∷ ps) = false
 
 -- each is what its kind says
 abbrev pub AreOfKind : Pieces → Type 0

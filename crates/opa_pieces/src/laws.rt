@@ -1,5 +1,5 @@
 // What holds of all tokens with their texts.
-ghost use Rattle.opa_pieces.specs.Laws.{OneCutting, WrittenIsCut, QuotedIsToken};
+ghost use Rattle.opa_pieces.specs.Laws.{OneCutting, WrittenIsCut, QuotedIsToken, AsciiIsToken};
 
 /// A text is cut into at most one list of tokens.
 pub fn one_cutting()
@@ -14,4 +14,9 @@ pub fn written_is_cut()
 /// A text without control characters is a token between quotes.
 pub fn quoted_is_token()
     ensures { QuotedIsToken }
+{}
+
+/// ASCII characters that are a token are one as a text too.
+pub fn ascii_is_token()
+    ensures { AsciiIsToken }
 {}

@@ -14,12 +14,12 @@ pub struct Pieces<'t> {
 }
 
 impl<'t> Pieces<'t> {
-    ghost use Rattle.std.specs.Prelude.{◌≡◌, ◌∷◌, [], ◌↔◌, MatchOption, IfSome, IsTrue};
+    ghost use Rattle.std.specs.Prelude.{◌≡◌, ◌∷◌, [], MatchOption, IfSome};
     ghost use Rattle.std.specs.List.{All};
     ghost use Rattle.std.specs.Str.{chars};
     ghost use Rattle.opa_words.specs.Places.{IsWithin, IsOfKind};
     ghost use Rattle.opa_words.specs.Kinds.{IsToken};
-    ghost use Rattle.opa_pieces.specs.Pieces.{seen, pieces, AreOfKind};
+    ghost use Rattle.opa_pieces.specs.Pieces.{seen, pieces, is_nothing, AreOfKind};
 
     pub fn new(text: &'t str, tokens: &'t [Token]) -> Pieces<'t>
         requires within { All (IsWithin text.now) tokens.now }
@@ -52,7 +52,7 @@ impl<'t> Pieces<'t> {
 
     /// Whether no token is left.
     pub fn is_empty(self) -> bool
-        ensures { IsTrue result ↔ (seen self.entry ≡ []) }
+        ensures { result ≡ is_nothing (seen self.entry) }
     {
         self.tokens.is_empty()
     }

@@ -1,0 +1,7 @@
+use Rattle.std.proofs.lemmas.Result.{IfOk-weaker}
+use Rattle.opa_pieces.specs.Pieces.{seen}
+use Rattle.opa_text.proofs.Readings.{value_told}
+use Rattle.opa_text.proofs.changes.first_value.Goals as goal
+
+pub returns-clause-value : goal.returns-clause-value
+returns-clause-value c = IfOk-weaker c.value_at.result _ _ (λ r e. value_told seen (seen c.args.pieces) r e) c.value_at.ensures.value

@@ -1,0 +1,5 @@
+pub mod Texts
+pub mod Points
+pub mod Spelled
+pub mod Readers
+pub mod Laws
