@@ -1,9 +1,8 @@
 -- The laws, for the functions that carry them.
-use Rattle.std.proofs.Common.{◌≡◌, ℕ, List, length, sym, ap, subst, ◌∙◌}
+use Rattle.std.proofs.Common.{length, sym, ap, ◌∙◌}
 use Rattle.std.specs.Str.{chars}
-use Rattle.opa_words.specs.Cuts.{Cuts}
 use Rattle.opa_words.proofs.OneCut.{one_cut_holds}
-use Rattle.opa_pieces.specs.Pieces.{Piece, pieces}
+use Rattle.opa_pieces.specs.Pieces.{pieces}
 use Rattle.opa_pieces.specs.Laws.{OneCutting}
 pub use Rattle.opa_pieces.proofs.Ascii.{ascii_is_token_holds}
 pub use Rattle.opa_pieces.proofs.Quoting.{quoted_is_token_holds}

@@ -1,13 +1,12 @@
 -- Which token is the longest, by what follows it.
-use Rattle.std.proofs.Common.{◌≡◌, ◌≤◌, ◌<◌, ℕ, List, [], ◌∷◌, ◌++◌, length, Bool, true, false, refl, sym, ap, subst, ◌∙◌, arith, length-append}
-use Rattle.std.specs.Prelude.{◌&&◌, ◌||◌, ◌==◌, not, codes, cond, nat_le}
-use Rattle.std.specs.List.{list_all, list_any}
+use Rattle.std.proofs.Common.{◌≡◌, ◌≤◌, ◌<◌, ℕ, List, [], ◌∷◌, ◌++◌, length, Bool, true, false, refl, sym, ap, subst, ◌∙◌, arith}
+use Rattle.std.specs.Prelude.{◌||◌, ◌==◌, cond, nat_le}
 use Rattle.opa_words.specs.declared.kinds.TokenKind.{TokenKind}
 use Rattle.opa_words.specs.declared.kinds.TokenKind.TheVariants as kind
 use Rattle.opa_words.specs.Kinds.{IsToken, IsLongest, is_single, is_symbol, doubled, quoted}
-use Rattle.opa_words.proofs.Letters.{left, right, both, apart, starts, Starts, token_starts, Peers, peers}
+use Rattle.opa_words.proofs.Letters.{apart, starts, token_starts, Peers, peers}
 use Rattle.opa_pieces.specs.Written.{parts}
-use Rattle.opa_pieces.proofs.Separate.{parts_none, NoText}
+use Rattle.opa_pieces.proofs.Separate.{parts_none}
 
 -- what is written after a token that is read on into nothing
 abbrev pub Ends : List ℕ → Type 0

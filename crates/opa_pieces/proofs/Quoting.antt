@@ -1,16 +1,13 @@
 -- A text between quotes, in bytes as in characters.
-use Rattle.std.proofs.Common.{◌≡◌, ◌<◌, ℕ, List, [], ◌∷◌, ◌++◌, get_or, Bool, true, false, cond, refl, sym, ap, subst, ◌∙◌, arith, append-nil}
+use Rattle.std.proofs.Common.{◌≡◌, ℕ, List, [], ◌∷◌, ◌++◌, get_or, Bool, true, false, cond, refl, sym, ap, ◌∙◌, arith, append-nil}
 use Rattle.std.specs.Prelude.{◌==◌}
-use Rattle.std.specs.List.{list_any}
-use Rattle.std.specs.Str.{chars, IsUtf8}
+use Rattle.std.specs.Str.{chars}
 use lib.Utf8.{scalar, scalars, encode, encodes}
 use Rattle.std.proofs.lemmas.Str.{encodes-chars, encodes-append, inside_one, chars-encodes, scalars-chars}
-use Rattle.opa_words.specs.Characters.{is_control}
 use Rattle.opa_words.specs.Kinds.{doubled, quoted}
 use Rattle.opa_words.specs.Quotes.{HasNoQuote}
 use Rattle.opa_words.proofs.QuoteLaws.{no_quote, read_ends}
 use Rattle.opa_words.proofs.Letters.{left, right, both, apart}
-use Rattle.opa_pieces.specs.Pieces.{IsPiece, text}
 use Rattle.opa_pieces.specs.Laws.{QuotedIsToken}
 
 quote_is : (b : ℕ) → (b == 34) ≡ true → b ≡ 34

@@ -1,6 +1,6 @@
 -- A character that parts tokens stands in no token but a text between quotes.
 use Rattle.std.proofs.Common.{◌≡◌, ℕ, List, [], ◌∷◌, ◌++◌, Bool, true, false, refl, sym, ap, subst, ◌∙◌, arith}
-use Rattle.std.specs.Prelude.{◌&&◌, ◌||◌, ◌==◌, not, codes, cond}
+use Rattle.std.specs.Prelude.{◌||◌, ◌==◌, not, codes}
 use Rattle.std.proofs.Common.{inl, inr}
 use Rattle.std.specs.List.{list_all, list_any}
 use Rattle.ucd_derived.proofs.Computing.{ucd_derived}
@@ -8,8 +8,8 @@ use Rattle.ucd_category.proofs.Computing.{ucd_category}
 use Rattle.opa_words.specs.declared.kinds.TokenKind.{TokenKind}
 use Rattle.opa_words.specs.declared.kinds.TokenKind.TheVariants as kind
 use Rattle.opa_words.specs.Characters.{begins_word, continues_word, is_digit}
-use Rattle.opa_words.specs.Kinds.{IsToken, is_date, is_word, is_symbol, is_single, AreDigits, IsNumber}
-use Rattle.opa_words.proofs.Letters.{left, right, both, apart, date_parts, DateParts}
+use Rattle.opa_words.specs.Kinds.{IsToken, is_word, is_symbol, IsNumber}
+use Rattle.opa_words.proofs.Letters.{left, right, both, date_parts, DateParts}
 use Rattle.opa_pieces.specs.Written.{parts}
 
 abbrev pub partings : List ℕ

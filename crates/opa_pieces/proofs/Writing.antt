@@ -1,6 +1,6 @@
 -- What is written token by token is cut into those tokens.
-use Rattle.std.proofs.Common.{◌≡◌, ◌+◌, ◌-◌, ℕ, List, [], ◌∷◌, ◌++◌, length, take, drop, Bool, true, false, refl, sym, ap, subst, ◌∙◌, arith, append_assoc, append-nil, length-append}
-use Rattle.std.specs.Prelude.{◌||◌, map}
+use Rattle.std.proofs.Common.{◌≡◌, ◌+◌, ◌-◌, ℕ, List, [], ◌∷◌, ◌++◌, length, take, drop, Bool, true, false, refl, sym, ap, subst, ◌∙◌, arith, append_assoc, length-append}
+use Rattle.std.specs.Prelude.{◌||◌}
 use Rattle.std.specs.List.{slice_range}
 use Rattle.std.specs.Str.{chars, IsUtf8}
 use lib.Utf8.{encode}
@@ -16,16 +16,14 @@ use Rattle.opa_words.specs.Cuts.{Cuts}
 use Rattle.opa_words.proofs.CutLaws.{width_chars}
 use Rattle.opa_words.proofs.Letters.{token_starts, starts, Starts}
 use Rattle.opa_words.proofs.PlaceLaws.{width-append}
-use Rattle.opa_pieces.specs.Pieces.{Piece, IsPiece, IsCutInto, pieces, piece}
-use Rattle.opa_pieces.specs.Written.{Written, AreWritten, text_of, pieces_of, gap, parts, ends_before, begins_apart, stands_alone}
+use Rattle.opa_pieces.specs.Pieces.{Piece, IsPiece, pieces}
+use Rattle.opa_pieces.specs.Written.{Written, AreWritten, text_of, pieces_of, gap, ends_before, begins_apart, stands_alone}
 use Rattle.opa_pieces.specs.Laws.{WrittenIsCut}
 use Rattle.opa_pieces.proofs.Longest.{Ends, longest_before, longest_single}
-use Rattle.std.proofs.Common.{◌<◌}
 use Rattle.std.specs.Prelude.{◌==◌, codes}
 use Rattle.std.specs.List.{list_any}
 use Rattle.ucd_derived.proofs.Computing.{ucd_derived}
 use Rattle.opa_words.specs.Characters.{begins_word, is_digit}
-use Rattle.opa_words.proofs.Letters.{apart}
 use Rattle.opa_pieces.proofs.Separate.{none_of}
 
 -- ---- no token begins with a blank

@@ -1,22 +1,21 @@
 -- Changes one after another.
-use Rattle.std.proofs.Common.{◌≡◌, ◌<◌, ◌≤◌, ℕ, List, [], ◌∷◌, ◌++◌, length, Bool, true, false, refl, sym, ap, subst, ◌∙◌, arith, cond, append_assoc, append-nil}
-use Rattle.std.specs.Prelude.{Option, Some, None, MatchOption, IfSome, nat_lt, ◌==◌, codes, IfOk, Ok}
+use Rattle.std.proofs.Common.{◌≡◌, ◌<◌, ℕ, List, [], ◌∷◌, ◌++◌, length, true, false, refl, sym, ap, subst, ◌∙◌, arith, cond, append_assoc, append-nil}
+use Rattle.std.specs.Prelude.{Option, Some, None, MatchOption, IfSome, nat_lt, ◌==◌}
 use Rattle.std.specs.Option.{option_map}
 use Rattle.opa_value.specs.declared.value.Value.{Value}
 use Rattle.std.proofs.Common.{inl, inr}
 use Rattle.opa_value.specs.declared.value.Value.TheVariants as value
 use Rattle.opa_date.specs.declared.TheConstants.{DAYS}
 use Rattle.std.specs.List.{AllByRecursion}
-use Rattle.opa_date.specs.Texts.{read_day}
 use Rattle.opa_date.proofs.ReadTexts.{only_texts_are_read}
 use Rattle.opa_line.specs.Lines.{at}
 use Rattle.opa_line.specs.Pairs.{fault_of, rises_from, all_below}
 use Rattle.opa_line.specs.declared.pairs.LineFault.TheVariants.{Range, Order, FirstDay}
-use Rattle.opa_pieces.specs.Pieces.{Piece, word, symbol, date}
+use Rattle.opa_pieces.specs.Pieces.{Piece}
 use Rattle.opa_text.specs.Spelled.{SpellsDay, SpellsValue, SpellsChange, SpellsLater, SpellsChanges, SpellsPairs, SpellsLine}
 use Rattle.opa_text.specs.Texts.{IsOfCalendar, HasDays}
 use Rattle.opa_text.proofs.Lists.{all_days}
-use Rattle.opa_text.specs.Readers.{as_written, change_at, value_at}
+use Rattle.opa_text.specs.Readers.{as_written, change_at}
 use Rattle.opa_text.proofs.Readings.{one_value, one_change, change_complete, change_sound}
 
 -- what a case says
@@ -59,7 +58,7 @@ nothing_shorter : (rest after : List Piece) → length after < length rest → r
 nothing_shorter rest after h e = omega (arith, h, ap length e)
 
 pub reached_more : (first : Value) (start : List Piece) (pairs now : List (ℕ × Value)) (last : ℕ) (rest after : List Piece) (p : ℕ × Value)
-                 → Reached first start pairs last rest → SpellsLater last p rest after → now ≡ pairs ++ p ∷ [] → Reached first start now p.0 after
+    → Reached first start pairs last rest → SpellsLater last p rest after → now ≡ pairs ++ p ∷ [] → Reached first start now p.0 after
 reached_more first start pairs now last rest after p r l e = record {
   done = r.done ++ p ∷ [];
   items = e ∙ ap (λ xs. xs ++ p ∷ []) r.items;
@@ -74,7 +73,7 @@ reached_more first start pairs now last rest after p r l e = record {
         (qs, f ∙ ap (λ x. r.done ++ x ∷ qs) same.0 ∙ sym (append_assoc r.done (p ∷ []) qs), subst (λ x. SpellsChanges x.0 qs after) same.0 (subst (SpellsChanges q.0 qs) same.1 h.2))
 
 pub reached_none : (first : Value) (start : List Piece) (pairs : List (ℕ × Value)) (last : ℕ) (rest : List Piece)
-                 → Reached first start pairs last rest → (rest ≡ [] → ⊥) → ((p : ℕ × Value) (after : List Piece) → SpellsLater last p rest after → ⊥) → (cs : List (ℕ × Value)) → SpellsChanges 0 cs start → ⊥
+    → Reached first start pairs last rest → (rest ≡ [] → ⊥) → ((p : ℕ × Value) (after : List Piece) → SpellsLater last p rest after → ⊥) → (cs : List (ℕ × Value)) → SpellsChanges 0 cs start → ⊥
 reached_none first start pairs last rest r n never cs h = let x = r.comes cs h in next x.0 x.2
   where
     next : (more : List (ℕ × Value)) → SpellsChanges last more rest → ⊥
@@ -82,7 +81,7 @@ reached_none first start pairs last rest r n never cs h = let x = r.comes cs h i
     next (q ∷ qs) k = never q k.0 k.1
 
 pub reached_end : (first : Value) (start : List Piece) (pairs : List (ℕ × Value)) (last : ℕ) (rest : List Piece)
-                → Reached first start pairs last rest → rest ≡ [] → (cs : List (ℕ × Value)) × (pairs ≡ (0, first) ∷ cs) × SpellsChanges 0 cs start
+    → Reached first start pairs last rest → rest ≡ [] → (cs : List (ℕ × Value)) × (pairs ≡ (0, first) ∷ cs) × SpellsChanges 0 cs start
 reached_end first start pairs last rest r e = (r.done, r.items, subst (λ xs. SpellsChanges 0 xs start) (append-nil r.done) (r.goes [] e))
 
 -- ---- a change after a day

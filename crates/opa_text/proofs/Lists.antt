@@ -1,5 +1,5 @@
 -- What holds of each item of a list.
-use Rattle.std.proofs.Common.{◌≡◌, ◌<◌, ◌≤◌, ℕ, List, [], ◌∷◌, Bool, true, false, cond, refl, ap, subst, sym, ◌∙◌, arith}
+use Rattle.std.proofs.Common.{◌≡◌, ◌<◌, ◌≤◌, ℕ, List, [], ◌∷◌, Bool, true, false, cond, refl, ap, subst, ◌∙◌, arith}
 use Rattle.std.specs.Prelude.{All, Some, slice_get, nat_le}
 use Rattle.std.specs.List.{AllByRecursion}
 use Rattle.opa_date.specs.declared.TheConstants.{DAYS}
@@ -44,9 +44,10 @@ later v p l x h = ap (λ b. cond b (value_from p.1 l x) v) (is_le p.0 x h)
 
 follows_all : {X : Type 0} (P : X → Type 0) (d : ℕ) (v : X) (l : List (ℕ × X)) → Follows DAYS d v l → ((x : ℕ) → d < x → x < DAYS → P (value_from v l x)) → AllByRecursion (λ (p : ℕ × X). P p.1) l
 follows_all P d v [] f h = tt
-follows_all P d v (p ∷ l) f h =
-    (subst P (later v p l p.0 (omega arith) ∙ stays DAYS p.0 p.1 l p.0 f.3 (omega arith)) (h p.0 f.0 f.1),
-     follows_all P p.0 p.1 l f.3 (λ x above below. subst P (later v p l x (omega (arith, above))) (h x (omega (arith, f.0, above)) below)))
+follows_all P d v (p ∷ l) f h = (
+  subst P (later v p l p.0 (omega arith) ∙ stays DAYS p.0 p.1 l p.0 f.3 (omega arith)) (h p.0 f.0 f.1),
+  follows_all P p.0 p.1 l f.3 (λ x above below. subst P (later v p l x (omega (arith, above))) (h x (omega (arith, f.0, above)) below)),
+)
 
 -- what holds at each day holds of each value
 pub days_all : {X : Type 0} (P : X → Type 0) (l : List (ℕ × X)) → IsLine DAYS l → ((d : ℕ) (v : X) → d < DAYS → at l d ≡ Some v → P v) → All (λ (p : ℕ × X). P p.1) l

@@ -1,10 +1,10 @@
 -- Names one after another.
-use Rattle.std.proofs.Common.{◌≡◌, ◌<◌, ℕ, List, [], ◌∷◌, ◌++◌, length, Bool, true, false, refl, sym, ap, subst, ◌∙◌, arith, append_assoc, append-nil}
-use Rattle.std.specs.Prelude.{codes, Option, Some, None, if◌then◌else◌}
+use Rattle.std.proofs.Common.{◌≡◌, ◌<◌, ℕ, List, [], ◌∷◌, ◌++◌, length, true, false, refl, sym, ap, subst, ◌∙◌, arith, append_assoc, append-nil}
+use Rattle.std.specs.Prelude.{codes, Option, Some, None}
 use Rattle.opa_words.specs.declared.kinds.TokenKind.TheVariants as kind
 use Rattle.opa_words.specs.Kinds.{quoted}
 use Rattle.opa_words.proofs.QuoteLaws.{quoted_tells_apart}
-use Rattle.opa_pieces.specs.Pieces.{Piece, is_nothing, word, symbol, text}
+use Rattle.opa_pieces.specs.Pieces.{Piece, is_nothing, word, text}
 use Rattle.opa_text.specs.Spelled.{SpellsNext, SpellsMore, SpellsNames}
 use Rattle.opa_text.specs.Readers.{is_only, is_end, past_word}
 use Rattle.opa_text.proofs.Readings.{one_next, word_here}
@@ -26,7 +26,7 @@ nothing_shorter : (rest after : List Piece) → length after < length rest → r
 nothing_shorter rest after h e = omega (arith, h, ap length e)
 
 pub named_more : (first : List ℕ) (start : List Piece) (names now : List (List ℕ)) (rest after : List Piece) (n : List ℕ)
-               → Named first start names rest → SpellsNext n rest after → now ≡ names ++ n ∷ [] → Named first start now after
+    → Named first start names rest → SpellsNext n rest after → now ≡ names ++ n ∷ [] → Named first start now after
 named_more first start names now rest after n r l e = record {
   done = r.done ++ n ∷ [];
   items = e ∙ ap (λ xs. xs ++ n ∷ []) r.items;
@@ -41,7 +41,7 @@ named_more first start names now rest after n r l e = record {
         (qs, f ∙ ap (λ x. r.done ++ x ∷ qs) same.0 ∙ sym (append_assoc r.done (n ∷ []) qs), subst (SpellsMore qs) same.1 h.2)
 
 pub named_none : (first : List ℕ) (start : List Piece) (names : List (List ℕ)) (rest : List Piece)
-               → Named first start names rest → (rest ≡ [] → ⊥) → ((n : List ℕ) (after : List Piece) → SpellsNext n rest after → ⊥) → (ns : List (List ℕ)) → SpellsMore ns start → ⊥
+    → Named first start names rest → (rest ≡ [] → ⊥) → ((n : List ℕ) (after : List Piece) → SpellsNext n rest after → ⊥) → (ns : List (List ℕ)) → SpellsMore ns start → ⊥
 named_none first start names rest r n never ns h = let x = r.comes ns h in next x.0 x.2
   where
     next : (more : List (List ℕ)) → SpellsMore more rest → ⊥
@@ -49,7 +49,7 @@ named_none first start names rest r n never ns h = let x = r.comes ns h in next 
     next (q ∷ qs) k = never q k.0 k.1
 
 pub named_end : (first : List ℕ) (start : List Piece) (names : List (List ℕ)) (rest : List Piece)
-              → Named first start names rest → rest ≡ [] → (ns : List (List ℕ)) × (names ≡ first ∷ ns) × SpellsMore ns start
+    → Named first start names rest → rest ≡ [] → (ns : List (List ℕ)) × (names ≡ first ∷ ns) × SpellsMore ns start
 named_end first start names rest r e = (r.done, r.items, subst (λ xs. SpellsMore xs start) (append-nil r.done) (r.goes [] e))
 
 pub next_is_shorter : (n : List ℕ) (ps rest : List Piece) → SpellsNext n ps rest → length rest < length ps

@@ -1,20 +1,20 @@
 -- Reading what was written.
-use Rattle.std.proofs.Common.{◌≡◌, ◌<◌, ℕ, List, [], ◌∷◌, ◌++◌, length, Bool, true, false, refl, sym, ap, subst, ◌∙◌, append_assoc}
+use Rattle.std.proofs.Common.{◌≡◌, ℕ, List, [], ◌∷◌, ◌++◌, true, false, refl, sym, ap, subst, ◌∙◌, append_assoc}
 use Rattle.std.specs.Prelude.{codes}
 use Rattle.std.specs.List.{AllByRecursion}
 use Rattle.opa_value.specs.declared.value.Value.{Value}
 use Rattle.opa_date.specs.declared.TheConstants.{DAYS}
 use Rattle.opa_date.specs.Texts.{day_text}
 use Rattle.opa_date.proofs.ReadTexts.{texts_are_read}
-use Rattle.opa_line.specs.Lines.{IsLine, Follows}
+use Rattle.opa_line.specs.Lines.{Follows}
 use Rattle.opa_words.specs.Kinds.{quoted}
 use Rattle.opa_model.specs.declared.things.Kind.{Kind}
-use Rattle.opa_pieces.specs.Pieces.{Piece, word, date, symbol, text, IsCutInto}
+use Rattle.opa_pieces.specs.Pieces.{word, date, symbol, text, IsCutInto}
 use Rattle.opa_pieces.specs.Written.{Written, AreWritten, text_of, pieces_of, spaced, joined}
 use Rattle.opa_pieces.proofs.LawsHold.{written_is_cut_holds, quoted_is_token_holds}
-use Rattle.opa_text.specs.Texts.{value_text, change_text, changes_text, line_text}
+use Rattle.opa_text.specs.Texts.{value_text, changes_text, line_text}
 use Rattle.opa_text.specs.Points.{known_names, more_names}
-use Rattle.opa_text.specs.Spelled.{SpellsChanges, SpellsPairs, SpellsMore, SpellsNames, HasPairs, IsNamesOf}
+use Rattle.opa_text.specs.Spelled.{SpellsChanges, SpellsMore}
 use Rattle.opa_text.specs.Laws.{CanBeQuoted, CanBeWritten, LinesReadBack, NamesReadBack}
 use Rattle.opa_text.proofs.WrittenValues.{written, Apart, value_written, value_says, value_spells, date_piece, from_piece, semicolon_piece, comma_piece, none_piece, semicolon_apart, comma_apart, spaced_ends, apart_ends}
 
@@ -49,10 +49,11 @@ changes_spell : (k : Kind) (d : ℕ) (v : Value) (ps : List (ℕ × Value)) → 
 unfolding changes_written
 changes_spell k d v [] f h = refl
 changes_spell k d v (p ∷ ps) f h =
-    let rest = changes_written k ps in
-    (pieces_of rest,
-     ((pieces_of (spaced (date (day_text p.0)) ∷ written true k p.1 rest), pieces_of (written true k p.1 rest), refl, (day_text p.0, refl, texts_are_read p.0 f.1), value_spells true k p.1 rest h.0), f.0),
-     changes_spell k p.0 p.1 ps f.3 h.1)
+    let rest = changes_written k ps in (
+      pieces_of rest,
+      ((pieces_of (spaced (date (day_text p.0)) ∷ written true k p.1 rest), pieces_of (written true k p.1 rest), refl, (day_text p.0, refl, texts_are_read p.0 f.1), value_spells true k p.1 rest h.0), f.0),
+      changes_spell k p.0 p.1 ps f.3 h.1,
+    )
 
 -- what is written is what its text says
 cut_as : (ws : List Written) (bytes : List ℕ) → AreWritten ws → text_of ws ≡ bytes → IsCutInto bytes (pieces_of ws)

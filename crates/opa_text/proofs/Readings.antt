@@ -4,7 +4,6 @@ use Rattle.std.proofs.Common.{inl, inr}
 use Rattle.std.specs.Prelude.{Option, Some, None, Result, Ok, Err, neg_ℤ, codes, if◌then◌else◌, MatchOption}
 use Rattle.std.specs.Option.{option_map, option_and_then}
 use Rattle.std.specs.Str.{bytes_eq}
-use Rattle.std.specs.Int.RustNames.{unsigned_abs}
 use Rattle.std.proofs.Math.IntN.{neg_ℤ-neg_ℤ}
 use Rattle.std.proofs.lemmas.Slice.Eq.{bytes_eq-Decides}
 use Rattle.std.proofs.lemmas.Option.{option_and_then_some}
@@ -21,7 +20,7 @@ use Rattle.opa_words.specs.declared.kinds.TokenKind.TheVariants as kind
 use Rattle.opa_words.specs.Kinds.{quoted}
 use Rattle.opa_words.proofs.QuoteLaws.{quoted_tells_apart}
 use Rattle.opa_pieces.specs.Pieces.{Piece, word, number, date, symbol, text}
-use Rattle.opa_text.specs.Spelled.{SpellsNumber, SpellsDay, SpellsValue, SpellsChange, SpellsNext}
+use Rattle.opa_text.specs.Spelled.{SpellsDay, SpellsValue, SpellsChange, SpellsNext}
 use Rattle.opa_text.specs.Readers as reads
 use Rattle.opa_text.specs.Readers.{as_written, value_at, day_at, change_at, changed_day, value_from, past_symbol, past_word, past_from, name_at, next_name, word_value, token_value, negative_token, after_minus, with_rest, number_of, number_read, negative, day_of, day_read, is_symbol, is_word, text_token}
 
@@ -264,7 +263,7 @@ change_sound p ps rest e =
     dayed : (later : List Piece) (d : ℕ) (last : List Piece) → past_from ps ≡ Some later → day_at later ≡ Some (d, last) → d ≡ p.0 → SpellsValue p.1 last rest → SpellsChange p ps rest
     dayed later d last f g same s =
         option_and_then_some (past_word (codes "from")) (past_symbol (codes ";") ps) later f (λ qs a b.
-            (later, last, symbol_sound (codes ";") ps qs a ∙ ap (λ x. symbol (codes ";") ∷ x) (word_here (codes "from") qs later b), subst (λ n. SpellsDay n later last) same (day_sound d later last g), s))
+        (later, last, symbol_sound (codes ";") ps qs a ∙ ap (λ x. symbol (codes ";") ∷ x) (word_here (codes "from") qs later b), subst (λ n. SpellsDay n later last) same (day_sound d later last g), s))
 
     valued : (x : ℕ × List Piece) (o : Option (Value × List Piece)) → value_at x.1 ≡ o → changed_day ps ≡ Some x → option_map {U = (ℕ × Value) × List Piece} (λ (y : Value × List Piece). ((x.0, y.0), y.1)) o ≡ read_as {A = ℕ × Value} (p.0, as_written p.1) rest → SpellsChange p ps rest
     valued x None h d k = absurd (cc k)
@@ -314,16 +313,16 @@ one_next ps n m rest left s t =
 -- ---- for the calls
 
 pub value_told : {X : Type 0} (view : X → List Piece) (ps : List Piece) (r : Option (Value × X)) → option_map (λ (x : Value × X). (as_written x.0, view x.1)) r ≡ value_at ps
-               → MatchOption r ((v : Value) (rest : List Piece) → SpellsValue v ps rest → ⊥) (λ x. SpellsValue x.0 ps (view x.1))
+    → MatchOption r ((v : Value) (rest : List Piece) → SpellsValue v ps rest → ⊥) (λ x. SpellsValue x.0 ps (view x.1))
 value_told view ps None e = λ v rest s. absurd (let f : None ≡ Some (as_written v, rest) = e ∙ value_complete v ps rest s in cc f)
 value_told view ps (Some x) e = value_sound x.0 ps (view x.1) (sym e)
 
 pub name_told : {X : Type 0} (view : X → List Piece) (ps : List Piece) (r : Option (List ℕ × X)) → option_map (λ (x : List ℕ × X). (quoted x.0, view x.1)) r ≡ name_at ps
-              → MatchOption r ((n : List ℕ) (rest : List Piece) → ps ≡ text n ∷ rest → ⊥) (λ x. ps ≡ text x.0 ∷ view x.1)
+    → MatchOption r ((n : List ℕ) (rest : List Piece) → ps ≡ text n ∷ rest → ⊥) (λ x. ps ≡ text x.0 ∷ view x.1)
 name_told view ps None e = λ n rest s. absurd (let f : None ≡ Some (quoted n, rest) = e ∙ ap name_at s in cc f)
 name_told view ps (Some x) e = name_sound x.0 ps (view x.1) (sym e)
 
 pub next_told : {X : Type 0} (view : X → List Piece) (ps : List Piece) (r : Option (List ℕ × X)) → option_map (λ (x : List ℕ × X). (quoted x.0, view x.1)) r ≡ next_name ps
-              → MatchOption r ((n : List ℕ) (rest : List Piece) → SpellsNext n ps rest → ⊥) (λ x. SpellsNext x.0 ps (view x.1))
+    → MatchOption r ((n : List ℕ) (rest : List Piece) → SpellsNext n ps rest → ⊥) (λ x. SpellsNext x.0 ps (view x.1))
 next_told view ps None e = λ n rest s. absurd (let f : None ≡ Some (quoted n, rest) = e ∙ next_complete n ps rest s in cc f)
 next_told view ps (Some x) e = next_sound x.0 ps (view x.1) (sym e)

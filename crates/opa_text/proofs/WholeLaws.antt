@@ -1,9 +1,8 @@
 -- Whole texts.
-use Rattle.std.proofs.Common.{◌≡◌, ◌<◌, ℕ, List, [], ◌∷◌, length, refl, sym, ap, subst, ◌∙◌}
+use Rattle.std.proofs.Common.{◌≡◌, ℕ, List, length, sym, ap, subst, ◌∙◌}
 use Rattle.std.specs.Str.{chars}
 use Rattle.opa_value.specs.declared.value.Value.{Value}
-use Rattle.opa_date.specs.declared.TheConstants.{DAYS}
-use Rattle.opa_line.specs.Lines.{at, IsLine}
+use Rattle.opa_line.specs.Lines.{at}
 use Rattle.opa_line.proofs.LineLaws.{equal_where_values_are}
 use Rattle.opa_words.specs.declared.kinds.Token.{Token}
 use Rattle.opa_words.specs.Cuts.{Cuts}
@@ -11,7 +10,7 @@ use Rattle.opa_pieces.specs.Pieces.{Piece, IsCutInto, pieces}
 use Rattle.opa_pieces.proofs.LawsHold.{one_cutting_holds}
 use Rattle.opa_text.specs.declared.fault.ReadFault.{ReadFault}
 use Rattle.opa_text.specs.declared.fault.ReadFault.TheVariants as fault
-use Rattle.opa_text.specs.Spelled.{SpellsPairs, SpellsLine, SpellsNames, IsLineOf, IsNamesOf, HasPairs, IsNotCut, SaysNoLine, SaysNoNames}
+use Rattle.opa_text.specs.Spelled.{SpellsPairs, SpellsLine, SpellsNames, IsLineOf, IsNamesOf, IsNotCut, SaysNoLine, SaysNoNames}
 use Rattle.opa_text.specs.Laws.{OneValue, OneLine, OneLineOf, OneNames}
 use Rattle.opa_text.proofs.Readings.{one_value}
 use Rattle.opa_text.proofs.ChangeLaws.{pairs_one}

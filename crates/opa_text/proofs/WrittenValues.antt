@@ -1,8 +1,8 @@
 -- Values as they are written token by token.
-use Rattle.std.proofs.Common.{◌≡◌, ◌<◌, ◌≤◌, ℕ, zero, suc, ℤ, pos, negsuc, List, [], ◌∷◌, ◌++◌, length, take, Bool, true, false, refl, sym, ap, subst, ◌∙◌, arith, append_assoc, append-nil, decimal}
+use Rattle.std.proofs.Common.{◌≡◌, ◌<◌, ◌≤◌, ℕ, ℤ, pos, negsuc, List, [], ◌∷◌, ◌++◌, length, take, Bool, true, false, refl, sym, ap, subst, ◌∙◌, arith, append-nil, decimal}
 use Rattle.std.proofs.Common.{inl, inr}
-use Rattle.std.specs.Prelude.{Ok, Err, not, neg_ℤ, ◌-◌, codes, ◌||◌, ◌&&◌, ◌==◌, ◌/◌, ◌%◌, ◌^◌, ◌+◌, nat_lt, map, if◌then◌else◌}
-use Rattle.std.specs.List.{list_all, list_any}
+use Rattle.std.specs.Prelude.{Ok, Err, not, neg_ℤ, ◌-◌, codes, ◌||◌, ◌/◌, ◌%◌, ◌^◌, ◌+◌, if◌then◌else◌}
+use Rattle.std.specs.List.{list_all}
 use Rattle.std.specs.Str.{chars}
 use Rattle.std.specs.Int.RustNames.{unsigned_abs}
 use Rattle.std.specs.Char.{is_ascii_digit}
@@ -10,8 +10,8 @@ use Rattle.std.proofs.lemmas.Fmt.{decimal_nonempty, digits_decimal}
 use Rattle.ucd_derived.proofs.Computing.{ucd_derived}
 use Rattle.opa_value.specs.declared.value.Value.{Value}
 use Rattle.opa_value.specs.declared.value.Value.TheVariants as value
-use Rattle.opa_value.specs.Numbers.{InRange, most}
-use Rattle.opa_value.specs.NumberText.{Spells, read_number, number_text as text_with, plain_text, money_text, is_negative, sign_text, behind_text, four_digits, decimals_needed, all_digits}
+use Rattle.opa_value.specs.Numbers.{InRange}
+use Rattle.opa_value.specs.NumberText.{read_number, number_text as text_with, plain_text, money_text, is_negative, sign_text, behind_text, four_digits, decimals_needed, all_digits}
 use Rattle.opa_value.proofs.Digits.{own}
 use Rattle.opa_value.proofs.ReadBack.{number_spelled, needed_shows, plain_back, money_back}
 use Rattle.opa_date.specs.declared.TheConstants.{DAYS}
@@ -20,16 +20,15 @@ use Rattle.opa_date.specs.Texts.{day_text, read_day, is_day_form, day_of_named, 
 use Rattle.opa_date.specs.declared.fault.DayFault.TheVariants.{Form}
 use Rattle.opa_date.proofs.ReadTexts.{texts_are_read}
 use Rattle.opa_words.specs.declared.kinds.TokenKind.TheVariants as kind
-use Rattle.opa_words.specs.Characters.{is_digit}
-use Rattle.opa_words.specs.Kinds.{IsToken, IsNumber, AreDigits, is_date, is_word, quoted}
-use Rattle.opa_words.proofs.Letters.{left, right, both, date_parts}
+use Rattle.opa_words.specs.Kinds.{IsToken, IsNumber, is_date, is_word}
+use Rattle.opa_words.proofs.Letters.{left, both, date_parts}
 use Rattle.opa_model.specs.declared.things.Kind.{Kind}
 use Rattle.opa_model.specs.declared.things.Kind.TheVariants as kinds
 use Rattle.opa_pieces.specs.Pieces.{Piece, IsPiece, word, number, date, symbol, text}
-use Rattle.opa_pieces.specs.Written.{Written, AreWritten, text_of, pieces_of, gap, spaced, joined, ends_before, begins_apart, stands_alone}
+use Rattle.opa_pieces.specs.Written.{Written, AreWritten, text_of, pieces_of, gap, joined, ends_before, begins_apart, stands_alone}
 use Rattle.opa_pieces.proofs.Ascii.{is_ascii, ascii_chars}
 use Rattle.opa_pieces.proofs.LawsHold.{ascii_is_token_holds, quoted_is_token_holds}
-use Rattle.opa_pieces.proofs.Separate.{all_wider, all_append, numeric, dated, number_numeric, date_dated}
+use Rattle.opa_pieces.proofs.Separate.{all_wider, numeric, dated, number_numeric, date_dated}
 use Rattle.opa_text.specs.Texts.{value_text, number_text, bool_text}
 use Rattle.opa_text.specs.Spelled.{SpellsNumber, SpellsValue}
 use Rattle.opa_text.specs.Laws.{CanBeWritten, HasDecimals}

@@ -3,7 +3,6 @@ use Rattle.std.specs.Prelude.{ℕ, List, [], ◌∷◌, ◌++◌, Option, Some, 
 use Rattle.std.specs.Option.{option_map, option_and_then}
 use Rattle.opa_words.specs.Kinds.{quoted}
 use Rattle.opa_model.specs.declared.lists.Lists.{Lists}
-use Rattle.opa_model.specs.declared.things.Attribute.{Attribute}
 use Rattle.opa_model.specs.declared.things.Sentence.{Sentence}
 use Rattle.opa_model.specs.Lookups.{attribute_at, relation_at}
 use Rattle.opa_model.specs.Models.{HasAttribute, HasRelation}
@@ -34,7 +33,6 @@ known_names (n ∷ ns) = quoted n ++ more_names ns
 abbrev pub names_text : Option (List (List ℕ)) → List ℕ
 names_text None = codes "unknown"
 names_text (Some ns) = known_names ns
-
 
 -- what is asked of an attribute: its question, and where it has no sentence `what is PHRASE`
 abbrev pub asked_attribute : Lists → Option Sentence → List ℕ → Option (List ℕ)

@@ -1,5 +1,5 @@
 -- The texts of values and of lines.
-use Rattle.std.specs.Prelude.{◌≡◌, ℕ, ◌<◌, Some, ℤ, List, [], ◌∷◌, ◌++◌, Bool, true, false, codes, if◌then◌else◌}
+use Rattle.std.specs.Prelude.{◌≡◌, ℕ, ◌<◌, Some, ℤ, List, [], ◌∷◌, ◌++◌, Bool, codes, if◌then◌else◌}
 use Rattle.opa_value.specs.declared.value.Value.{Value}
 use Rattle.opa_value.specs.declared.value.Value.TheVariants as value
 use Rattle.opa_value.specs.NumberText.{plain_text, money_text}

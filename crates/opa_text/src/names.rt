@@ -63,10 +63,7 @@ pub fn names_of(alloc: Global, pieces: Pieces<'_>) -> Result<Option<List<Txt>>, 
     }
 }
 
-fn first_name<'t>(
-    alloc: Global,
-    pieces: Pieces<'t>,
-) -> Result<Option<(Txt, Pieces<'t>)>, NoMemory>
+fn first_name<'t>(alloc: Global, pieces: Pieces<'t>) -> Result<Option<(Txt, Pieces<'t>)>, NoMemory>
     requires { AreOfKind pieces }
     ensures name { IfOk result (λ r. MatchOption r ((n : Seq ℕ) (rest : Seq Piece) → seen pieces.entry ≡ text n ∷ rest → ⊥) (λ x. seen pieces.entry ≡ text x.0 ∷ seen x.1)) }
     ensures later { IfOk result (λ r. IfSome r (λ x. AreOfKind x.1)) }
@@ -74,10 +71,7 @@ fn first_name<'t>(
     name_at(alloc, pieces)
 }
 
-fn later_name<'t>(
-    alloc: Global,
-    pieces: Pieces<'t>,
-) -> Result<Option<(Txt, Pieces<'t>)>, NoMemory>
+fn later_name<'t>(alloc: Global, pieces: Pieces<'t>) -> Result<Option<(Txt, Pieces<'t>)>, NoMemory>
     requires { AreOfKind pieces }
     ensures name { IfOk result (λ r. MatchOption r ((n : Seq ℕ) (rest : Seq Piece) → SpellsNext n (seen pieces.entry) rest → ⊥) (λ x. SpellsNext x.0 (seen pieces.entry) (seen x.1))) }
     ensures later { IfOk result (λ r. IfSome r (λ x. AreOfKind x.1)) }
@@ -86,11 +80,7 @@ fn later_name<'t>(
 }
 
 /// The names that begin with this one.
-fn with_names(
-    alloc: Global,
-    first: Txt,
-    start: Pieces<'_>,
-) -> Result<Option<List<Txt>>, NoMemory>
+fn with_names(alloc: Global, first: Txt, start: Pieces<'_>) -> Result<Option<List<Txt>>, NoMemory>
     requires { AreOfKind start }
     ensures { IfOk result (λ r. MatchOption r ((ns : Seq (Seq ℕ)) → SpellsMore ns (seen start.entry) → ⊥) (λ v. (ns : Seq (Seq ℕ)) × (v ≡ first ∷ ns) × SpellsMore ns (seen start.entry))) }
 {

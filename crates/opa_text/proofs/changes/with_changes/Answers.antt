@@ -1,4 +1,4 @@
-use Rattle.std.proofs.Common.{◌≡◌, ℕ, List, sym, ◌∙◌}
+use Rattle.std.proofs.Common.{ℕ, List, sym, ◌∙◌}
 use Rattle.opa_value.specs.declared.value.Value.{Value}
 use Rattle.opa_pieces.specs.declared.pieces.Pieces.{Pieces}
 use Rattle.opa_pieces.specs.Pieces.{Piece, seen, AreOfKind}
@@ -17,7 +17,7 @@ loop-rest-preserved c =
     let one = match_some c.in_ok-later_change.field-0 (c.in-Some.change, c.in-Some.after) ((p : ℕ × Value) (after : List Piece) → SpellsLater c.loop-rest.last p (seen c.loop-rest.rest) after → ⊥) (λ (x : (ℕ × Value) × Pieces). SpellsLater c.loop-rest.last x.0 (seen c.loop-rest.rest) (seen x.1)) c.in-Some.is c.in_ok-later_change.ensures.change in
     record {
       reached =
-        reached_more c.args.first (seen c.args.start) c.loop-rest.pairs.items c.push-in-Some.new.self.items c.loop-rest.last (seen c.loop-rest.rest) (seen c.in-Some.after) c.in-Some.change c.loop-rest.invariant.reached one c.in_ok-push-in-Some.ensures.items;
+          reached_more c.args.first (seen c.args.start) c.loop-rest.pairs.items c.push-in-Some.new.self.items c.loop-rest.last (seen c.loop-rest.rest) (seen c.in-Some.after) c.in-Some.change c.loop-rest.invariant.reached one c.in_ok-push-in-Some.ensures.items;
       kinds = if_some c.in_ok-later_change.field-0 (c.in-Some.change, c.in-Some.after) (λ (x : (ℕ × Value) × Pieces). AreOfKind x.1) c.in-Some.is c.in_ok-later_change.ensures.later;
     }
 

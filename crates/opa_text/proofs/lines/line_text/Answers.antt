@@ -1,7 +1,4 @@
-use Rattle.std.proofs.Common.{ℕ, sym, ◌∙◌, subst}
-use Rattle.std.specs.Prelude.{All}
-use Rattle.opa_date.specs.declared.TheConstants.{DAYS}
-use Rattle.opa_line.specs.Lines.{IsLine}
+use Rattle.std.proofs.Common.{ℕ, sym, ◌∙◌}
 use Rattle.opa_value.specs.declared.value.Value.{Value}
 use Rattle.opa_text.specs.Texts.{IsOfCalendar}
 use Rattle.opa_text.proofs.Lists.{first_all, later_all, days_below, days_all}

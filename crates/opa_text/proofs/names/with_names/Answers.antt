@@ -1,4 +1,4 @@
-use Rattle.std.proofs.Common.{◌≡◌, ℕ, List, sym, ◌∙◌}
+use Rattle.std.proofs.Common.{ℕ, List, sym, ◌∙◌}
 use Rattle.opa_pieces.specs.declared.pieces.Pieces.{Pieces}
 use Rattle.opa_pieces.specs.Pieces.{Piece, seen, AreOfKind}
 use Rattle.opa_text.specs.Spelled.{SpellsNext}
