@@ -1,0 +1,6 @@
+pub mod Choices
+pub mod Codes
+pub mod Lines
+pub mod Running
+pub mod Steps
+pub mod Tallies

@@ -1,0 +1,16 @@
+//! Rules as flat code, which is run over whole lines: no tree is walked and no day is looked at by itself.
+#![tactic(auto)]
+
+mod carry;
+mod choice;
+mod declared;
+mod gather;
+mod gathering;
+mod lines;
+mod node;
+mod operations;
+mod places;
+mod run;
+mod tally;
+mod windows;
+mod witness;
