@@ -15,7 +15,10 @@ use Rattle.opa_mean.specs.Meaning.{first_value, amount}
 use Rattle.opa_code.specs.declared.gathering.Gathering.{Gathering}
 use Rattle.opa_code.specs.declared.gathering.Gathering.TheVariants as gathering
 use Rattle.opa_code.specs.declared.tally.Tally.{Tally}
-use Rattle.opa_code.specs.Tallies.{IsTally, IsSmall, both, held_if, better_of, winner, ahead, peak, number_in, day_in, beats_number, beats_day, told, unless_tallied, best_told, number_or, day_or, gather_of, is_most}
+use Rattle.opa_code.specs.declared.marks.Marks.{Marks}
+use Rattle.opa_code.specs.declared.peaks.Peaks.{Peaks}
+use Rattle.opa_code.specs.declared.sums.Sums.{Sums}
+use Rattle.opa_code.specs.Tallies.{IsTally, IsBoth, AreSums, AreSmall, AreBothSums, ArePeaks, AreBothPeaks, marks_of, both_marks, held_if, better_of, winner, ahead, peak, number_in, day_in, beats_number, beats_day, told, unless_marked, best_told, number_or, day_or, gather_of, is_most}
 
 pub total-append : (vs ws : List Value) → total (vs ++ ws) ≡ total vs +ℤ total ws
 total-append [] ws = sym (+ℤ_idl (total ws))
@@ -92,22 +95,38 @@ lower a b x y h k = grind (arith, h, k)
 upper : (a b : ℕ) (x y : ℤ) → (x ≤ℤ pos a) → (y ≤ℤ pos b) → ((x +ℤ y) ≤ℤ pos (a + b))
 upper a b x y h k = grind (arith, h, k)
 
--- the tallies of two lists make that of both
-pub tally_both : (most : Bool) (vs ws : List Value) (s t : Tally) → IsTally most vs s → IsTally most ws t → IsTally most (vs ++ ws) (both most s t)
-tally_both most vs ws s t h k =
+both_marks_are : (vs ws : List Value) → both_marks (marks_of vs) (marks_of ws) ≡ marks_of (vs ++ ws)
+both_marks_are vs ws =
+    ap (λ b. let m : Marks = record { some_false = b; some_true = list_any is_true vs || list_any is_true ws; unknown = list_any is_unknown vs || list_any is_unknown ws; uncertain = list_any is_uncertain vs || list_any is_uncertain ws } in m) (sym (list_any-append is_false vs ws))
+    ∙ ap (λ b. let m : Marks = record { some_false = list_any is_false (vs ++ ws); some_true = b; unknown = list_any is_unknown vs || list_any is_unknown ws; uncertain = list_any is_uncertain vs || list_any is_uncertain ws } in m) (sym (list_any-append is_true vs ws))
+    ∙ ap (λ b. let m : Marks = record { some_false = list_any is_false (vs ++ ws); some_true = list_any is_true (vs ++ ws); unknown = b; uncertain = list_any is_uncertain vs || list_any is_uncertain ws } in m) (sym (list_any-append is_unknown vs ws))
+    ∙ ap (λ b. let m : Marks = record { some_false = list_any is_false (vs ++ ws); some_true = list_any is_true (vs ++ ws); unknown = list_any is_unknown (vs ++ ws); uncertain = b } in m) (sym (list_any-append is_uncertain vs ws))
+
+both_sums_are : (vs ws : List Value) (s t r : Sums) → AreSums vs s → AreSums ws t → AreBothSums s t r → AreSums (vs ++ ws) r
+both_sums_are vs ws s t r h k b =
     let size : length (vs ++ ws) * 10 ^ 17 ≡ length vs * 10 ^ 17 + length ws * 10 ^ 17 = ap (λ n. n * 10 ^ 17) (length-append vs ws) ∙ add-mul (length vs) (length ws) (10 ^ 17) in
     record {
-      some_false = ap (λ b. b || t.some_false) h.some_false ∙ ap (λ b. list_any is_false vs || b) k.some_false ∙ sym (list_any-append is_false vs ws);
-      some_true = ap (λ b. b || t.some_true) h.some_true ∙ ap (λ b. list_any is_true vs || b) k.some_true ∙ sym (list_any-append is_true vs ws);
-      unknown = ap (λ b. b || t.unknown) h.unknown ∙ ap (λ b. list_any is_unknown vs || b) k.unknown ∙ sym (list_any-append is_unknown vs ws);
-      uncertain = ap (λ b. b || t.uncertain) h.uncertain ∙ ap (λ b. list_any is_uncertain vs || b) k.uncertain ∙ sym (list_any-append is_uncertain vs ws);
-      trues = ap (λ n. n + t.trues) h.trues ∙ ap (λ n. length (filter is_true vs) + n) k.trues ∙ sym (ap length (filter-append is_true vs ws) ∙ length-append (filter is_true vs) (filter is_true ws));
-      total = ap (λ z. z +ℤ t.total) h.total ∙ ap (λ z. total vs +ℤ z) k.total ∙ sym (total-append vs ws);
-      low = subst (λ n. neg_ℤ (pos n) ≤ℤ (s.total +ℤ t.total)) (sym size) (lower (length vs * 10 ^ 17) (length ws * 10 ^ 17) s.total t.total h.low k.low);
-      high = subst (λ n. (s.total +ℤ t.total) ≤ℤ pos n) (sym size) (upper (length vs * 10 ^ 17) (length ws * 10 ^ 17) s.total t.total h.high k.high);
-      number = better_is (beats_number most) s.has_number t.has_number s.number t.number ∙ ap (λ o. ahead (beats_number most) o (held_if t.has_number t.number)) h.number ∙ ap (ahead (beats_number most) (peak (beats_number most) number_in vs)) k.number ∙ sym (peak-append (beats_number most) (number_assoc most) number_in vs ws);
-      day = better_is (beats_day most) s.has_day t.has_day s.day t.day ∙ ap (λ o. ahead (beats_day most) o (held_if t.has_day t.day)) h.day ∙ ap (ahead (beats_day most) (peak (beats_day most) day_in vs)) k.day ∙ sym (peak-append (beats_day most) (day_assoc most) day_in vs ws);
+      trues = b.trues ∙ ap (λ n. n + t.trues) h.trues ∙ ap (λ n. length (filter is_true vs) + n) k.trues ∙ sym (ap length (filter-append is_true vs ws) ∙ length-append (filter is_true vs) (filter is_true ws));
+      total = b.total ∙ ap (λ z. z +ℤ t.total) h.total ∙ ap (λ z. total vs +ℤ z) k.total ∙ sym (total-append vs ws);
+      low = subst (λ z. neg_ℤ (pos (length (vs ++ ws) * 10 ^ 17)) ≤ℤ z) (sym b.total) (subst (λ n. neg_ℤ (pos n) ≤ℤ (s.total +ℤ t.total)) (sym size) (lower (length vs * 10 ^ 17) (length ws * 10 ^ 17) s.total t.total h.low k.low));
+      high = subst (λ z. z ≤ℤ pos (length (vs ++ ws) * 10 ^ 17)) (sym b.total) (subst (λ n. (s.total +ℤ t.total) ≤ℤ pos n) (sym size) (upper (length vs * 10 ^ 17) (length ws * 10 ^ 17) s.total t.total h.high k.high));
     }
+
+both_peaks_are : (most : Bool) (vs ws : List Value) (s t r : Peaks) → ArePeaks most vs s → ArePeaks most ws t → AreBothPeaks most s t r → ArePeaks most (vs ++ ws) r
+both_peaks_are most vs ws s t r h k b = record {
+  number = ap (λ c. held_if c r.number) b.has_number ∙ ap (held_if (s.has_number || t.has_number)) b.number ∙ better_is (beats_number most) s.has_number t.has_number s.number t.number
+      ∙ ap (λ o. ahead (beats_number most) o (held_if t.has_number t.number)) h.number ∙ ap (ahead (beats_number most) (peak (beats_number most) number_in vs)) k.number ∙ sym (peak-append (beats_number most) (number_assoc most) number_in vs ws);
+  day = ap (λ c. held_if c r.day) b.has_day ∙ ap (held_if (s.has_day || t.has_day)) b.day ∙ better_is (beats_day most) s.has_day t.has_day s.day t.day
+      ∙ ap (λ o. ahead (beats_day most) o (held_if t.has_day t.day)) h.day ∙ ap (ahead (beats_day most) (peak (beats_day most) day_in vs)) k.day ∙ sym (peak-append (beats_day most) (day_assoc most) day_in vs ws);
+}
+
+-- the tallies of two lists make that of both
+pub tally_both : (most : Bool) (vs ws : List Value) (s t r : Tally) → IsTally most vs s → IsTally most ws t → IsBoth most s t r → IsTally most (vs ++ ws) r
+tally_both most vs ws s t r h k b = record {
+  marks = b.marks ∙ ap (λ m. both_marks m t.marks) h.marks ∙ ap (both_marks (marks_of vs)) k.marks ∙ both_marks_are vs ws;
+  sums = both_sums_are vs ws s.sums t.sums r.sums h.sums k.sums b.sums;
+  peaks = both_peaks_are most vs ws s.peaks t.peaks r.peaks h.peaks k.peaks b.peaks;
+}
 
 filter_few : (vs : List Value) → length (filter is_true vs) ≤ length vs
 filter_few [] = omega arith
@@ -117,19 +136,19 @@ filter_few (v ∷ vs) = go (is_true v) (filter_few vs)
     go true h = omega (arith, h)
     go false h = omega (arith, h)
 
--- the tally of fewer than 2^60 values can be added
-pub tally_small : (most : Bool) (vs : List Value) (t : Tally) → length vs < 2 ^ 60 → IsTally most vs t → IsSmall t
-tally_small most vs t few h =
+-- the sums of fewer than 2^60 values can be added
+pub sums_small : (vs : List Value) (t : Sums) → length vs < 2 ^ 60 → AreSums vs t → AreSmall t
+sums_small vs t few h =
     let f = filter_few vs in
-    let size : length vs * 10 ^ 17 ≤ 2 ^ 126 = omega (arith, few) in
+    let size : length vs * 10 ^ 17 ≤ 2 ^ 120 = omega (arith, few) in
     record {
       trues = omega (arith, h.trues, f, few);
       low = let l = h.low in grind (arith, l, size);
       high = let l = h.high in grind (arith, l, size);
     }
 
-open_told : (most : Bool) (vs : List Value) (t : Tally) (v : Value) → IsTally most vs t → unless_tallied t v ≡ unless_open vs v
-open_told most vs t v h = ap (λ b. cond b Unknown (cond t.uncertain Uncertain v)) h.unknown ∙ ap (λ b. cond (list_any is_unknown vs) Unknown (cond b Uncertain v)) h.uncertain
+open_told : (vs : List Value) (t : Marks) (v : Value) → t ≡ marks_of vs → unless_marked t v ≡ unless_open vs v
+open_told vs t v h = ap (λ m. unless_marked m v) h
 
 -- the best of values that begin with one of a kind
 module _ {X : Type 0} (wrap : X → Value) (key : Value → Option X) (lt : X → X → Bool) (assoc : Assoc lt) (beaten : Value → Value → Bool)
@@ -215,7 +234,7 @@ beats_words t false (Num n) = refl
 beats_words t false (Day d) = refl
 beats_words t false _ = refl
 
-best_is : (most : Bool) (vs : List Value) (t : Tally) → IsTally most vs t → best_told t (first_value vs) ≡ best (is_beaten_of most) vs
+best_is : (most : Bool) (vs : List Value) (t : Peaks) → ArePeaks most vs t → best_told t (first_value vs) ≡ best (is_beaten_of most) vs
 best_is most [] t h = refl
 best_is most (Num n ∷ vs) t h = let r = best_numbers most n vs in ap number_or (h.number ∙ r.1) ∙ sym r.2
 best_is most (Day d ∷ vs) t h = let r = best_days most d vs in ap day_or (h.day ∙ r.1) ∙ sym r.2
@@ -226,10 +245,10 @@ best_is most (Words s ∷ vs) t h = sym (unbeaten most (Words s) (beats_words s 
 
 -- a tally tells what is gathered
 pub told_is : (g : Gathering) (vs : List Value) (t : Tally) → IsTally (is_most g) vs t → told g t (first_value vs) ≡ gather_of g vs
-told_is gathering.All vs t h = ap (λ b. cond b (Truth false) (unless_tallied t (Truth true))) h.some_false ∙ ap (λ v. cond (list_any is_false vs) (Truth false) v) (open_told true vs t (Truth true) h)
-told_is gathering.Any vs t h = ap (λ b. cond b (Truth true) (unless_tallied t (Truth false))) h.some_true ∙ ap (λ v. cond (list_any is_true vs) (Truth true) v) (open_told true vs t (Truth false) h)
-told_is gathering.Open vs t h = open_told true vs t Uncertain h
-told_is gathering.CountIf vs t h = open_told true vs t _ h ∙ ap (λ n. unless_open vs (amount n)) h.trues
-told_is gathering.Sum vs t h = open_told true vs t _ h ∙ ap (λ z. unless_open vs (number_of z)) h.total
-told_is (gathering.Best true) vs t h = open_told true vs t _ h ∙ ap (unless_open vs) (best_is true vs t h)
-told_is (gathering.Best false) vs t h = open_told false vs t _ h ∙ ap (unless_open vs) (best_is false vs t h)
+told_is gathering.All vs t h = ap (λ b. cond b (Truth false) (unless_marked t.marks (Truth true))) (ap (λ (m : Marks). m.some_false) h.marks) ∙ ap (λ v. cond (list_any is_false vs) (Truth false) v) (open_told vs t.marks (Truth true) h.marks)
+told_is gathering.Any vs t h = ap (λ b. cond b (Truth true) (unless_marked t.marks (Truth false))) (ap (λ (m : Marks). m.some_true) h.marks) ∙ ap (λ v. cond (list_any is_true vs) (Truth true) v) (open_told vs t.marks (Truth false) h.marks)
+told_is gathering.Open vs t h = open_told vs t.marks Uncertain h.marks
+told_is gathering.CountIf vs t h = open_told vs t.marks _ h.marks ∙ ap (λ n. unless_open vs (amount n)) h.sums.trues
+told_is gathering.Sum vs t h = open_told vs t.marks _ h.marks ∙ ap (λ z. unless_open vs (number_of z)) h.sums.total
+told_is (gathering.Best true) vs t h = open_told vs t.marks _ h.marks ∙ ap (unless_open vs) (best_is true vs t.peaks h.peaks)
+told_is (gathering.Best false) vs t h = open_told vs t.marks _ h.marks ∙ ap (unless_open vs) (best_is false vs t.peaks h.peaks)

@@ -9,6 +9,9 @@ use Rattle.opa_mean.specs.Meaning.{true_count, amount}
 use Rattle.opa_code.specs.declared.gathering.Gathering.{Gathering}
 use Rattle.opa_code.specs.declared.gathering.Gathering.TheVariants as gathering
 use Rattle.opa_code.specs.declared.tally.Tally.{Tally}
+use Rattle.opa_code.specs.declared.marks.Marks.{Marks}
+use Rattle.opa_code.specs.declared.peaks.Peaks.{Peaks}
+use Rattle.opa_code.specs.declared.sums.Sums.{Sums}
 
 -- what is gathered from values
 abbrev pub gather_of : Gathering → List Value → Value
@@ -61,16 +64,32 @@ abbrev pub held_if : {X : Type 0} → Bool → X → Option X
 held_if true x = Some x
 held_if false x = None
 
--- the tally of values
-pub record IsTally (most : Bool) (vs : List Value) (t : Tally) : Type 0 where
-  pub some_false : t.some_false ≡ list_any is_false vs
-  pub some_true : t.some_true ≡ list_any is_true vs
-  pub unknown : t.unknown ≡ list_any is_unknown vs
-  pub uncertain : t.uncertain ≡ list_any is_uncertain vs
+-- which truth values and open ones occur
+abbrev pub marks_of : List Value → Marks
+marks_of vs = record { some_false = list_any is_false vs; some_true = list_any is_true vs; unknown = list_any is_unknown vs; uncertain = list_any is_uncertain vs }
+
+abbrev pub both_marks : Marks → Marks → Marks
+both_marks s t = record { some_false = s.some_false || t.some_false; some_true = s.some_true || t.some_true; unknown = s.unknown || t.unknown; uncertain = s.uncertain || t.uncertain }
+
+-- how many values are true, and the sum of the numbers' counts, which is a sum of so many
+pub record AreSums (vs : List Value) (t : Sums) : Type 0 where
   pub trues : t.trues ≡ length (filter is_true vs)
   pub total : t.total ≡ total vs
   pub low : neg_ℤ (pos (length vs * 10 ^ 17)) ≤ℤ t.total
   pub high : t.total ≤ℤ pos (length vs * 10 ^ 17)
+
+-- two such sums can be added
+pub record AreSmall (t : Sums) : Type 0 where
+  pub trues : t.trues < 2 ^ 63
+  pub low : neg_ℤ (pos (2 ^ 120)) ≤ℤ t.total
+  pub high : t.total ≤ℤ pos (2 ^ 120)
+
+pub record AreBothSums (s t r : Sums) : Type 0 where
+  pub trues : r.trues ≡ s.trues + t.trues
+  pub total : r.total ≡ s.total +ℤ t.total
+
+-- the best number and the best day
+pub record ArePeaks (most : Bool) (vs : List Value) (t : Peaks) : Type 0 where
   pub number : held_if t.has_number t.number ≡ peak (beats_number most) number_in vs
   pub day : held_if t.has_day t.day ≡ peak (beats_day most) day_in vs
 
@@ -80,29 +99,26 @@ better_of is_beaten true x true y = winner is_beaten x y
 better_of is_beaten true x false y = x
 better_of is_beaten false x b y = y
 
--- of two tallies
-abbrev pub both : Bool → Tally → Tally → Tally
-both most s t = record {
-  some_false = s.some_false || t.some_false;
-  some_true = s.some_true || t.some_true;
-  unknown = s.unknown || t.unknown;
-  uncertain = s.uncertain || t.uncertain;
-  trues = s.trues + t.trues;
-  total = s.total +ℤ t.total;
-  has_number = s.has_number || t.has_number;
-  number = better_of (beats_number most) s.has_number s.number t.has_number t.number;
-  has_day = s.has_day || t.has_day;
-  day = better_of (beats_day most) s.has_day s.day t.has_day t.day;
-}
+pub record AreBothPeaks (most : Bool) (s t r : Peaks) : Type 0 where
+  pub has_number : r.has_number ≡ (s.has_number || t.has_number)
+  pub number : r.number ≡ better_of (beats_number most) s.has_number s.number t.has_number t.number
+  pub has_day : r.has_day ≡ (s.has_day || t.has_day)
+  pub day : r.day ≡ better_of (beats_day most) s.has_day s.day t.has_day t.day
 
--- two such tallies can be added
-pub record IsSmall (t : Tally) : Type 0 where
-  pub trues : t.trues < 2 ^ 63
-  pub low : neg_ℤ (pos (2 ^ 126)) ≤ℤ t.total
-  pub high : t.total ≤ℤ pos (2 ^ 126)
+-- the tally of values
+pub record IsTally (most : Bool) (vs : List Value) (t : Tally) : Type 0 where
+  pub marks : t.marks ≡ marks_of vs
+  pub sums : AreSums vs t.sums
+  pub peaks : ArePeaks most vs t.peaks
 
-abbrev pub unless_tallied : Tally → Value → Value
-unless_tallied t v = cond t.unknown Unknown (cond t.uncertain Uncertain v)
+-- the tally of the values of two
+pub record IsBoth (most : Bool) (s t r : Tally) : Type 0 where
+  pub marks : r.marks ≡ both_marks s.marks t.marks
+  pub sums : AreBothSums s.sums t.sums r.sums
+  pub peaks : AreBothPeaks most s.peaks t.peaks r.peaks
+
+abbrev pub unless_marked : Marks → Value → Value
+unless_marked t v = cond t.unknown Unknown (cond t.uncertain Uncertain v)
 
 abbrev pub number_or : Option ℤ → Value
 number_or None = Uncertain
@@ -113,16 +129,16 @@ day_or None = Uncertain
 day_or (Some d) = Day d
 
 -- the best is of the first value's kind
-abbrev pub best_told : Tally → Value → Value
+abbrev pub best_told : Peaks → Value → Value
 best_told t (Num n) = number_or (held_if t.has_number t.number)
 best_told t (Day d) = day_or (held_if t.has_day t.day)
 best_told t v = v
 
 -- what a tally and the first value tell
 abbrev pub told : Gathering → Tally → Value → Value
-told gathering.All t first = cond t.some_false (Truth false) (unless_tallied t (Truth true))
-told gathering.Any t first = cond t.some_true (Truth true) (unless_tallied t (Truth false))
-told gathering.Open t first = unless_tallied t Uncertain
-told gathering.CountIf t first = unless_tallied t (amount t.trues)
-told gathering.Sum t first = unless_tallied t (number_of t.total)
-told (gathering.Best most) t first = unless_tallied t (best_told t first)
+told gathering.All t first = cond t.marks.some_false (Truth false) (unless_marked t.marks (Truth true))
+told gathering.Any t first = cond t.marks.some_true (Truth true) (unless_marked t.marks (Truth false))
+told gathering.Open t first = unless_marked t.marks Uncertain
+told gathering.CountIf t first = unless_marked t.marks (amount t.sums.trues)
+told gathering.Sum t first = unless_marked t.marks (number_of t.sums.total)
+told (gathering.Best most) t first = unless_marked t.marks (best_told t.peaks first)

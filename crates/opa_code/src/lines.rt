@@ -15,7 +15,8 @@ ghost use Rattle.opa_code.specs.Tallies.{IsTally, gather_of, is_most as most_of}
 use crate::choice::Choice;
 use crate::gathering::Gathering;
 use crate::operations::{strict_one, strict_two};
-use crate::tally::{Tally, amount};
+use crate::sums::amount;
+use crate::tally::Tally;
 use opa_io::NoMemory;
 use opa_line::Line;
 use opa_tree::{OpKind, Quant};
@@ -217,7 +218,7 @@ pub(crate) fn quantified(
         Quant::ForAll => gathered(alloc, Gathering::All, items),
         Quant::Exists => gathered(alloc, Gathering::Any, items),
         Quant::For => first_line(alloc, items),
-        Quant::Count => Line::constant(alloc, amount(items.len())),
+        Quant::Count => Line::constant(alloc, amount(items.len() as u64)),
         Quant::CountIf => gathered(alloc, Gathering::CountIf, items),
         Quant::Sum | Quant::SumIf => gathered(alloc, Gathering::Sum, items),
         Quant::Maximum => gathered(alloc, Gathering::Best(true), items),

@@ -12,7 +12,7 @@ ghost use Rattle.opa_window.specs.Windows.{on_date, on_dates, years_value};
 ghost use Rattle.opa_mean.specs.Operations as meant;
 ghost use Rattle.opa_mean.specs.Memory.{takes_memory};
 
-use crate::tally::number_of;
+use crate::sums::number_of;
 use opa_date::{DAYS, add_days, add_months, add_years, parts, years_between};
 use opa_io::{NoMemory, Txt};
 use opa_tree::OpKind;
