@@ -38,8 +38,8 @@ some_same x y e = cc e
 tally_at : (most : Bool) (lines : Lines) (tallies : List (ℕ × Tally)) (d : ℕ) (t : Tally) → d < DAYS → Tallied most lines tallies → at tallies d ≡ Some t → IsTally most (values_at lines d) t
 tally_at most lines tallies d t lt h is = let e = h d lt in subst (IsTally most (values_at lines d)) (some_same e.0 t (sym e.2 ∙ is)) e.1
 
-pub small_at : (most : Bool) (lines : Lines) (tallies : List (ℕ × Tally)) (d : ℕ) (t : Tally) → length lines < 2 ^ 60 → d < DAYS → Tallied most lines tallies → at tallies d ≡ Some t → AreSmall t.sums
-small_at most lines tallies d t few lt h is = sums_small (values_at lines d) t.sums (subst (λ n. n < 2 ^ 60) (sym (length-map lines (λ l. day_value l d))) few) (tally_at most lines tallies d t lt h is).sums
+pub small_at : (most : Bool) (lines : Lines) (tallies : List (ℕ × Tally)) (d : ℕ) (t : Tally) → length lines < 2 ^ 63 → d < DAYS → Tallied most lines tallies → at tallies d ≡ Some t → AreSmall t.sums
+small_at most lines tallies d t few lt h is = sums_small (values_at lines d) t.sums (subst (λ n. n < 2 ^ 63) (sym (length-map lines (λ l. day_value l d))) few) (tally_at most lines tallies d t lt h is).sums
 
 module _ {F E : Type 0} (g : Shared F (Bor Tally × (Bor Tally × Unit {0})) (Result Tally E)) (f : F) where
   pub tallied_both : (most : Bool) (lines left right : Lines) (first second l : List (ℕ × Tally)) → left ++ right ≡ lines → Tallied most left first → Tallied most right second

@@ -136,8 +136,8 @@ filter_few (v ∷ vs) = go (is_true v) (filter_few vs)
     go true h = omega (arith, h)
     go false h = omega (arith, h)
 
--- the sums of fewer than 2^60 values can be added
-pub sums_small : (vs : List Value) (t : Sums) → length vs < 2 ^ 60 → AreSums vs t → AreSmall t
+-- the sums of fewer than 2^63 values can be added
+pub sums_small : (vs : List Value) (t : Sums) → length vs < 2 ^ 63 → AreSums vs t → AreSmall t
 sums_small vs t few h =
     let f = filter_few vs in
     let size : length vs * 10 ^ 17 ≤ 2 ^ 120 = omega (arith, few) in
@@ -252,3 +252,19 @@ told_is gathering.CountIf vs t h = open_told vs t.marks _ h.marks ∙ ap (λ n. 
 told_is gathering.Sum vs t h = open_told vs t.marks _ h.marks ∙ ap (λ z. unless_open vs (number_of z)) h.sums.total
 told_is (gathering.Best true) vs t h = open_told vs t.marks _ h.marks ∙ ap (unless_open vs) (best_is true vs t.peaks h.peaks)
 told_is (gathering.Best false) vs t h = open_told vs t.marks _ h.marks ∙ ap (unless_open vs) (best_is false vs t.peaks h.peaks)
+
+-- a value that is neither a number nor a day has no peak
+pub plain_peaks : (most : Bool) (v : Value) (t : Peaks) → (v ≡ Unknown) ⊎ ((v ≡ Uncertain) ⊎ (((b : Bool) × (v ≡ Truth b)) ⊎ ((s : List ℕ) × (v ≡ Words s)))) → ArePeaks most [] t → ArePeaks most (v ∷ []) t
+plain_peaks most v t plain h = go plain
+  where
+    made : (w : Value) → v ≡ w → number_in w ≡ None → day_in w ≡ None → ArePeaks most (v ∷ []) t
+    made w e n d = record {
+      number = h.number ∙ sym (ap (λ o. ahead (beats_number most) o None) (ap number_in e ∙ n));
+      day = h.day ∙ sym (ap (λ o. ahead (beats_day most) o None) (ap day_in e ∙ d));
+    }
+
+    go : (v ≡ Unknown) ⊎ ((v ≡ Uncertain) ⊎ (((b : Bool) × (v ≡ Truth b)) ⊎ ((s : List ℕ) × (v ≡ Words s)))) → ArePeaks most (v ∷ []) t
+    go (inl e) = made Unknown e refl refl
+    go (inr (inl e)) = made Uncertain e refl refl
+    go (inr (inr (inl p))) = made (Truth p.0) p.1 refl refl
+    go (inr (inr (inr p))) = made (Words p.0) p.1 refl refl

@@ -128,8 +128,10 @@ fn append(nodes: &mut List<Node>, more: List<Node>) -> Result<(), NoMemory>
 fn add_choices(nodes: &mut List<Node>, rows: usize) -> Result<(), NoMemory>
     ensures { OnOk result (nodes.new ≡ nodes.old ++ replicate rows nodes_of.Choose) }
 {
-    for _ in 0..rows {
+    let mut row = 0;
+    while row < rows {
         nodes.push(Node::Choose)?;
+        row += 1;
     }
     Ok(())
 }

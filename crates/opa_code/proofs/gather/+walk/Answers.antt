@@ -71,3 +71,16 @@ gather-returns-in_ok-gather-in-Rolling t c =
     ∙ ap (λ xs. xs ++ (node.Rolling c.in-Rolling.always c.in-Rolling.days) ∷ []) (c.in_ok-gather-in-Rolling.ensures ∙ ap (λ x. c.args.nodes.now ++ code s x) c.get-in-Rolling.ensures)
     ∙ append_assoc c.args.nodes.now (code s c.in-Rolling.part) ((node.Rolling c.in-Rolling.always c.in-Rolling.days) ∷ [])
     ∙ ap (λ xs. c.args.nodes.now ++ xs) (sym (ap (code s) c.in-Rolling.is ∙ code-Rolling s c.in-Rolling.always c.in-Rolling.days c.in-Rolling.part))) c.push-in-Rolling.ensures.ok
+
+pub gather-returns-in_ok-gather-in-Table : goal.gather-returns-in_ok-gather-in-Table
+gather-returns-in_ok-gather-in-Table t c =
+    let s = shape_of c.args.model.now in
+    let rows = flat_map (row_code s) c.in-Table.rows in
+    let last = code s c.in-Table.last in
+    let choices = replicate (length c.in-Table.rows) node.Choose in
+    on_ok_weaker c.add_choices.result (λ e. e
+    ∙ ap (λ n. c.gather-in-Table.new.nodes ++ replicate n node.Choose) c.len-in-Table.ensures
+    ∙ ap (λ xs. xs ++ choices) (c.in_ok-gather-in-Table.ensures ∙ ap (λ x. c.gather_rows.new.nodes ++ code s x) c.get-in-Table.ensures
+    ∙ ap (λ xs. xs ++ last) (c.in_ok-gather_rows-in-Table.ensures ∙ ap (λ x. c.args.nodes.now ++ flat_map (row_code s) x) c.as_slice-in-Table.ensures))
+    ∙ append_assoc (c.args.nodes.now ++ rows) last choices ∙ append_assoc c.args.nodes.now rows (last ++ choices)
+    ∙ ap (λ xs. c.args.nodes.now ++ xs) (sym (ap (code s) c.in-Table.is ∙ code-Table s c.in-Table.rows c.in-Table.last))) c.add_choices.ensures

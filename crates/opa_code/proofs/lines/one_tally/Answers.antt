@@ -7,5 +7,4 @@ use Rattle.opa_code.proofs.lines.one_tally.Goals as goal
 
 pub returns : goal.returns
 returns c = ok_weaker c.map.result _ _ (λ l h d lt. let x = h d lt in let m = x.1 in let p = m.says in
-    let e : (most : Bool) → IsTally most (m.first.now ∷ []) x.0 = search (rules, of_calls, p) in
-    (x.0, (λ most. subst (λ v. IsTally most (v ∷ []) x.0) (sym (ap (value_or Unknown) m.left)) (e most)), x.2)) c.map.ensures
+    (x.0, (λ most. let e : IsTally most (m.first.now ∷ []) x.0 = search (rules, of_calls, p) in subst (λ v. IsTally most (v ∷ []) x.0) (sym (ap (value_or Unknown) m.left)) e), x.2)) c.map.ensures
