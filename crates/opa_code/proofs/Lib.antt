@@ -3,6 +3,8 @@ pub mod CodeLaws
 pub mod Compiled
 pub mod Halving
 pub mod Inverting
+pub mod Operating
 pub mod Standing
+pub mod Stepping
 pub mod Tallying
 pub mod Walks

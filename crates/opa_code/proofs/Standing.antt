@@ -141,7 +141,7 @@ module _ (enclosing : List InstanceId) where
   window_same k (a ∷ b ∷ c ∷ e ∷ ls) (p ∷ q ∷ r ∷ []) h d lt = absurd h.1.1.1
   window_same k (a ∷ b ∷ c ∷ e ∷ ls) (p ∷ q ∷ r ∷ f ∷ ms) h d lt = window_more k (meaning_of a) (meaning_of b) (meaning_of c) (meaning_of e) (map meaning_of ls) enclosing d ∙ sym (window_more k p q r f ms enclosing d)
 
-  rolling_same : (b : Bool) (n : ℕ) (f g : ℕ → Value) → ((d : ℕ) → d < DAYS → f d ≡ g d) → (d : ℕ) → d < DAYS → rolling b n f d ≡ rolling b n g d
+  pub rolling_same : (b : Bool) (n : ℕ) (f g : ℕ → Value) → ((d : ℕ) → d < DAYS → f d ≡ g d) → (d : ℕ) → d < DAYS → rolling b n f d ≡ rolling b n g d
   rolling_same true n f g h d lt = reads_the_calendar.rolling_all n f g h d lt
   rolling_same false n f g h d lt = reads_the_calendar.rolling_any n f g h d lt
 

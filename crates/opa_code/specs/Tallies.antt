@@ -111,6 +111,10 @@ pub record IsTally (most : Bool) (vs : List Value) (t : Tally) : Type 0 where
   pub sums : AreSums vs t.sums
   pub peaks : ArePeaks most vs t.peaks
 
+-- the tally of a value alone
+pub record IsOne (v : Value) (t : Tally) : Type 0 where
+  pub tally : (most : Bool) → IsTally most (v ∷ []) t
+
 -- the tally of the values of two
 pub record IsBoth (most : Bool) (s t r : Tally) : Type 0 where
   pub marks : r.marks ≡ both_marks s.marks t.marks

@@ -1,5 +1,5 @@
 // A node, carried out over the lines of its operands.
-ghost use Rattle.std.specs.Prelude.{◌≡◌, ◌<◌, ◌≤◌, ◌∷◌, ◌++◌, [], List as Seq, map, IfOk, OnOk};
+ghost use Rattle.std.specs.Prelude.{◌≡◌, ◌≤◌, ◌∷◌, ◌++◌, [], List as Seq, map, drop, IfOk, OnOk};
 ghost use Rattle.opa_cells.specs.declared.instance.InstanceId.{InstanceId as Instance};
 ghost use Rattle.opa_date.specs.declared.TheConstants.{DAYS};
 ghost use Rattle.opa_line.specs.Lines.{StandsFor};
@@ -43,9 +43,17 @@ pub(crate) fn carry_out<K: Look>(
     ensures { OnOk result ((st : Seq meant.Meaning) → IsStep node.now → Stand enclosing.now stack.old.items st → Stand enclosing.now stack.new.items (put (K.looks look.now) node.now st)) }
 {
     let from = stack.len().saturating_sub(operand_count(node));
-    let line = node_line(alloc, look, node, &stack[from..], enclosing)?;
+    let operands = behind(from, stack);
+    let line = node_line(alloc, look, node, operands, enclosing)?;
     stack.truncate(from);
     add(stack, line)
+}
+
+/// The items behind the first ones.
+pub(crate) fn behind<T>(count: usize, items: &[T]) -> &[T]
+    ensures { result.now ≡ drop count items.now }
+{
+    &items[count.min(items.len())..]
 }
 
 fn operand_count(node: &Node) -> usize

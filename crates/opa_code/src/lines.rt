@@ -1,5 +1,5 @@
 // Lines whose value at each day is made of the values of other lines at that day.
-ghost use Rattle.std.specs.Prelude.{◌≡◌, ◌∷◌, [], ◌<◌, pos, Bool, IfOk};
+ghost use Rattle.std.specs.Prelude.{◌≡◌, ◌∷◌, [], IfOk};
 ghost use Rattle.opa_date.specs.declared.TheConstants.{DAYS};
 ghost use Rattle.opa_line.specs.Lines.{StandsFor};
 ghost use Rattle.opa_line.specs.Pointwise.{EachDay};
@@ -10,7 +10,7 @@ ghost use Rattle.opa_window.specs.Days.{day_value};
 ghost use Rattle.opa_mean.specs.Meaning as meant;
 ghost use Rattle.opa_mean.specs.Operations.{op_of};
 ghost use Rattle.opa_code.specs.Lines.{values_at};
-ghost use Rattle.opa_code.specs.Tallies.{IsTally, gather_of, is_most as most_of};
+ghost use Rattle.opa_code.specs.Tallies.{IsOne, IsTally, gather_of, is_most as most_of};
 
 use crate::choice::Choice;
 use crate::gathering::Gathering;
@@ -95,7 +95,8 @@ pub(crate) fn op_line(
     match lines {
         [x] => one_line(alloc, kind, x),
         [x, y] => two_line(alloc, kind, x, y),
-        _ => gathered(alloc, Gathering::Open, lines),
+        [] => gathered(alloc, Gathering::Open, lines),
+        [_, _, _, ..] => gathered(alloc, Gathering::Open, lines),
     }
 }
 
@@ -183,7 +184,7 @@ fn tallied(
 }
 
 fn one_tally(alloc: Global, line: &Line<Value>) -> Result<Line<Tally>, NoMemory>
-    ensures { IfOk result (EachDay (λ d t. (most : Bool) → IsTally most (day_value line.now d ∷ []) t) DAYS) }
+    ensures { IfOk result (EachDay (λ d t. IsOne (day_value line.now d) t) DAYS) }
 {
     line.map(alloc, |v: &Value| Ok(Tally::one(v)))
 }

@@ -8,7 +8,7 @@ ghost use Rattle.opa_code.specs.Lines.{Stand, meaning_of, values_at};
 ghost use Rattle.opa_code.specs.Running.{IsStep, node_meaning, operand_count as count_of, put, sole, chosen};
 ghost use Rattle.opa_code.specs.Steps.{AreItems, IsListed, IsOver, IsQuantified, Keeps, Leaves, operand_at, over_at};
 
-use crate::carry::{add, carry_out};
+use crate::carry::{add, behind, carry_out};
 use crate::lines::{item_line, quantified};
 use crate::node::Node;
 use crate::places::place_in;
@@ -59,10 +59,10 @@ fn step<'a, K: Look>(
         }
         Some(count) => {
             let operand = up_to(count, after);
-            let later = from(count, after);
+            let later = behind(count, after);
             let line = quantifier_line(alloc, look, operand, later, enclosing)?;
             add(stack, line)?;
-            Ok(from(1, later))
+            Ok(behind(1, later))
         }
     }
 }
@@ -174,12 +174,6 @@ fn up_to(count: usize, nodes: &[Node]) -> &[Node]
     ensures { result.now ≡ take count nodes.now }
 {
     &nodes[..count.min(nodes.len())]
-}
-
-fn from(count: usize, nodes: &[Node]) -> &[Node]
-    ensures { result.now ≡ drop count nodes.now }
-{
-    &nodes[count.min(nodes.len())..]
 }
 
 /// How many nodes an operand has, at the node that says it.

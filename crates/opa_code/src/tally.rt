@@ -1,5 +1,5 @@
 // The tally of several values.
-ghost use Rattle.std.specs.Prelude.{◌≡◌, ◌∷◌, [], Bool, IfOk};
+ghost use Rattle.std.specs.Prelude.{◌≡◌, [], Bool, IfOk};
 ghost use Rattle.opa_code.specs.Tallies as tallies;
 
 use crate::gathering::Gathering;
@@ -41,7 +41,7 @@ impl Tally {
 
     /// Of one value.
     pub(crate) fn one(value: &Value) -> Tally
-        ensures { (most : Bool) → tallies.IsTally most (value.now ∷ []) result }
+        ensures { tallies.IsOne value.now result }
     {
         Tally {
             marks: Marks::one(value),

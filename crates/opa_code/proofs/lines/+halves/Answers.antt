@@ -1,5 +1,6 @@
-use Rattle.std.proofs.Common.{rules, of_calls, ◌≡◌, ◌∙◌, ◌<◌, ◌^◌, ◌∷◌, [], List, length, sym, ap, subst, arith}
+use Rattle.std.proofs.Common.{rules, of_calls, ◌≡◌, ◌∙◌, ◌<◌, ◌^◌, ◌∷◌, ◌++◌, [], take, List, length, sym, ap, subst, arith}
 use Rattle.std.proofs.lemmas.Grind.{pieces}
+use Rattle.std.proofs.lemmas.List.{take-append-drop}
 use Rattle.opa_date.specs.declared.TheConstants.{DAYS}
 use Rattle.opa_line.proofs.Zipping.{ok_weaker}
 use Rattle.opa_window.specs.Days.{day_value}
@@ -24,9 +25,10 @@ returns-in-empty t c =
 pub returns-in-len1 : goal.returns-in-len1
 returns-in-len1 t c =
     ok_weaker c.one_tally.result _ _ (λ l h d lt. let x = h d lt in
-    (x.0, subst (λ ls. IsTally c.args.most (values_at ls d) x.0) (sym (one_item c.args.lines.now c.line-item.result c.in-len1.len_at_least c.in-len1.len_below c.line-item.is)) (x.1 c.args.most), x.2)) c.one_tally.ensures
+    (x.0, subst (λ ls. IsTally c.args.most (values_at ls d) x.0) (sym (one_item c.args.lines.now c.line-item.result c.in-len1.len_at_least c.in-len1.len_below c.line-item.is)) (x.1.tally c.args.most), x.2)) c.one_tally.ensures
 
 pub returns-in_ok-second-in_default : goal.returns-in_ok-second-in_default
 returns-in_ok-second-in_default t c =
-    ok_weaker c.zip.result _ _ (λ l h. tallied_both _ _ c.args.most c.args.lines.now c.split_at.result.0.now c.split_at.result.1.now c.in_ok-first-in_default.first c.in_ok-second-in_default.second l ? c.in_ok-first-in_default.ensures c.in_ok-second-in_default.ensures
+    let parts = ap (λ xs. xs ++ c.split_at.result.1.now) c.split_at.ensures.front ∙ ap (λ xs. take _ c.args.lines.now ++ xs) c.split_at.ensures.back ∙ take-append-drop _ c.args.lines.now in
+    ok_weaker c.zip.result _ _ (λ l h. tallied_both _ _ c.args.most c.args.lines.now c.split_at.result.0.now c.split_at.result.1.now c.in_ok-first-in_default.first c.in_ok-second-in_default.second l parts c.in_ok-first-in_default.ensures c.in_ok-second-in_default.ensures
     (λ p q z says. search (rules, of_calls, says)) h) c.zip.ensures
