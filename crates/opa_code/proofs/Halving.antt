@@ -1,8 +1,8 @@
 -- Lines of tallies.
-use Rattle.std.proofs.Common.{◌≡◌, ℕ, ◌<◌, ◌≤◌, ◌^◌, get_or, arith, Bool, List, [], ◌∷◌, ◌++◌, Some, length, map, refl, sym, ◌∙◌, ap, subst}
+use Rattle.std.proofs.Common.{◌≡◌, ℕ, ◌<◌, ◌≤◌, ◌^◌, get_or, take, drop, arith, Bool, List, [], ◌∷◌, ◌++◌, Some, length, map, refl, sym, ◌∙◌, ap, subst}
 use Rattle.std.specs.Prelude.{Result, Ok}
 use Rattle.std.specs.Fn.{Shared}
-use Rattle.std.proofs.lemmas.List.{map-append, length-map}
+use Rattle.std.proofs.lemmas.List.{map-append, length-map, take-append-drop}
 use denote.Ref.{Bor}
 use Rattle.opa_date.specs.declared.TheConstants.{DAYS}
 use Rattle.opa_value.specs.declared.value.Value.{Value}
@@ -30,6 +30,9 @@ pub one_item : {X : Type 0} (xs : List X) (x : X) → 1 ≤ length xs → length
 one_item [] x low high is = absurd (omega (arith, low))
 one_item (y ∷ []) x low high is = ap (λ z. z ∷ []) (sym is)
 one_item (y ∷ z ∷ xs) x low high is = absurd (omega (arith, high))
+
+pub halves_join : {X : Type 0} (xs front back : List X) (n : ℕ) → front ≡ take n xs → back ≡ drop n xs → front ++ back ≡ xs
+halves_join xs front back n f b = ap (λ ys. ys ++ back) f ∙ ap (λ ys. take n xs ++ ys) b ∙ take-append-drop n xs
 
 some_same : {X : Type 0} (x y : X) → Some x ≡ Some y → x ≡ y
 some_same x y e = cc e

@@ -1,5 +1,6 @@
 pub mod Choices
 pub mod Codes
+pub mod Coding
 pub mod Lines
 pub mod Running
 pub mod Steps

@@ -3,6 +3,7 @@
 
 mod carry;
 mod choice;
+mod code;
 mod declared;
 mod gather;
 mod gathering;
@@ -12,6 +13,7 @@ mod node;
 mod operations;
 mod peaks;
 mod places;
+mod rule_code;
 mod run;
 mod sums;
 mod tally;

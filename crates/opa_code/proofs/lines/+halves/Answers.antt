@@ -1,12 +1,11 @@
 use Rattle.std.proofs.Common.{rules, of_calls, ◌≡◌, ◌∙◌, ◌<◌, ◌^◌, ◌∷◌, ◌++◌, [], take, List, length, sym, ap, subst, arith}
 use Rattle.std.proofs.lemmas.Grind.{pieces}
-use Rattle.std.proofs.lemmas.List.{take-append-drop}
 use Rattle.opa_date.specs.declared.TheConstants.{DAYS}
 use Rattle.opa_line.proofs.Zipping.{ok_weaker}
 use Rattle.opa_window.specs.Days.{day_value}
 use Rattle.opa_code.specs.Lines.{values_at}
 use Rattle.opa_code.specs.Tallies.{IsTally, IsBoth, AreSmall}
-use Rattle.opa_code.proofs.Halving.{small_at, tallied_both, no_items, one_item}
+use Rattle.opa_code.proofs.Halving.{small_at, halves_join, tallied_both, no_items, one_item}
 use Rattle.opa_code.proofs.lines.+halves.Goals as goal
 
 pub zip-requires : goal.zip-requires
@@ -29,6 +28,6 @@ returns-in-len1 t c =
 
 pub returns-in_ok-second-in_default : goal.returns-in_ok-second-in_default
 returns-in_ok-second-in_default t c =
-    let parts = ap (λ xs. xs ++ c.split_at.result.1.now) c.split_at.ensures.front ∙ ap (λ xs. take _ c.args.lines.now ++ xs) c.split_at.ensures.back ∙ take-append-drop _ c.args.lines.now in
+    let parts = halves_join c.args.lines.now c.split_at.result.0.now c.split_at.result.1.now _ c.split_at.ensures.front c.split_at.ensures.back in
     ok_weaker c.zip.result _ _ (λ l h. tallied_both _ _ c.args.most c.args.lines.now c.split_at.result.0.now c.split_at.result.1.now c.in_ok-first-in_default.first c.in_ok-second-in_default.second l parts c.in_ok-first-in_default.ensures c.in_ok-second-in_default.ensures
     (λ p q z says. search (rules, of_calls, says)) h) c.zip.ensures

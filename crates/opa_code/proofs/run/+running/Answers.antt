@@ -10,8 +10,8 @@ use Rattle.opa_code.proofs.run.+running.Goals as goal
 pub item_lines-loop-name-preserved : goal.item_lines-loop-name-preserved
 item_lines-loop-name-preserved g t c =
     let l = g.K.Look.looks c.args.look.now in
-    items_next l c.args.enclosing.now c.args.operand.now c.args.quant c.args.target c.args.names.now c.loop-name.name-index c.name-item.result c.loop-name.items.items c.add.new.lines.items c.in_ok-lines.lines.items c.in_ok-item_line.field-0 c.as_slice.result.now
-    c.loop-name-test.true c.name-item.is c.loop-name.invariant c.in_ok-add.ensures (c.as_slice.ensures ∙ c.in_ok-inner.ensures) c.in_ok-lines.ensures
+    items_next l c.args.enclosing.now c.args.operand.now c.args.quant c.args.target c.args.names.now c.loop-name.name-index c.name-item.result c.loop-name.items.items c.add.new.lines.items c.deref.result.now c.in_ok-item_line.field-0 c.as_slice.result.now
+    c.loop-name-test.true c.name-item.is c.loop-name.invariant c.in_ok-add.ensures (c.as_slice.ensures ∙ c.in_ok-inner.ensures) (subst (Leaves l c.as_slice.result.now c.args.operand.now) (sym c.deref.ensures.value) c.in_ok-lines.ensures)
     (λ d lt. c.in_ok-item_line.ensures d lt)
 
 pub run-returns : goal.run-returns
