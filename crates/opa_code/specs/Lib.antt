@@ -1,7 +1,9 @@
 pub mod Choices
 pub mod Codes
 pub mod Coding
+pub mod Laws
 pub mod Lines
+pub mod Rulebases
 pub mod Running
 pub mod Steps
 pub mod Tallies
