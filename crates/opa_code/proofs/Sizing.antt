@@ -77,7 +77,7 @@ module _ (s : Shape) where
   level_short (Op k ps) = one_behind (joined (map (code s) (parts_of ps))) _ (total (map size (parts_of ps))) (parts_short ps)
   level_short (Certain p) = one_behind (code s p.0) _ (size p.0) p.1
   level_short (Known p) = one_behind (code s p.0) _ (size p.0) p.1
-  level_short (Over q r ps) = two_round (joined (map (code s) (parts_of ps))) _ _ (total (map size (parts_of ps))) (parts_short ps)
+  level_short (Over q r ps) = two_round (joined (map (code s) (parts_of ps))) (node.Operand (length (joined (map (code s) (parts_of ps))))) (node.Over q r (s.source r) (s.target r)) (total (map size (parts_of ps))) (parts_short ps)
   level_short (Window k ps) = one_behind (joined (map (code s) (parts_of ps))) _ (total (map size (parts_of ps))) (parts_short ps)
   level_short (Rolling b n p) = one_behind (code s p.0) _ (size p.0) p.1
   level_short (Table rs p) = table_short (joined (map (row_folded s) (rows_of rs))) (code s p.0) (length (map (row_folded s) (rows_of rs))) (total (map row_size (rows_of rs))) (size p.0) (rows_short rs) p.1
