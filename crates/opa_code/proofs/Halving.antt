@@ -49,9 +49,12 @@ module _ {F E : Type 0} (g : Shared F (Bor Tally × (Bor Tally × Unit {0})) (Re
       → ((p q : Bor Tally) (z : Tally) → g.post f (p, (q, tt)) (Ok z) → IsBoth most p.now q.now z) → EachDay (Joins g f first second) DAYS l → Tallied most lines l
   tallied_both most lines left right first second l parts h k means each d lt =
       let e = each d lt in let j = e.1 in
-      let vs : values_at left d ++ values_at right d ≡ values_at lines d = sym (map-append (λ l. day_value l d) left right) ∙ ap (λ ls. values_at ls d) parts in
-      (e.0, subst (λ us. IsTally most us e.0) vs (tally_both most (values_at left d) (values_at right d) j.first.now j.second.now e.0
-      (tally_at most left first d j.first.now lt h j.left) (tally_at most right second d j.second.now lt k j.right) (means j.first j.second e.0 j.says)), e.2)
+      let vs : values_at left d ++ values_at right d ≡ values_at lines d = sym (map-append (λ l. day_value l d) left right) ∙ ap (λ ls. values_at ls d) parts in (
+        e.0,
+        subst (λ us. IsTally most us e.0) vs (tally_both most (values_at left d) (values_at right d) j.first.now j.second.now e.0
+            (tally_at most left first d j.first.now lt h j.left) (tally_at most right second d j.second.now lt k j.right) (means j.first j.second e.0 j.says)),
+        e.2,
+      )
 
 module _ {F E : Type 0} (g : Shared F (Bor Tally × (Bor Value × Unit {0})) (Result Value E)) (f : F) where
   pub gathered_stands : (how : Gathering) (lines : Lines) (tallies : List (ℕ × Tally)) (first l : List (ℕ × Value)) → Tallied (is_most how) lines tallies → StandsFor DAYS (λ d. first_value (values_at lines d)) first

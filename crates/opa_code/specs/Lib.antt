@@ -5,5 +5,6 @@ pub mod Laws
 pub mod Lines
 pub mod Rulebases
 pub mod Running
+pub mod Samples
 pub mod Steps
 pub mod Tallies

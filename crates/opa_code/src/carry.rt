@@ -10,9 +10,7 @@ ghost use Rattle.opa_code.specs.Lines.{Stand, meaning_of};
 ghost use Rattle.opa_code.specs.Running.{IsStep, node_meaning, operand_count as count_of, put, sole, chosen};
 
 use crate::gathering::Gathering;
-use crate::lines::{
-    certain_line, choice_line, gathered, known_line, not_line, op_line, same_line,
-};
+use crate::lines::{certain_line, choice_line, gathered, known_line, not_line, op_line, same_line};
 use crate::node::Node;
 use crate::places::place_in;
 use crate::windows::{rolling_line, window_line};

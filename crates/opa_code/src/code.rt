@@ -33,9 +33,6 @@ impl Code {
     pub(crate) fn of(&self, attr: AttrId) -> Option<&RuleCode>
         ensures { option_copied result ≡ find (is_for attr) self.now.rules }
     {
-        self.rules
-            .as_slice()
-            .iter()
-            .find(|code| code.attr == attr)
+        self.rules.as_slice().iter().find(|code| code.attr == attr)
     }
 }

@@ -26,3 +26,6 @@ mod witness;
 pub use code::Code;
 pub use laws::code_is_short;
 pub use rules::compile;
+
+#[cfg(test)]
+mod tests;

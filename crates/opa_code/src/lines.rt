@@ -148,10 +148,7 @@ pub(crate) fn gathered(
 }
 
 /// The first line, uncertain on every day where there is none.
-pub(crate) fn first_line(
-    alloc: Global,
-    lines: &[Line<Value>],
-) -> Result<Line<Value>, NoMemory>
+pub(crate) fn first_line(alloc: Global, lines: &[Line<Value>]) -> Result<Line<Value>, NoMemory>
     ensures { IfOk result (StandsFor DAYS (λ d. meant.first_value (values_at lines.now d))) }
 {
     match lines {
@@ -162,11 +159,7 @@ pub(crate) fn first_line(
 
 /// The tallies of lines at each day. The lines are halved, so that each change point is met once for each halving.
 #[cycle(halves)]
-fn tallied(
-    alloc: Global,
-    most: bool,
-    lines: &[Line<Value>],
-) -> Result<Line<Tally>, NoMemory>
+fn tallied(alloc: Global, most: bool, lines: &[Line<Value>]) -> Result<Line<Tally>, NoMemory>
     ensures { IfOk result (EachDay (λ d t. IsTally most (values_at lines.now d) t) DAYS) }
 {
     match lines {

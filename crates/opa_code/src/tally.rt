@@ -80,9 +80,7 @@ impl Tally {
             Gathering::Open => Ok(self.marks.unless_open(Value::Uncertain)),
             Gathering::CountIf => Ok(self.marks.unless_open(amount(self.sums.trues))),
             Gathering::Sum => Ok(self.marks.unless_open(number_of(self.sums.total))),
-            Gathering::Best(_) => Ok(self
-                .marks
-                .unless_open(self.peaks.told(alloc, first)?)),
+            Gathering::Best(_) => Ok(self.marks.unless_open(self.peaks.told(alloc, first)?)),
         }
     }
 }

@@ -34,11 +34,7 @@ pub(crate) fn window_line(
 }
 
 /// A function of one date.
-fn dated_line(
-    alloc: Global,
-    kind: WinKind,
-    date: &Line<Value>,
-) -> Result<Line<Value>, NoMemory>
+fn dated_line(alloc: Global, kind: WinKind, date: &Line<Value>) -> Result<Line<Value>, NoMemory>
     ensures { IfOk result (λ l. (enclosing : List Instance) → StandsFor DAYS (meant.window kind (meaning_of date.now ∷ []) enclosing) l) }
 {
     match kind {
