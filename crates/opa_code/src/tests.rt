@@ -24,41 +24,61 @@ enum Said {
     Date(u32),
 }
 
-/// A value from each day on.
-type Changes<'a> = &'a [(u32, Said)];
-
-/// What is answered of which attribute for which instance, which names are listed, and what the tree gives.
-#[derive(Clone, Copy)]
-struct Example<'a> {
-    answers: &'a [(u32, &'a str, Changes<'a>)],
-    names: Option<&'a [&'a str]>,
-    gives: Changes<'a>,
-}
-
 /// Answers, and one list for every relation.
-#[derive(Clone, Copy)]
-struct Answers<'a> {
-    lines: &'a Cells<Line<Value>>,
-    names: Option<&'a List<Txt>>,
+#[derive(Drop)]
+struct Answers {
+    lines: Cells<Line<Value>>,
+    names: List<Txt>,
+    is_listed: bool,
 }
 
-impl<'a> Look for Answers<'a> {
+impl Look for Answers {
     ghost use Rattle.opa_code.specs.Samples.{sample_look};
-    ghost use Rattle.std.specs.Option.{option_copied};
 
-    ghost looks = { λ a. sample_look a.lines.now (option_copied a.names) };
+    ghost looks = { λ a. sample_look a.lines a.is_listed a.names };
 
     fn line(&self, attr: AttrId, inst: &InstanceId) -> Option<&Line<Value>> {
         self.lines.get(attr.0, inst)
     }
 
     fn members(&self, _rel: RelId, _inst: &InstanceId) -> Option<&List<Txt>> {
-        self.names
+        if self.is_listed {
+            Some(&self.names)
+        } else {
+            None
+        }
     }
 
     fn container(&self, _inst: &InstanceId) -> Option<&InstanceId> {
         None
     }
+}
+
+fn unanswered(alloc: Global) -> Answers {
+    Answers {
+        lines: Cells::new(alloc),
+        names: List::new(alloc),
+        is_listed: false,
+    }
+}
+
+/// Answers an attribute of an instance.
+fn answer(
+    alloc: Global,
+    answers: &mut Answers,
+    attr: u32,
+    name: &str,
+    changes: &[(u32, Said)],
+) -> Result<(), NoMemory> {
+    answers
+        .lines
+        .insert(attr, instance(alloc, name)?, line(alloc, changes)?)
+}
+
+/// Lists a name.
+fn list(alloc: Global, answers: &mut Answers, name: &str) -> Result<(), NoMemory> {
+    answers.is_listed = true;
+    answers.names.push(Txt::from_str(alloc, name)?)
 }
 
 fn value(said: Said) -> Value {
@@ -109,14 +129,6 @@ fn model(alloc: Global) -> Result<Model, NoMemory> {
     )
 }
 
-fn texts(alloc: Global, names: &[&str]) -> Result<List<Txt>, NoMemory> {
-    let mut all = List::new(alloc);
-    for name in names {
-        all.push(Txt::from_str(alloc, name)?)?;
-    }
-    Ok(all)
-}
-
 /// The line of a tree for the global instance.
 fn told(alloc: Global, tree: &Expr, answers: &Answers) -> Result<Line<Value>, NoMemory> {
     let mut nodes = List::new(alloc);
@@ -127,23 +139,16 @@ fn told(alloc: Global, tree: &Expr, answers: &Answers) -> Result<Line<Value>, No
     first_line(alloc, &lines)
 }
 
-/// Whether the tree gives what the example says.
-fn holds(alloc: Global, tree: &Expr, example: &Example) -> Result<bool, NoMemory> {
-    let mut lines = Cells::new(alloc);
-    for (attr, name, changes) in example.answers {
-        lines.insert(*attr, instance(alloc, name)?, line(alloc, changes)?)?;
-    }
-    let names = match example.names {
-        None => None,
-        Some(names) => Some(texts(alloc, names)?),
-    };
-    let answers = Answers {
-        lines: &lines,
-        names: names.as_ref(),
-    };
-    let found = told(alloc, tree, &answers)?;
-    let wanted = line(alloc, example.gives)?;
-    Ok(found.first_difference(&wanted) == None)
+/// Whether the tree gives this.
+fn gives(
+    alloc: Global,
+    tree: &Expr,
+    answers: &Answers,
+    changes: &[(u32, Said)],
+) -> Result<bool, NoMemory> {
+    let found = told(alloc, tree, answers)?;
+    let wanted = line(alloc, changes)?;
+    Ok(found.first_difference(&wanted).is_none())
 }
 
 fn attr(place: u32) -> Expr {
@@ -161,109 +166,136 @@ fn two(alloc: Global, first: Expr, second: Expr) -> Result<List<Expr>, NoMemory>
     Ok(parts)
 }
 
+/// Both of two answers.
+fn both(
+    alloc: Global,
+    adult: &[(u32, Said)],
+    veteran: &[(u32, Said)],
+    changes: &[(u32, Said)],
+) -> Result<bool, NoMemory> {
+    let tree = Expr::All(two(alloc, attr(0), attr(1))?);
+    let mut answers = unanswered(alloc);
+    answer(alloc, &mut answers, 0, "", adult)?;
+    answer(alloc, &mut answers, 1, "", veteran)?;
+    gives(alloc, &tree, &answers, changes)
+}
+
 #[test]
 fn adult_and_veteran(rt: HostRuntime) {
-    let parts = two(rt.alloc(), attr(0), attr(1)).expect(&rt, "parts");
-    let tree = Expr::All(parts);
-    for example in &[
-        Example {
-            answers: &[(0, "", &[(0, Uncertain)])],
-            names: None,
-            gives: &[(0, Unknown)],
-        },
-        Example {
-            answers: &[(0, "", &[(0, Uncertain)]), (1, "", &[(0, True)])],
-            names: None,
-            gives: &[(0, Uncertain)],
-        },
-        Example {
-            answers: &[(0, "", &[(0, Uncertain)]), (1, "", &[(0, False)])],
-            names: None,
-            gives: &[(0, False)],
-        },
-        Example {
-            answers: &[
-                (0, "", &[(0, False), (154_863, True), (155_045, Uncertain)]),
-                (1, "", &[(0, True)]),
-            ],
-            names: None,
-            gives: &[(0, False), (154_863, True), (155_045, Uncertain)],
-        },
+    for (adult, veteran, entitled) in [
+        (Uncertain, Unknown, Unknown),
+        (Uncertain, True, Uncertain),
+        (Uncertain, False, False),
+        (True, True, True),
     ] {
-        assert!(rt; holds(rt.alloc(), &tree, example).expect(&rt, "a line"));
+        let holds = both(rt.alloc(), &[(0, adult)], &[(0, veteran)], &[(0, entitled)]);
+        assert!(rt; holds.expect(&rt, "a line"));
     }
+    let adult = [(0, False), (154_863, True), (155_045, Uncertain)];
+    let holds = both(rt.alloc(), &adult, &[(0, True)], &adult);
+    assert!(rt; holds.expect(&rt, "a line"));
 }
 
-/// Always employed from 2024-01-01 on and below the end.
-fn steady(alloc: Global) -> Result<Expr, NoMemory> {
+/// Always employed from 2024-01-01 on and below the end, where the claimant was employed up to 2024-07-01.
+fn steady(alloc: Global, end: Said, is_steady: Said) -> Result<bool, NoMemory> {
     let mut parts = two(alloc, Expr::Const(Value::Day(154_863)), attr(1))?;
     parts.push(attr(0))?;
-    Ok(Expr::Window(WinKind::Always, parts))
+    let tree = Expr::Window(WinKind::Always, parts);
+    let employed = [(0, False), (154_863, True), (155_045, False)];
+    let mut answers = unanswered(alloc);
+    answer(alloc, &mut answers, 0, "", &employed)?;
+    answer(alloc, &mut answers, 1, "", &[(0, end)])?;
+    gives(alloc, &tree, &answers, &[(0, is_steady)])
 }
-
-const EMPLOYED: [(u32, Said); 3] = [(0, False), (154_863, True), (155_045, False)];
 
 #[test]
 fn steadily_employed(rt: HostRuntime) {
-    let tree = steady(rt.alloc()).expect(&rt, "a tree");
-    for example in &[
-        Example {
-            answers: &[(0, "", &EMPLOYED), (1, "", &[(0, Date(155_045))])],
-            names: None,
-            gives: &[(0, True)],
-        },
-        Example {
-            answers: &[(0, "", &EMPLOYED), (1, "", &[(0, Date(155_046))])],
-            names: None,
-            gives: &[(0, False)],
-        },
-        Example {
-            answers: &[(1, "", &[(0, Date(0))])],
-            names: None,
-            gives: &[(0, True)],
-        },
-        Example {
-            answers: &[(0, "", &EMPLOYED)],
-            names: None,
-            gives: &[(0, Unknown)],
-        },
+    for (end, is_steady) in [
+        (Date(155_045), True),
+        (Date(155_046), False),
+        (Date(154_863), True),
+        (Date(0), True),
+        (Unknown, Unknown),
     ] {
-        assert!(rt; holds(rt.alloc(), &tree, example).expect(&rt, "a line"));
+        assert!(rt; steady(rt.alloc(), end, is_steady).expect(&rt, "a line"));
     }
 }
 
-fn over(alloc: Global, quant: Quant) -> Result<Expr, NoMemory> {
+/// All listed children at school: Anna, and then Ben.
+fn at_school(
+    alloc: Global,
+    count: u32,
+    anna: Said,
+    ben: Said,
+    is_eligible: Said,
+) -> Result<bool, NoMemory> {
     let mut parts = List::new(alloc);
     parts.push(attr(0))?;
-    Ok(Expr::Over(quant, RelId(0), parts))
+    let tree = Expr::Over(Quant::ForAll, RelId(0), parts);
+    let mut answers = unanswered(alloc);
+    answer(alloc, &mut answers, 0, "Anna", &[(0, anna)])?;
+    answer(alloc, &mut answers, 0, "Ben", &[(0, ben)])?;
+    answers.is_listed = true;
+    if count > 0 {
+        list(alloc, &mut answers, "Anna")?;
+    }
+    if count > 1 {
+        list(alloc, &mut answers, "Ben")?;
+    }
+    gives(alloc, &tree, &answers, &[(0, is_eligible)])
 }
 
 #[test]
 fn all_children_at_school(rt: HostRuntime) {
-    let tree = over(rt.alloc(), Quant::ForAll).expect(&rt, "a tree");
-    for example in &[
-        Example {
-            answers: &[],
-            names: None,
-            gives: &[(0, Unknown)],
-        },
-        Example {
-            answers: &[],
-            names: Some(&[]),
-            gives: &[(0, True)],
-        },
-        Example {
-            answers: &[(0, "Anna", &[(0, True)]), (0, "Ben", &[(0, False)])],
-            names: Some(&["Anna", "Ben"]),
-            gives: &[(0, False)],
-        },
-        Example {
-            answers: &[(0, "Anna", &[(0, True)])],
-            names: Some(&["Anna", "Ben"]),
-            gives: &[(0, Unknown)],
-        },
+    for (count, anna, ben, is_eligible) in [
+        (0, False, False, True),
+        (1, True, False, True),
+        (2, True, False, False),
+        (2, True, Unknown, Unknown),
     ] {
-        assert!(rt; holds(rt.alloc(), &tree, example).expect(&rt, "a line"));
+        let holds = at_school(rt.alloc(), count, anna, ben, is_eligible);
+        assert!(rt; holds.expect(&rt, "a line"));
+    }
+}
+
+#[test]
+fn children_that_are_not_known(rt: HostRuntime) {
+    let tree = Expr::Over(Quant::Count, RelId(0), List::new(rt.alloc()));
+    let answers = unanswered(rt.alloc());
+    let holds = gives(rt.alloc(), &tree, &answers, &[(0, Unknown)]);
+    assert!(rt; holds.expect(&rt, "a line"));
+}
+
+/// What a quantifier makes of 800 for Anna, and from day 10 on 300, and of 500 for Ben.
+fn incomes(alloc: Global, quant: Quant, changes: &[(u32, Said)]) -> Result<bool, NoMemory> {
+    let mut parts = List::new(alloc);
+    parts.push(attr(0))?;
+    let tree = Expr::Over(quant, RelId(0), parts);
+    let mut answers = unanswered(alloc);
+    answer(
+        alloc,
+        &mut answers,
+        0,
+        "Anna",
+        &[(0, Whole(800)), (10, Whole(300))],
+    )?;
+    answer(alloc, &mut answers, 0, "Ben", &[(0, Whole(500))])?;
+    list(alloc, &mut answers, "Anna")?;
+    list(alloc, &mut answers, "Ben")?;
+    gives(alloc, &tree, &answers, changes)
+}
+
+#[test]
+fn incomes_of_children(rt: HostRuntime) {
+    for (quant, before, after) in [
+        (Quant::Sum, 1_300, 800),
+        (Quant::Maximum, 800, 500),
+        (Quant::Minimum, 500, 300),
+        (Quant::Count, 2, 2),
+        (Quant::For, 800, 300),
+    ] {
+        let holds = incomes(rt.alloc(), quant, &[(0, Whole(before)), (10, Whole(after))]);
+        assert!(rt; holds.expect(&rt, "a line"));
     }
 }
 
@@ -275,61 +307,48 @@ fn at_least(alloc: Global, income: i64, rate: i64) -> Result<Row, NoMemory> {
     })
 }
 
-fn rates(alloc: Global) -> Result<Expr, NoMemory> {
+/// The rate 3 from 100 on, 2 from 10 on, and else 1.
+fn rated(alloc: Global, income: &[(u32, Said)], rate: &[(u32, Said)]) -> Result<bool, NoMemory> {
     let mut rows = List::new(alloc);
     rows.push(at_least(alloc, 100, 3)?)?;
     rows.push(at_least(alloc, 10, 2)?)?;
-    Ok(Expr::Table(rows, Boxed::new(alloc, number(1))?))
+    let tree = Expr::Table(rows, Boxed::new(alloc, number(1))?);
+    let mut answers = unanswered(alloc);
+    answer(alloc, &mut answers, 0, "", income)?;
+    gives(alloc, &tree, &answers, rate)
 }
 
 #[test]
 fn rate_of_income(rt: HostRuntime) {
-    let tree = rates(rt.alloc()).expect(&rt, "a tree");
-    for example in &[
-        Example {
-            answers: &[(
-                0,
-                "",
-                &[
-                    (0, Whole(150)),
-                    (10, Whole(50)),
-                    (20, Whole(5)),
-                    (30, Unknown),
-                ],
-            )],
-            names: None,
-            gives: &[(0, Whole(3)), (10, Whole(2)), (20, Whole(1)), (30, Unknown)],
-        },
-        Example {
-            answers: &[],
-            names: None,
-            gives: &[(0, Unknown)],
-        },
-    ] {
-        assert!(rt; holds(rt.alloc(), &tree, example).expect(&rt, "a line"));
-    }
+    let income = [
+        (0, Whole(150)),
+        (10, Whole(50)),
+        (20, Whole(5)),
+        (30, Unknown),
+    ];
+    let rate = [(0, Whole(3)), (10, Whole(2)), (20, Whole(1)), (30, Unknown)];
+    assert!(rt; rated(rt.alloc(), &income, &rate).expect(&rt, "a line"));
 }
 
-/// A hundred years of days.
-fn long_employed(alloc: Global) -> Result<Expr, NoMemory> {
-    Ok(Expr::Rolling(true, 36_600, Boxed::new(alloc, attr(0))?))
+/// Employed on each day of a hundred years.
+fn long_employed(
+    alloc: Global,
+    employed: &[(u32, Said)],
+    changes: &[(u32, Said)],
+) -> Result<bool, NoMemory> {
+    let tree = Expr::Rolling(true, 36_600, Boxed::new(alloc, attr(0))?);
+    let mut answers = unanswered(alloc);
+    answer(alloc, &mut answers, 0, "", employed)?;
+    gives(alloc, &tree, &answers, changes)
 }
 
 #[test]
 fn employed_for_a_hundred_years(rt: HostRuntime) {
-    let tree = long_employed(rt.alloc()).expect(&rt, "a tree");
-    let example = Example {
-        answers: &[(0, "", &[(0, False), (109_573, True)])],
-        names: None,
-        gives: &[(0, False), (146_172, True)],
-    };
-    assert!(rt; holds(rt.alloc(), &tree, &example).expect(&rt, "a line"));
-    let always = Example {
-        answers: &[(0, "", &[(0, True)])],
-        names: None,
-        gives: &[(0, True)],
-    };
+    let employed = [(0, False), (109_573, True)];
+    let holds = long_employed(rt.alloc(), &employed, &[(0, False), (146_172, True)]);
+    assert!(rt; holds.expect(&rt, "a line"));
     for _ in 0..40 {
-        assert!(rt; holds(rt.alloc(), &tree, &always).expect(&rt, "a line"));
+        let holds = long_employed(rt.alloc(), &[(0, True)], &[(0, True)]);
+        assert!(rt; holds.expect(&rt, "a line"));
     }
 }
