@@ -1,13 +1,11 @@
 -- The nodes of a tree put its value on the stack.
-use Rattle.std.proofs.Common.{◌≡◌, ℕ, zero, suc, ◌+◌, ◌-◌, ◌≤◌, Bool, true, false, List, [], ◌∷◌, ◌++◌, length, take, drop, map, refl, sym, ◌∙◌, ap, subst, arith}
-use Rattle.std.specs.Prelude.{flat_map, IsTrue, nat_le, ◌&&◌}
+use Rattle.std.proofs.Common.{◌≡◌, ℕ, suc, ◌+◌, ◌-◌, ◌≤◌, Bool, false, List, [], ◌∷◌, ◌++◌, length, take, drop, map, refl, sym, ◌∙◌, ap, subst, arith}
+use Rattle.std.specs.Prelude.{IsTrue, nat_le, ◌&&◌}
 use Rattle.std.specs.Prelude.{replicate}
 use Rattle.std.specs.List.{list_all}
 use Rattle.std.proofs.lemmas.Bool.{and_parts}
 use Rattle.std.proofs.lemmas.List.{append-nil, append_assoc, length-append, replicate_more}
 use Rattle.std.proofs.Math.Seq.{take-append_seam, drop-append_seam}
-use Rattle.opa_value.specs.declared.value.Value.{Value}
-use Rattle.opa_model.specs.declared.ids.AttrId.{AttrId}
 use Rattle.opa_model.specs.declared.ids.RelId.{RelId}
 use Rattle.opa_case.specs.Shapes.{Shape}
 use Rattle.opa_tree.specs.declared.kinds.Quant.{Quant}
@@ -15,14 +13,14 @@ use Rattle.opa_tree.specs.declared.expr.Expr.{Expr}
 use Rattle.opa_tree.specs.declared.expr.Row.{Row}
 use Rattle.opa_tree.specs.declared.expr.Expr.TheOpen.{Expr-F, Const, Attr, All, Any, Not, Op, Certain, Known, Over, Window, Rolling, Table}
 use Rattle.opa_tree.specs.declared.expr.Expr.TheViews.{roll-Expr}
-use Rattle.opa_tree.specs.declared.expr.Expr.TheFolds.{fold-Row, fold-roll-Expr, fold_out-Row, map-Expr}
+use Rattle.opa_tree.specs.declared.expr.Expr.TheFolds.{fold-roll-Expr, map-Expr}
 use Rattle.opa_tree.specs.Trees.{has_form, form_step, form_row}
 use Rattle.opa_tree.proofs.FormLaws.{row_has_form, form-of_row}
 use Rattle.opa_tree.proofs.Induction.{by_parts, Part, RowPart, without}
 use Rattle.opa_mean.specs.Looks.{Look}
-use Rattle.opa_mean.specs.Meaning.{Meaning, RowMeaning, tree_step, value, row_meaning, each, choose, table}
+use Rattle.opa_mean.specs.Meaning.{Meaning, RowMeaning, tree_step, value, choose, table}
 use Rattle.opa_mean.proofs.Levels.{row_value, value-roll, row_value-is}
-use Rattle.opa_code.specs.Codes.{code, code_step, row_code, joined, over_nodes}
+use Rattle.opa_code.specs.Codes.{code, code_step, joined, over_nodes}
 use Rattle.opa_code.specs.Running.{Run, finished, stepped, quantified, IsStep, put, node_meaning, over_meaning, operand_count}
 use Rattle.opa_code.specs.declared.node.Node.{Node}
 use Rattle.opa_code.specs.declared.node.Node.TheVariants as node

@@ -1,5 +1,5 @@
 -- What the code of a rule concludes.
-use Rattle.std.proofs.Common.{◌≡◌, ℕ, Bool, true, false, cond, List, [], ◌∷◌, Option, None, Some, map, refl, sym, ◌∙◌, ap, subst, ◌==◌}
+use Rattle.std.proofs.Common.{◌≡◌, ℕ, Bool, true, false, cond, List, [], ◌∷◌, None, Some, map, refl, sym, ◌∙◌, ap, subst, ◌==◌}
 use Rattle.std.specs.Prelude.{find}
 use Rattle.std.specs.List.{All}
 use Rattle.std.proofs.lemmas.Bool.{eqb-true}

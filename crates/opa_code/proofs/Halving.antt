@@ -1,5 +1,5 @@
 -- Lines of tallies.
-use Rattle.std.proofs.Common.{◌≡◌, ℕ, ◌<◌, ◌≤◌, ◌^◌, get_or, take, drop, arith, Bool, List, [], ◌∷◌, ◌++◌, Some, length, map, refl, sym, ◌∙◌, ap, subst}
+use Rattle.std.proofs.Common.{◌≡◌, ℕ, ◌<◌, ◌≤◌, ◌^◌, get_or, take, drop, arith, Bool, List, [], ◌∷◌, ◌++◌, Some, length, refl, sym, ◌∙◌, ap, subst}
 use Rattle.std.specs.Prelude.{Result, Ok}
 use Rattle.std.specs.Fn.{Shared}
 use Rattle.std.proofs.lemmas.List.{map-append, length-map, take-append-drop}

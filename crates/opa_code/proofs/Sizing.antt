@@ -1,7 +1,7 @@
 -- The code of a tree is at most twice as long as the tree.
-use Rattle.std.proofs.Common.{◌≡◌, ℕ, ◌+◌, ◌*◌, ◌≤◌, ◌==◌, Bool, true, false, cond, List, [], ◌∷◌, ◌++◌, Option, None, Some, length, map, suc, refl, sym, ◌∙◌, ap, subst, arith}
+use Rattle.std.proofs.Common.{◌≡◌, ℕ, ◌+◌, ◌*◌, ◌≤◌, ◌==◌, Bool, true, false, cond, List, [], ◌∷◌, ◌++◌, Some, length, map, refl, sym, ◌∙◌, ap, subst, arith}
 use Rattle.std.specs.Prelude.{replicate, find, IfSome}
-use Rattle.std.proofs.lemmas.List.{length-append, length-map, length-replicate}
+use Rattle.std.proofs.lemmas.List.{length-append, length-replicate}
 use Rattle.opa_model.specs.declared.ids.AttrId.{AttrId}
 use Rattle.opa_case.specs.Shapes.{Shape, shape_of}
 use Rattle.opa_tree.specs.declared.expr.Expr.{Expr}
@@ -12,13 +12,12 @@ use Rattle.opa_tree.specs.declared.expr.Expr.TheFolds.{fold-Row, fold-roll-Expr,
 use Rattle.opa_tree.specs.declared.rules.Rule.{Rule}
 use Rattle.opa_tree.specs.Rules.{rule_of}
 use Rattle.opa_tree.proofs.Induction.{by_parts, Part, RowPart, without}
-use Rattle.opa_code.specs.Codes.{code, code_step, row_code, joined}
+use Rattle.opa_code.specs.Codes.{code, code_step, joined}
 use Rattle.opa_code.specs.Coding.{coded, is_for}
 use Rattle.opa_code.specs.Laws.{total, size, size_step, size_row, CodeIsShort}
 use Rattle.opa_code.specs.Rulebases.{rulebase_of}
 use Rattle.opa_code.specs.declared.node.Node.{Node}
 use Rattle.opa_code.specs.declared.node.Node.TheVariants as node
-use Rattle.opa_code.specs.declared.rule_code.RuleCode.{RuleCode}
 use Rattle.opa_code.proofs.CodeLaws.{row_folded, code-roll, row_folded-is}
 
 unfoldable pub row_size : Row → ℕ

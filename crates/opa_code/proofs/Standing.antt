@@ -1,10 +1,10 @@
 -- Lines that stand for meanings.
-use Rattle.std.proofs.Common.{◌≡◌, ℕ, zero, suc, ◌-◌, ◌<◌, ◌≤◌, Bool, true, false, List, [], ◌∷◌, ◌++◌, length, take, drop, map, Some, refl, sym, ◌∙◌, ap, subst, arith}
+use Rattle.std.proofs.Common.{◌≡◌, ℕ, zero, suc, ◌-◌, ◌<◌, Bool, true, false, List, [], ◌∷◌, ◌++◌, length, take, drop, map, Some, refl, sym, ◌∙◌, ap, subst}
 use Rattle.opa_date.specs.declared.TheConstants.{DAYS}
 use Rattle.opa_value.specs.declared.value.Value.{Value}
-use Rattle.opa_value.specs.declared.value.Value.TheVariants.{Unknown, Uncertain}
+use Rattle.opa_value.specs.declared.value.Value.TheVariants.{Unknown}
 use Rattle.opa_value.specs.Truth.{all_of, any_of, not_of, strict}
-use Rattle.opa_line.specs.Lines.{StandsFor, value_or, at}
+use Rattle.opa_line.specs.Lines.{StandsFor, value_or}
 use Rattle.opa_cells.specs.declared.instance.InstanceId.{InstanceId}
 use Rattle.opa_tree.specs.declared.kinds.WinKind.{WinKind}
 use Rattle.opa_tree.specs.declared.kinds.WinKind.TheVariants as win

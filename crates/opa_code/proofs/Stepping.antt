@@ -1,5 +1,5 @@
 -- What is kept from one node to the next, and from one listed instance to the next.
-use Rattle.std.proofs.Common.{◌≡◌, ℕ, ◌+◌, ◌<◌, ◌≤◌, List, [], ◌∷◌, ◌++◌, Option, None, Some, length, take, drop, map, get_or, refl, sym, ◌∙◌, ap, subst}
+use Rattle.std.proofs.Common.{◌≡◌, ℕ, ◌+◌, ◌<◌, List, [], ◌∷◌, ◌++◌, None, Some, length, take, drop, get_or, refl, sym, ◌∙◌, ap, subst}
 use Rattle.std.proofs.lemmas.List.{map-append}
 use Rattle.opa_date.specs.declared.TheConstants.{DAYS}
 use Rattle.opa_value.specs.declared.value.Value.{Value}
@@ -13,7 +13,7 @@ use Rattle.opa_mean.specs.Meaning.{Meaning, each, item}
 use Rattle.opa_mean.proofs.Values.{items_more}
 use Rattle.opa_code.specs.Lines.{Stand, values_at}
 use Rattle.opa_code.specs.Running.{Run, IsStep, put, over_meaning}
-use Rattle.opa_code.specs.Steps.{Stands, Keeps, Leaves, operand_at, over_at, IsQuantified, AreItems}
+use Rattle.opa_code.specs.Steps.{Keeps, Leaves, operand_at, over_at, IsQuantified, AreItems}
 use Rattle.opa_code.specs.declared.node.Node.{Node}
 use Rattle.opa_code.proofs.Inverting.{run_none, run_step, run_operand}
 use Rattle.opa_code.proofs.Standing.{day_is, stand_push, stand_values}

@@ -1,5 +1,5 @@
 -- The nodes of a tree: those of each part before the node that takes it.
-use Rattle.std.specs.Prelude.{ℕ, List, [], ◌∷◌, ◌++◌, flat_map, length}
+use Rattle.std.specs.Prelude.{List, [], ◌∷◌, ◌++◌, flat_map, length}
 use Rattle.std.specs.Prelude.{replicate}
 use Rattle.opa_case.specs.Shapes.{Shape}
 use Rattle.opa_tree.specs.declared.expr.Expr.{Expr}

@@ -1,5 +1,5 @@
 -- What nodes make of a stack of meanings, whose last is the newest.
-use Rattle.std.specs.Prelude.{◌≡◌, ℕ, ◌≤◌, ◌-◌, Bool, List, [], ◌∷◌, ◌++◌, length, take, drop}
+use Rattle.std.specs.Prelude.{◌≡◌, ℕ, ◌≤◌, ◌-◌, List, [], ◌∷◌, ◌++◌, length, take, drop}
 use Rattle.opa_value.specs.declared.value.Value.TheVariants.{Uncertain}
 use Rattle.opa_value.specs.Truth.{all_of, any_of, not_of, strict}
 use Rattle.opa_model.specs.declared.ids.RelId.{RelId}

@@ -2,7 +2,7 @@
 use Rattle.std.specs.Prelude.{◌≡◌, ◌≤ℤ◌, ℕ, ◌*◌, ◌^◌, ◌<◌, ℤ, pos, neg_ℤ, ◌+◌, ◌+ℤ◌, ◌||◌, Bool, true, false, cond, nat_lt, int_lt, List, [], ◌∷◌, Option, None, Some, length, filter}
 use Rattle.std.specs.List.{list_any}
 use Rattle.opa_value.specs.declared.value.Value.{Value}
-use Rattle.opa_value.specs.declared.value.Value.TheVariants.{Unknown, Uncertain, Bool as Truth, Num, Words, Day}
+use Rattle.opa_value.specs.declared.value.Value.TheVariants.{Unknown, Uncertain, Bool as Truth, Num, Day}
 use Rattle.opa_value.specs.Truth.{all_of, any_of, unless_open, strict, is_true, is_false, is_unknown, is_uncertain}
 use Rattle.opa_window.specs.Folds.{sum_value, greatest, least, total, number_of}
 use Rattle.opa_mean.specs.Meaning.{true_count, amount}

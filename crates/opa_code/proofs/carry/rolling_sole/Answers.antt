@@ -1,7 +1,6 @@
-use Rattle.std.proofs.Common.{◌≡◌, map}
+use Rattle.std.proofs.Common.{map}
 use Rattle.opa_line.proofs.Zipping.{ok_weaker}
 use Rattle.opa_window.specs.Days.{day_value}
-use Rattle.opa_mean.specs.Meaning.{rolling}
 use Rattle.opa_code.specs.Lines.{meaning_of}
 use Rattle.opa_code.specs.Running.{sole}
 use Rattle.opa_code.proofs.Standing.{day_is, rolling_same, stands_same}

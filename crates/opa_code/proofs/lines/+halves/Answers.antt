@@ -1,10 +1,8 @@
-use Rattle.std.proofs.Common.{rules, of_calls, ◌≡◌, ◌∙◌, ◌<◌, ◌^◌, ◌∷◌, ◌++◌, [], take, List, length, sym, ap, subst, arith}
+use Rattle.std.proofs.Common.{rules, of_calls, ◌<◌, ◌^◌, length, sym, subst, arith}
 use Rattle.std.proofs.lemmas.Grind.{pieces}
-use Rattle.opa_date.specs.declared.TheConstants.{DAYS}
 use Rattle.opa_line.proofs.Zipping.{ok_weaker}
-use Rattle.opa_window.specs.Days.{day_value}
 use Rattle.opa_code.specs.Lines.{values_at}
-use Rattle.opa_code.specs.Tallies.{IsTally, IsBoth, AreSmall}
+use Rattle.opa_code.specs.Tallies.{IsTally, AreSmall}
 use Rattle.opa_code.proofs.Halving.{small_at, halves_join, tallied_both, no_items, one_item}
 use Rattle.opa_code.proofs.lines.+halves.Goals as goal
 

@@ -1,4 +1,4 @@
-use Rattle.std.proofs.Common.{rules, of_calls, ◌≡◌, ap, subst}
+use Rattle.std.proofs.Common.{rules, of_calls, subst}
 use Rattle.opa_line.proofs.Zipping.{ok_weaker}
 use Rattle.opa_code.proofs.Halving.{gathered_stands, Tallied}
 use Rattle.opa_code.proofs.lines.gathered.Goals as goal

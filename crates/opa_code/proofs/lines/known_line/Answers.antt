@@ -1,8 +1,7 @@
-use Rattle.std.proofs.Common.{rules, of_calls, ◌∷◌, []}
+use Rattle.std.proofs.Common.{rules, of_calls}
 use Rattle.opa_date.specs.declared.TheConstants.{DAYS}
-use Rattle.opa_value.specs.declared.value.Value.{Value}
 use Rattle.opa_value.specs.declared.value.Value.TheVariants.{Unknown}
-use Rattle.opa_line.proofs.Zipping.{ok_weaker, mapped_stands, joined_stands}
+use Rattle.opa_line.proofs.Zipping.{ok_weaker, mapped_stands}
 use Rattle.opa_mean.specs.Meaning.{known_of}
 use Rattle.opa_code.proofs.lines.known_line.Goals as goal
 

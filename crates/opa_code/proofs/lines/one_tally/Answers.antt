@@ -1,4 +1,4 @@
-use Rattle.std.proofs.Common.{rules, of_calls, ◌≡◌, sym, ap, subst}
+use Rattle.std.proofs.Common.{rules, of_calls, sym, ap, subst}
 use Rattle.opa_value.specs.declared.value.Value.TheVariants.{Unknown}
 use Rattle.opa_line.specs.Lines.{value_or}
 use Rattle.opa_line.proofs.Zipping.{ok_weaker}

@@ -1,4 +1,4 @@
-use Rattle.std.proofs.Common.{◌≡◌, ◌∙◌, Some, ap, sym}
+use Rattle.std.proofs.Common.{◌∙◌, Some, ap, sym}
 use Rattle.opa_value.specs.Truth.{unless_open}
 use Rattle.opa_line.proofs.Zipping.{ok_weaker}
 use Rattle.opa_code.specs.Lines.{values_at}

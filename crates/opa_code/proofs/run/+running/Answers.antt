@@ -1,8 +1,4 @@
-use Rattle.std.proofs.Common.{◌≡◌, ◌∙◌, sym, ap, subst}
-use Rattle.opa_date.specs.declared.TheConstants.{DAYS}
-use Rattle.opa_line.specs.Lines.{StandsFor}
-use Rattle.opa_mean.specs.Meaning.{item}
-use Rattle.opa_code.specs.Lines.{values_at}
+use Rattle.std.proofs.Common.{◌∙◌, sym, subst}
 use Rattle.opa_code.specs.Steps.{Leaves}
 use Rattle.opa_code.proofs.Stepping.{over_kept, run_left, items_next}
 use Rattle.opa_code.proofs.run.+running.Goals as goal

@@ -1,9 +1,4 @@
-use Rattle.std.proofs.Common.{◌≡◌, ◌≤◌, ◌<◌, ◌+◌, ◌*◌, ◌∷◌, [], List, length, map, take}
-use Rattle.opa_date.specs.declared.TheConstants.{DAYS}
-use Rattle.opa_cells.specs.Instances.{named}
-use Rattle.opa_mean.specs.Meaning.{Meaning, each, item}
-use Rattle.opa_code.specs.Lines.{values_at}
-use Rattle.opa_code.specs.Running.{Run}
+use Rattle.std.proofs.Common.{◌≤◌, ◌+◌, ◌*◌, [], length, take}
 use Rattle.opa_code.specs.Steps.{AreItems, Keeps}
 use Rattle.opa_code.proofs.run.+running.Given as goal
 

@@ -1,4 +1,3 @@
-use Rattle.std.proofs.Common.{refl}
 use Rattle.opa_code.proofs.Tallying.{plain_peaks}
 use Rattle.opa_code.proofs.peaks.Peaks.one.Goals as goal
 
