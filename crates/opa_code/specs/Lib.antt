@@ -1,0 +1,10 @@
+pub mod Choices
+pub mod Codes
+pub mod Coding
+pub mod Laws
+pub mod Lines
+pub mod Rulebases
+pub mod Running
+pub mod Samples
+pub mod Steps
+pub mod Tallies

@@ -1,0 +1,44 @@
+// What is declared of attributes and relations.
+ghost use Rattle.std.specs.Prelude.{◌≡◌};
+ghost use Rattle.opa_case.specs.Shapes.{shape_of};
+ghost use Rattle.opa_mean.specs.Mean.{is_money as of_money};
+ghost use Rattle.opa_mean.specs.Places.{owner_of as entity_of};
+
+use opa_model::{AttrId, Kind, Model, RelId};
+
+/// The entity whose instances have the attribute.
+pub(crate) fn owner_of(model: &Model, attr: AttrId) -> u32
+    ensures { result ≡ entity_of (shape_of model.now) attr }
+{
+    if attr.0 < model.attribute_count() {
+        model.attribute(attr).entity.0
+    } else {
+        0
+    }
+}
+
+pub(crate) fn source_of(model: &Model, rel: RelId) -> u32
+    ensures { result ≡ (shape_of model.now).source rel }
+{
+    if rel.0 < model.relation_count() {
+        model.relation(rel).source.0
+    } else {
+        0
+    }
+}
+
+pub(crate) fn target_of(model: &Model, rel: RelId) -> u32
+    ensures { result ≡ (shape_of model.now).target rel }
+{
+    if rel.0 < model.relation_count() {
+        model.relation(rel).target.0
+    } else {
+        0
+    }
+}
+
+pub(crate) fn is_money(model: &Model, attr: AttrId) -> bool
+    ensures { result ≡ of_money ((shape_of model.now).attribute attr).kind }
+{
+    attr.0 < model.attribute_count() && matches!(model.attribute(attr).kind, Kind::Currency)
+}

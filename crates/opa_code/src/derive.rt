@@ -1,0 +1,62 @@
+// Code, carried out over whole lines.
+ghost use Rattle.std.specs.Prelude.{◌≡◌, ◌∷◌, [], IfOk};
+ghost use Rattle.opa_date.specs.declared.TheConstants.{DAYS};
+ghost use Rattle.opa_line.specs.Lines.{StandsFor};
+ghost use Rattle.opa_value.specs.Fit.{fit_of};
+ghost use Rattle.opa_mean.specs.Meaning.{first_value};
+ghost use Rattle.opa_code.specs.Lines.{values_at};
+
+use crate::Code;
+use crate::lines::{first_line, fitted_line};
+use crate::run::run;
+use opa_case::InstanceId;
+use opa_io::{List, NoMemory};
+use opa_line::Line;
+use opa_mean::{Derive, Look};
+use opa_model::AttrId;
+use opa_value::Value;
+use std::alloc::Global;
+
+impl Derive for Code {
+    ghost use Rattle.opa_code.specs.Rulebases.{rulebase_of};
+
+    ghost stands_for = { rulebase_of };
+
+    fn evaluate<K: Look>(
+        &self,
+        alloc: Global,
+        attr: AttrId,
+        inst: &InstanceId,
+        look: &K,
+    ) -> Result<Line<Value>, NoMemory> {
+        match self.of(attr) {
+            None => Line::constant(alloc, Value::Unknown),
+            Some(code) => {
+                let enclosing = alone(alloc, inst)?;
+                let lines = run(alloc, look, code.nodes.as_slice(), enclosing.as_slice())?;
+                concluded_line(alloc, code.money, &lines)
+            }
+        }
+    }
+}
+
+/// An instance as the only enclosing one.
+fn alone(alloc: Global, inst: &InstanceId) -> Result<List<InstanceId>, NoMemory>
+    ensures { IfOk result (λ all. all ≡ inst.now ∷ []) }
+{
+    let mut all = List::new(alloc);
+    all.push(inst.copy(alloc)?)?;
+    Ok(all)
+}
+
+/// What the nodes of a rule's tree left, concluded.
+fn concluded_line(
+    alloc: Global,
+    money: bool,
+    lines: &[Line<Value>],
+) -> Result<Line<Value>, NoMemory>
+    ensures { IfOk result (StandsFor DAYS (λ d. fit_of money (first_value (values_at lines.now d)))) }
+{
+    let first = first_line(alloc, lines)?;
+    fitted_line(alloc, money, &first)
+}

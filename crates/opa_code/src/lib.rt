@@ -1,0 +1,31 @@
+//! Rules as flat code, which is run over whole lines: no tree is walked and no day is looked at by itself.
+#![tactic(auto)]
+
+mod carry;
+mod choice;
+mod code;
+mod declared;
+mod derive;
+mod gather;
+mod gathering;
+mod laws;
+mod lines;
+mod marks;
+mod node;
+mod operations;
+mod peaks;
+mod places;
+mod rule_code;
+mod rules;
+mod run;
+mod sums;
+mod tally;
+mod windows;
+mod witness;
+
+pub use code::Code;
+pub use laws::code_is_short;
+pub use rules::compile;
+
+#[cfg(test)]
+mod tests;
