@@ -1,0 +1,12 @@
+pub mod Phrasing
+pub mod Naming
+pub mod Lines
+pub mod Sayings
+pub mod Groups
+pub mod GroupTable
+pub mod Openings
+pub mod Blocks
+pub mod RuleFaults
+pub mod Rules
+pub mod MemberFaults
+pub mod Memberships
