@@ -1,0 +1,4 @@
+pub mod Shrinks
+pub mod WordLaws
+pub mod GroupsRead
+pub mod GroupsMeant

@@ -4,6 +4,7 @@ pub mod Lines
 pub mod Sayings
 pub mod Groups
 pub mod GroupTable
+pub mod Steps
 pub mod Openings
 pub mod Blocks
 pub mod RuleFaults

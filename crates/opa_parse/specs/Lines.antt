@@ -82,16 +82,26 @@ abbrev pub over : Names → (Relation → Head) → Option (List Lexeme) → Opt
 over ns f None = None
 over ns f (Some ts) = option_map f (relation_of ns ts)
 
+-- `all` or `both`, and `any` or `either`
+abbrev pub all_head : List Lexeme → Option Head
+all_head ts = option_or (whole head.All (past_word (codes "all") ts)) (whole head.All (past_word (codes "both") ts))
+
+abbrev pub any_head : List Lexeme → Option Head
+any_head ts = option_or (whole head.Any (past_word (codes "any") ts)) (whole head.Any (past_word (codes "either") ts))
+
+abbrev pub plain_head : List Lexeme → Option Head
+plain_head ts = option_or (all_head ts) (option_or (any_head ts) (whole head.Not (past_denial ts)))
+
+-- `for all of` and `for at least one of` a relation
+abbrev pub for_all_head : Names → List Lexeme → Option Head
+for_all_head ns ts = over ns (λ r. head.ForAll r) (past_for_all ts)
+
+abbrev pub for_some_head : Names → List Lexeme → Option Head
+for_some_head ns ts = over ns (λ r. head.Exists r) (past_for_some ts)
+
 -- the head that these words are
 abbrev pub head_of : Names → List Lexeme → Option Head
-head_of ns ts =
-    option_or (whole head.All (past_word (codes "all") ts))
-    (option_or (whole head.All (past_word (codes "both") ts))
-    (option_or (whole head.Any (past_word (codes "any") ts))
-    (option_or (whole head.Any (past_word (codes "either") ts))
-    (option_or (whole head.Not (past_denial ts))
-    (option_or (over ns (λ r. head.ForAll r) (past_for_all ts))
-    (over ns (λ r. head.Exists r) (past_for_some ts)))))))
+head_of ns ts = option_or (plain_head ts) (option_or (for_all_head ns ts) (for_some_head ns ts))
 
 -- ---- lines
 

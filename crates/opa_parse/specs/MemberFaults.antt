@@ -1,5 +1,5 @@
 -- The faults of membership blocks.
-use Rattle.std.specs.Prelude.{ℕ, ◌+◌, nat_lt, is_none, List, [], ◌∷◌, ◌++◌, length, Option, Some, None}
+use Rattle.std.specs.Prelude.{ℕ, ◌+◌, Bool, nat_lt, is_none, List, [], ◌∷◌, ◌++◌, length, Option, Some, None}
 use Rattle.std.specs.List.{list_any}
 use Rattle.std.specs.Str.{bytes_eq}
 use Rattle.opa_tree.specs.declared.faults.RbFault.{RbFault}

@@ -43,7 +43,7 @@ operand n denied = let attr : AttrId = record { 0 = n } in record { attr = attr;
 -- what the texts of attributes stand for, counted from this one
 abbrev pub meanings_from : Lists → ℕ → List Attribute → List Operand
 meanings_from m n [] = []
-meanings_from m n (a ∷ as) = (operand n false ∷ map (λ t. operand n true) (denials m a)) ++ meanings_from m (n + 1) as
+meanings_from m n (a ∷ more) = (operand n false ∷ map (λ t. operand n true) (denials m a)) ++ meanings_from m (n + 1) more
 
 abbrev pub operand_meanings : Lists → List Operand
 operand_meanings m = meanings_from m 0 m.attributes

@@ -27,7 +27,7 @@ pub enum Opening {
 }
 
 /// What a rule says: the attribute that it concludes, if it is declared, and from what.
-#[derive(Debug, Drop)]
+#[derive(Drop)]
 pub struct Statement {
     pub attr: Option<AttrId>,
     pub by_if: bool,
@@ -35,7 +35,7 @@ pub struct Statement {
 }
 
 /// A block that is a rule, at its first line: what it says, if it is spelled.
-#[derive(Debug, Drop)]
+#[derive(Drop)]
 pub struct RuleBlock {
     pub file: u32,
     pub line: u32,
@@ -44,7 +44,7 @@ pub struct RuleBlock {
 
 /// What a membership block says: the phrase of an inferred relation, the relation that it is taken from, if that is
 /// declared with `every`, and what a member meets.
-#[derive(Debug, Drop)]
+#[derive(Drop)]
 pub struct Membership {
     pub phrase: Txt,
     pub every: Option<RelId>,
@@ -52,7 +52,7 @@ pub struct Membership {
 }
 
 /// A membership block, at its first line: what it says, if it is spelled.
-#[derive(Debug, Drop)]
+#[derive(Drop)]
 pub struct MemberBlock {
     pub file: u32,
     pub line: u32,

@@ -19,42 +19,42 @@ pub struct Mark {
 }
 
 /// What lines say, and the faults that they have by themselves, in their order.
-#[derive(Debug, Drop)]
+#[derive(Drop)]
 pub struct Said {
     pub reading: Reading,
     pub marks: List<Mark>,
 }
 
 /// What a group says, and the connector of its items, if it has several.
-#[derive(Debug, Drop)]
+#[derive(Drop)]
 pub struct Group {
     pub joint: Option<Joint>,
     pub said: Said,
 }
 
 /// What several items say.
-#[derive(Debug, Drop)]
+#[derive(Drop)]
 pub struct Several {
     pub parts: Parts,
     pub marks: List<Mark>,
 }
 
 /// The items before another one, each with its connector.
-#[derive(Debug, Drop)]
+#[derive(Drop)]
 pub enum Front {
     Nothing,
     Joined(Joint, Several),
 }
 
 /// A group at a level, up to an item.
-#[derive(Debug, Drop)]
+#[derive(Drop)]
 pub struct Items {
     pub level: u32,
     pub front: Front,
 }
 
 /// Cases, each with its value and its group: their rows, if all of them are named and within their numbers, and their measure.
-#[derive(Debug, Drop)]
+#[derive(Drop)]
 pub struct Cases {
     pub rows: Option<List<Row>>,
     pub measure: Measure,
@@ -63,7 +63,7 @@ pub struct Cases {
 
 /// What is to be read next: an item; what follows an item with deeper lines; the first case, or another; nothing that a
 /// block has.
-#[derive(Debug, Drop)]
+#[derive(Drop)]
 pub enum Sort {
     Item(Items),
     After(Items, Said),
@@ -74,7 +74,7 @@ pub enum Sort {
 
 /// What a group that was read belongs to: the head of an item, which stands on the line of this number, or a case, whose
 /// value was read.
-#[derive(Debug, Drop)]
+#[derive(Drop)]
 pub enum Frame {
     Head(Items, u32, Head),
     Case(Cases, Said),

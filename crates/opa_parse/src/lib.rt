@@ -1,10 +1,20 @@
 //! Rules and membership blocks: what a model's phrases stand for, and how the blocks of rule files are read.
 #![tactic(auto)]
 
-mod line;
-mod group;
 mod block;
+mod group;
+mod line;
+mod lines;
+mod reader;
+mod sayings;
+mod table;
+mod words;
 
-pub use block::{BlockSort, MOST_PHRASE, MOST_RULES, MemberBlock, Membership, Opening, RuleBlock, Statement};
+pub use block::{
+    BlockSort, MOST_PHRASE, MOST_RULES, MemberBlock, Membership, Opening, RuleBlock, Statement,
+};
 pub use group::{Cases, Frame, Front, Group, Items, Joint, Mark, Said, Several, Sort};
 pub use line::{Ending, Head, Line};
+pub use lines::Lines;
+pub use reader::read;
+pub use table::Step;

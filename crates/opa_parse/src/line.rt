@@ -24,7 +24,7 @@ pub enum Head {
 
 /// A line of a block, cut: its level and number, its ending, and what stands before the ending: whether it is bare, what it
 /// is as a head, and what it says as a line.
-#[derive(Debug, Drop)]
+#[derive(Drop)]
 pub struct Line {
     pub level: u32,
     pub number: u32,
