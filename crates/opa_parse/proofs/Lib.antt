@@ -2,3 +2,8 @@ pub mod Shrinks
 pub mod WordLaws
 pub mod GroupsRead
 pub mod GroupsMeant
+pub mod CutOnce
+pub mod FrontLaws
+pub mod BlockLaws
+pub mod NameLaws
+pub mod RuleLaws

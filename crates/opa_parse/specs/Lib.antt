@@ -5,9 +5,12 @@ pub mod Sayings
 pub mod Groups
 pub mod GroupTable
 pub mod Steps
+pub mod Fronts
 pub mod Openings
 pub mod Blocks
+pub mod Statements
 pub mod RuleFaults
 pub mod Rules
+pub mod Runs
 pub mod MemberFaults
 pub mod Memberships

@@ -1,5 +1,5 @@
 -- What the phrases of a model, and those of inferred relations, stand for.
-use Rattle.std.specs.Prelude.{ℕ, ◌+◌, min, List, [], ◌∷◌, ◌++◌, Bool, true, false, map, flat_map, Option, None, Some}
+use Rattle.std.specs.Prelude.{ℕ, ◌+◌, min, List, [], ◌∷◌, ◌++◌, Bool, true, false, map, flat_map, Option, None, Some, refl}
 use Rattle.opa_model.specs.declared.ids.AttrId.{AttrId}
 use Rattle.opa_model.specs.declared.ids.RelId.{RelId}
 use Rattle.opa_model.specs.declared.lists.Lists.{Lists}
@@ -61,7 +61,7 @@ inferred_from n [] = []
 inferred_from n (x ∷ xs) = relation.Inferred n ∷ inferred_from (n + 1) xs
 
 abbrev pub member_of : Inferred → Member
-member_of i = record { every = i.every; expr = i.expr; depth = min (depth i.expr) (MOST_DEPTH + 1); nodes = min (nodes i.expr) (MOST_NODES + 1) }
+member_of i = record { every = i.every; expr = i.expr; depth = min (depth i.expr) (MOST_DEPTH + 1); nodes = min (nodes i.expr) (MOST_NODES + 1); deep = refl; wide = refl }
 
 -- The operands are the attributes' phrases and what denies them; the relations are the declared ones and then the inferred ones.
 abbrev pub names_in : Lists → List Inferred → Names

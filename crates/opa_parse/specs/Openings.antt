@@ -1,14 +1,12 @@
 -- How blocks begin.
-use Rattle.std.specs.Prelude.{◌≡◌, ◌⊎◌, ℕ, Bool, true, false, ◌&&◌, List, [], ◌∷◌, Option, Some, None, length, map, take, codes, if◌then◌else◌}
+use Rattle.std.specs.Prelude.{◌≡◌, ℕ, ◌+◌, Bool, true, false, ◌&&◌, ◌||◌, List, [], ◌∷◌, Option, Some, None, map, take, drop, codes, if◌then◌else◌}
 use Rattle.std.specs.Option.{option_map}
-use Rattle.std.specs.List.{list_any}
-use Rattle.std.specs.Str.{bytes_eq, chars}
+use Rattle.std.specs.Str.{bytes_eq}
 use Rattle.opa_model.specs.declared.ids.AttrId.{AttrId}
 use Rattle.opa_model.specs.declared.lists.Lists.{Lists}
 use Rattle.opa_model.specs.Lookups.{attribute_named}
 use Rattle.opa_tree.specs.declared.kinds.OpKind.TheVariants as op
 use Rattle.opa_words.specs.declared.kinds.Token.{Token}
-use Rattle.opa_words.specs.Cuts.{Cuts, Stuck}
 use Rattle.opa_words.specs.Places.{token_text}
 use Rattle.opa_words.specs.Reserved.{joined, are_phrase, phrase_text}
 use Rattle.opa_layout.specs.declared.block.BlockLine.{BlockLine}
@@ -24,26 +22,26 @@ use Rattle.opa_parse.specs.declared.block.Opening.{Opening}
 use Rattle.opa_parse.specs.declared.block.Opening.TheVariants as opens
 use Rattle.opa_parse.specs.declared.line.Ending.{Ending}
 use Rattle.opa_parse.specs.declared.line.Ending.TheVariants as ending
+use Rattle.opa_parse.specs.Fronts.{IsFront}
 use Rattle.opa_parse.specs.Lines.{ending_of, body, relation_of}
 
 -- ---- the first word of a block
 
--- The tokens at the front of a text: all of it is cut into them, or what stands before the first place at which no token begins.
-abbrev pub IsFront : List ℕ → List Token → Type 0
-IsFront text ts = Cuts (length text) (chars text) ts ⊎ ((p : ℕ) × Stuck (length text) (chars text) p × Cuts (length (take p text)) (chars (take p text)) ts)
-
 -- the first word or other token of a text, if it begins with one
 abbrev pub IsFirst : List ℕ → Option (List ℕ) → Type 0
-IsFirst text (Some w) = (t : Token) × (ts : List Token) × IsFront text (t ∷ ts) × (token_text text t ≡ w)
-IsFirst text None = (t : Token) (ts : List Token) → IsFront text (t ∷ ts) → ⊥
+IsFirst text (Some w) = (front : List ℕ) × (t : Token) × (ts : List Token) × IsFront text front (t ∷ ts) × (token_text front t ≡ w)
+IsFirst text None = (front : List ℕ) (t : Token) (ts : List Token) → IsFront text front (t ∷ ts) → ⊥
 
-abbrev pub declaring : List (List ℕ)
-declaring = codes "verb" ∷ codes "entity" ∷ codes "global" ∷ codes "goal" ∷ codes "screen" ∷ codes "include" ∷ codes "table" ∷ []
+-- with which a declaration begins
+abbrev pub is_declaring : List ℕ → Bool
+is_declaring w =
+    if bytes_eq w (codes "verb") || bytes_eq w (codes "entity") || bytes_eq w (codes "global") || bytes_eq w (codes "goal") then true else
+    bytes_eq w (codes "screen") || bytes_eq w (codes "include") || bytes_eq w (codes "table")
 
 -- a declaration or a membership block begins with its word; every other block is a rule
 abbrev pub sort_of_word : List ℕ → BlockSort
 sort_of_word w =
-    if list_any (bytes_eq w) declaring then block_sort.Declaration else
+    if is_declaring w then block_sort.Declaration else
     if bytes_eq w (codes "members") then block_sort.Members else
     block_sort.Rule
 
@@ -51,10 +49,14 @@ abbrev pub sort_of : Option (List ℕ) → BlockSort
 sort_of None = block_sort.Rule
 sort_of (Some w) = sort_of_word w
 
--- what a block with these lines is; one without lines declares nothing
+-- what a block is whose first line has this text
+abbrev pub IsSortOf : List ℕ → BlockSort → Type 0
+IsSortOf text s = (w : Option (List ℕ)) × IsFirst text w × (s ≡ sort_of w)
+
+-- what a block with these lines is; one without lines is passed over as a declaration is
 abbrev pub IsSort : List BlockLine → BlockSort → Type 0
 IsSort [] s = s ≡ block_sort.Declaration
-IsSort (l ∷ ls) s = (w : Option (List ℕ)) × IsFirst l.text w × (s ≡ sort_of w)
+IsSort (l ∷ ls) s = IsSortOf l.text s
 
 -- ---- the first line of a rule
 
@@ -100,14 +102,17 @@ past_equals ts = past_one (past_words ts)
 
 -- ---- the first line of a membership block
 
+-- how many tokens stand before the first word `from`
+abbrev pub from_place : List ℕ → List Token → ℕ
+from_place text [] = 0
+from_place text (t ∷ ts) = if bytes_eq (token_text text t) (codes "from") then 0 else from_place text ts + 1
+
 abbrev pub before_from : List ℕ → List Token → List Token
-before_from text [] = []
-before_from text (t ∷ ts) = if bytes_eq (token_text text t) (codes "from") then [] else t ∷ before_from text ts
+before_from text ts = take (from_place text ts) ts
 
 -- what follows the first word `from`
 abbrev pub past_from : List ℕ → List Token → List Token
-past_from text [] = []
-past_from text (t ∷ ts) = if bytes_eq (token_text text t) (codes "from") then ts else past_from text ts
+past_from text ts = drop (from_place text ts + 1) ts
 
 abbrev pub is_if : Ending → Bool
 is_if ending.If = true

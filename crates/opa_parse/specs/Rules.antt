@@ -44,18 +44,22 @@ pub data AreRuleBlocks (m : Lists) (ns : Names) : List Block → List RuleBlock 
 
 -- ---- what is read
 
-abbrev pub rule_from : RuleBlock → Option AttrId → Option Expr → Bool → List Rule
-rule_from b None e by_if = []
-rule_from b (Some a) None by_if = []
-rule_from b (Some a) (Some e) by_if = record { attr = a; expr = e; file = b.file; line = b.line; by_if = by_if } ∷ []
+abbrev pub listed_rule : Option Rule → List Rule
+listed_rule None = []
+listed_rule (Some rule) = rule ∷ []
 
-abbrev pub rule_by : RuleBlock → Option Statement → List Rule
-rule_by b None = []
-rule_by b (Some s) = rule_from b s.attr s.said.reading.tree s.by_if
+abbrev pub rule_from : ℕ → ℕ → Option AttrId → Option Expr → Bool → List Rule
+rule_from file line None e by_if = []
+rule_from file line (Some a) None by_if = []
+rule_from file line (Some a) (Some e) by_if = record { attr = a; expr = e; file = file; line = line; by_if = by_if } ∷ []
+
+abbrev pub rule_by : ℕ → ℕ → Option Statement → List Rule
+rule_by file line None = []
+rule_by file line (Some s) = rule_from file line s.attr s.said.reading.tree s.by_if
 
 -- the rule of a block: one, where it is spelled, what it concludes is declared, and its tree is named and within its numbers
 abbrev pub rule_in : RuleBlock → List Rule
-rule_in b = rule_by b b.statement
+rule_in b = rule_by b.file b.line b.statement
 
 abbrev pub rules_in : List RuleBlock → List Rule
 rules_in [] = []

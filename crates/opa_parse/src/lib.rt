@@ -2,10 +2,16 @@
 #![tactic(auto)]
 
 mod block;
+mod blocks;
+mod cut;
+mod faults;
 mod group;
 mod line;
 mod lines;
+mod names;
+mod openings;
 mod reader;
+mod rules;
 mod sayings;
 mod table;
 mod words;
@@ -16,5 +22,7 @@ pub use block::{
 pub use group::{Cases, Frame, Front, Group, Items, Joint, Mark, Said, Several, Sort};
 pub use line::{Ending, Head, Line};
 pub use lines::Lines;
+pub use names::names_of;
 pub use reader::read;
+pub use rules::{Taken, read_rules};
 pub use table::Step;

@@ -28,6 +28,7 @@ impl Model for Lines {
 impl Lines {
     ghost use Rattle.std.specs.Prelude.{◌≡◌, ◌+◌, ◌∷◌, [], Some, None, MatchOption, OnOk, if◌then◌else◌};
     ghost use Rattle.opa_parse.specs.Groups.{is_deeper, is_above};
+    ghost use Rattle.opa_parse.specs.Statements.{is_over};
 
     pub fn none(alloc: Global) -> Lines
         ensures { result ≡ [] }
@@ -77,6 +78,16 @@ impl Lines {
         match self.backward.as_slice() {
             [] => true,
             [.., line] => line.level < level,
+        }
+    }
+
+    #[tactic(auto, using(opa_sentence::proofs::Machine::reversed))]
+    pub fn is_over(&self) -> bool
+        ensures { result ≡ is_over self.now }
+    {
+        match self.backward.as_slice() {
+            [] => true,
+            [.., _] => false,
         }
     }
 }

@@ -25,7 +25,8 @@ pub fn and_then(marks: List<Mark>, more: List<Mark>) -> Result<List<Mark>, NoMem
     ensures { IfOk result (λ all. all ≡ marks ++ more) }
 {
     let mut all = marks;
-    for mark in more.as_slice() {
+    let others = more.as_slice();
+    for mark in others {
         all.push(*mark)?;
     }
     Ok(all)

@@ -47,7 +47,7 @@ pub fn ending_of(words: Cursor<'_>) -> Ending
 }
 
 /// What stands before the ending.
-#[tactic(auto, using(crate::proofs::WordLaws::body_last))]
+#[tactic(auto, using(crate::proofs::WordLaws::bodies))]
 pub fn body(words: Cursor<'_>) -> Cursor<'_>
     ensures { seen result ≡ body_of (seen words.entry) }
 {
