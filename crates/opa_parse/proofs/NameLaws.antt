@@ -19,7 +19,7 @@ each P xs n x at all = subst P (get_or_from_slice_get xs n x x at) (All-get_or P
 drop_at : {X : Type 0} (xs : List X) (n : ℕ) (x : X) → slice_get xs n ≡ Some x → drop n xs ≡ x ∷ drop (n + 1) xs
 drop_at [] n x e = absurd (cc e)
 drop_at (y ∷ ys) zero x e = let f : y ≡ x = cc e in ap (λ z. z ∷ ys) f
-drop_at (y ∷ ys) (suc n) x e = drop_at ys n x e
+drop_at (y ∷ ys) (suc n) x e = drop_at ys n x e ∙ ap (λ k. x ∷ drop k (y ∷ ys)) (let f : suc (n + 1) ≡ suc n + 1 = omega arith in f)
 
 past_end : {X : Type 0} (xs : List X) → drop (length xs) xs ≡ []
 past_end [] = refl

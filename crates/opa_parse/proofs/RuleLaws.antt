@@ -1,5 +1,5 @@
 -- Rules are taken one after another.
-use Rattle.std.proofs.Common.{◌≡◌, ℕ, ◌+◌, min, List, [], ◌∷◌, ◌++◌, length, map, Bool, true, false, ◌&&◌, ◌==◌, nat_le, nat_lt, if◌then◌else◌, Option, Some, None, refl, sym, ap, subst, ◌∙◌, append_assoc, length-append, arith}
+use Rattle.std.proofs.Common.{◌≡◌, ℕ, ◌+◌, min, List, [], ◌∷◌, ◌++◌, length, map, Bool, true, false, ◌&&◌, ◌==◌, nat_le, nat_lt, if◌then◌else◌, Option, Some, None, refl, sym, ap, ap₂, subst, ◌∙◌, append_assoc, length-append, arith}
 use Rattle.std.specs.Prelude.{is_none}
 use Rattle.std.proofs.lemmas.List.{append-nil}
 use Rattle.opa_model.specs.declared.lists.Lists.{Lists}
@@ -17,11 +17,13 @@ use Rattle.opa_parse.specs.declared.block.RuleBlock.{RuleBlock}
 use Rattle.opa_parse.specs.declared.block.Statement.{Statement}
 use Rattle.opa_parse.specs.declared.block.TheConstants.{MOST_RULES}
 use Rattle.opa_parse.specs.declared.rules.Taken.{Taken}
-use Rattle.opa_parse.specs.Naming.{names_in}
+use Rattle.opa_parse.specs.Naming.{names_in, member_of}
 use Rattle.opa_parse.specs.RuleFaults.{fault_at, when, marked, passes, size_faults, statement_faults, spelled_faults, block_faults, statement_nodes, faults_from}
 use Rattle.opa_parse.specs.Rules as r
 use Rattle.opa_parse.specs.Rules.{IsRuleBlock, IsPassed, AreRuleBlocks, rule_in, rules_in, inferred_nodes, rule_faults, AreRules, AreRefused}
-use Rattle.opa_parse.specs.Runs.{nodes_in, IsTaken, Takes, Goes, IsRun}
+use Rattle.opa_parse.specs.Runs.{nodes_in, IsTaken, Takes, Goes, IsRun, TakesAll}
+use Rattle.opa_sentence.specs.declared.names.Member.{Member}
+use Rattle.opa_sentence.specs.Measures.{nodes, total}
 
 -- ---- one more rule
 
@@ -150,19 +152,35 @@ module _ (m : Lists) (ns : Names) where
   run_ends start all rest t e run =
       subst (AreRuleBlocks m ns all) (append-nil run.found) (run.left [] (subst (λ x. AreRuleBlocks m ns x []) (sym e) r.AreRuleBlocks.none))
 
-pub rules_read : (m : Lists) (inferences : List Inferred) (all rest : List Block) (t : Taken) (rules : List Rule) → rest ≡ [] → IsRun m (names_in m inferences) (inferred_nodes inferences) all rest t → t.first ≡ None → rules ≡ t.rules → AreRules m inferences all rules
-rules_read m inferences all rest t rules e run p q = record {
-  found = run.found;
-  are_found = run_ends m (names_in m inferences) (inferred_nodes inferences) all rest t e run;
-  sound = no_faults (rule_faults inferences run.found) (sym run.taken.first_is ∙ p);
-  rules_are = q ∙ run.taken.rules_are p;
-}
+pub rules_read : (m : Lists) (inferences : List Inferred) (blocks : List Block) (ns : Names) (none t : Taken) (rules : List Rule) → ns ≡ names_in m inferences → IsTaken (inferred_nodes inferences) [] none → TakesAll m ns blocks none t → t.first ≡ None → rules ≡ t.rules
+    → AreRules m inferences blocks rules
+rules_read m inferences blocks ns none t rules e begun all p q =
+    let run = all (inferred_nodes inferences) begun in
+    record {
+      found = run.0;
+      are_found = subst (λ n. AreRuleBlocks m n blocks run.0) e run.2;
+      sound = no_faults (rule_faults inferences run.0) (sym run.1.first_is ∙ p);
+      rules_are = q ∙ run.1.rules_are p;
+    }
 
-pub rules_refused : (m : Lists) (inferences : List Inferred) (all rest : List Block) (t : Taken) (fault : RbFault) → rest ≡ [] → IsRun m (names_in m inferences) (inferred_nodes inferences) all rest t → t.first ≡ Some fault → AreRefused m inferences all fault
-rules_refused m inferences all rest t fault e run p = record {
-  found = run.found;
-  are_found = run_ends m (names_in m inferences) (inferred_nodes inferences) all rest t e run;
-  first = sym run.taken.first_is ∙ p;
-}
+pub rules_refused : (m : Lists) (inferences : List Inferred) (blocks : List Block) (ns : Names) (none t : Taken) (fault : RbFault) → ns ≡ names_in m inferences → IsTaken (inferred_nodes inferences) [] none → TakesAll m ns blocks none t → t.first ≡ Some fault
+    → AreRefused m inferences blocks fault
+rules_refused m inferences blocks ns none t fault e begun all p =
+    let run = all (inferred_nodes inferences) begun in
+    record {
+      found = run.0;
+      are_found = subst (λ n. AreRuleBlocks m n blocks run.0) e run.2;
+      first = sym run.1.first_is ∙ p;
+    }
 
 -- the members' nodes are those of the inferred trees
+pub members_nodes : (inferences : List Inferred) → total (map (λ (x : Member). nodes x.expr) (map member_of inferences)) ≡ inferred_nodes inferences
+members_nodes [] = refl
+members_nodes (i ∷ more) = ap (λ n. nodes i.expr + n) (members_nodes more)
+
+pub nothing_more : (rules : List Rule) → rules ++ [] ≡ rules
+nothing_more rules = append-nil rules
+
+-- the first of four lists of faults
+pub of_four : (a b c d : List RbFault) → first_of (first_of (first_fault a) (first_fault b)) (first_of (first_fault c) (first_fault d)) ≡ first_fault ((a ++ b) ++ (c ++ d))
+of_four a b c d = ap₂ first_of (sym (first_fault-append a b)) (sym (first_fault-append c d)) ∙ sym (first_fault-append (a ++ b) (c ++ d))

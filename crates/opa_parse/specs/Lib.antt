@@ -14,3 +14,4 @@ pub mod Rules
 pub mod Runs
 pub mod MemberFaults
 pub mod Memberships
+pub mod MemberRuns

@@ -33,6 +33,10 @@ pub data AreMemberBlocks (m : Lists) (ns : Names) : List Block → List MemberBl
 
 -- ---- what is read
 
+abbrev pub listed_inferred : Option Inferred → List Inferred
+listed_inferred None = []
+listed_inferred (Some i) = i ∷ []
+
 abbrev pub inferred_from : List ℕ → Option RelId → Option Expr → List Inferred
 inferred_from phrase None e = []
 inferred_from phrase (Some r) None = []

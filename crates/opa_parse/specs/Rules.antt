@@ -46,7 +46,7 @@ pub data AreRuleBlocks (m : Lists) (ns : Names) : List Block → List RuleBlock 
 
 abbrev pub listed_rule : Option Rule → List Rule
 listed_rule None = []
-listed_rule (Some rule) = rule ∷ []
+listed_rule (Some x) = x ∷ []
 
 abbrev pub rule_from : ℕ → ℕ → Option AttrId → Option Expr → Bool → List Rule
 rule_from file line None e by_if = []

@@ -38,3 +38,7 @@ pub record IsRun (m : Lists) (ns : Names) (start : ℕ) (all rest : List Block) 
   pub found : List RuleBlock
   pub taken : IsTaken start found t
   pub left : (rs : List RuleBlock) → AreRuleBlocks m ns rest rs → AreRuleBlocks m ns all (found ++ rs)
+
+-- the rules of all blocks are taken
+abbrev pub TakesAll : Lists → Names → List Block → Taken → Taken → Type 0
+TakesAll m ns blocks t u = (start : ℕ) → IsTaken start [] t → (found : List RuleBlock) × IsTaken start found u × AreRuleBlocks m ns blocks found

@@ -1,5 +1,5 @@
 // The faults of what a block says.
-ghost use Rattle.std.specs.Prelude.{◌≡◌, ◌≤◌, IfOk};
+ghost use Rattle.std.specs.Prelude.{◌≡◌, ◌+◌, ◌<◌, min};
 ghost use Rattle.opa_tree.specs.FirstFaults.{first_fault};
 ghost use Rattle.opa_parse.specs.RuleFaults.{fault_at as fault_at_line, when as when_holds, marked as marked_at, passes as passes_most, size_faults, statement_faults, block_faults};
 
@@ -117,4 +117,12 @@ pub fn rule_fault(alloc: Global, rules: u32, nodes: u32, block: &RuleBlock) -> O
         None => Some(fault_at(alloc, place, RbKind::Syntax)),
         Some(statement) => statement_fault(alloc, rules, nodes, place, statement),
     }
+}
+
+/// So many more, or one more than the most.
+pub fn more_than(before: u32, more: u32, most: u32) -> u32
+    requires { most < 1_000_000 }
+    ensures { result ≡ min (before + more) (most + 1) }
+{
+    before.saturating_add(more).min(most + 1)
 }

@@ -14,9 +14,9 @@ use std::alloc::Global;
 
 /// Texts that stand for attributes, each with what it stands for.
 #[derive(Drop)]
-struct Operands {
-    texts: List<Txt>,
-    meanings: List<Operand>,
+pub struct Operands {
+    pub texts: List<Txt>,
+    pub meanings: List<Operand>,
 }
 
 impl Operands {
@@ -50,7 +50,7 @@ impl Operands {
 
 /// All texts that stand for attributes.
 #[tactic(auto, using(crate::proofs::NameLaws::operand_steps))]
-fn operands_of(alloc: Global, model: &Model) -> Result<Operands, NoMemory>
+pub fn operands_of(alloc: Global, model: &Model) -> Result<Operands, NoMemory>
     ensures texts { IfOk result (λ o. o.texts ≡ operand_phrases model.now) }
     ensures meanings { IfOk result (λ o. o.meanings ≡ operand_meanings model.now) }
 {
@@ -67,9 +67,9 @@ fn operands_of(alloc: Global, model: &Model) -> Result<Operands, NoMemory>
 
 /// Phrases of relations, each with what it stands for.
 #[derive(Drop)]
-struct Relations {
-    texts: List<Txt>,
-    related: List<Relation>,
+pub struct Relations {
+    pub texts: List<Txt>,
+    pub related: List<Relation>,
 }
 
 impl Relations {
@@ -101,8 +101,7 @@ impl Relations {
 }
 
 /// The declared relations.
-#[tactic(auto, using(crate::proofs::NameLaws::relation_steps))]
-fn declared_relations(alloc: Global, model: &Model) -> Result<Relations, NoMemory>
+pub fn declared_relations(alloc: Global, model: &Model) -> Result<Relations, NoMemory>
     ensures texts { IfOk result (λ r. r.texts ≡ relation_phrases model.now) }
     ensures related { IfOk result (λ r. r.related ≡ declared_from 0 model.now.relations) }
 {
@@ -128,8 +127,10 @@ fn members_of(alloc: Global, inferences: &[Inferred]) -> Result<List<Member>, No
     ensures { IfOk result (λ members. members ≡ map member_of_inferred inferences.now) }
 {
     let mut members = List::new(alloc);
-    for inferred in inferences {
+    let mut rest = inferences;
+    while let Some((inferred, later)) = front(rest) {
         members.push(member_of(alloc, inferred)?)?;
+        rest = later;
     }
     Ok(members)
 }

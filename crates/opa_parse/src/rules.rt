@@ -1,5 +1,5 @@
 // Rules are read block by block.
-ghost use Rattle.std.specs.Prelude.{ℕ, ◌≡◌, ◌+◌, ◌<◌, ◌++◌, min, map, Some, None, true, List as Seq, [], length, All, IfOk, IfErr};
+ghost use Rattle.std.specs.Prelude.{ℕ, ◌≡◌, ◌+◌, ◌++◌, min, map, true, [], All, IfOk, IfErr};
 ghost use Rattle.opa_tree.specs.declared.faults.RbError.TheVariants.{Refused};
 ghost use Rattle.opa_tree.specs.declared.faults.RbFault.{RbFault as FaultView};
 ghost use Rattle.opa_sentence.specs.declared.measure.TheConstants.{MOST_NODES as MOST_NODES_OF};
@@ -7,19 +7,19 @@ ghost use Rattle.opa_parse.specs.Fronts.{AreShort};
 ghost use Rattle.opa_parse.specs.RuleFaults.{statement_nodes as statement_nodes_of};
 ghost use Rattle.opa_sentence.specs.Measures.{total, nodes as nodes_of};
 ghost use Rattle.opa_parse.specs.Blocks.{IsStatement};
-ghost use Rattle.opa_parse.specs.Rules.{first_number as first_number_of, listed_rule, rule_from, rule_in as rule_in_block, inferred_nodes as inferred_nodes_of, IsRuleBlock, AreRules, AreRefused};
-ghost use Rattle.opa_parse.specs.Runs.{IsTaken, Takes, Goes};
+ghost use Rattle.opa_parse.specs.Rules.{first_number as first_number_of, listed_rule, rule_from, rule_in as rule_in_block, AreRules, AreRefused};
+ghost use Rattle.opa_parse.specs.Runs.{IsTaken, Takes, Goes, TakesAll};
 
 use crate::blocks::statement_of;
-use crate::faults::rule_fault;
+use crate::faults::{more_than, rule_fault};
 use crate::names::names_of;
 use crate::openings::sort_of;
-use crate::{BlockSort, MOST_RULES, RuleBlock, Statement};
+use crate::{BlockSort, MOST_RULES, RuleBlock, Said, Statement};
 use opa_io::{List, NoMemory, front};
 use opa_layout::{Block, BlockLine};
-use opa_model::Model;
+use opa_model::{AttrId, Model};
 use opa_sentence::{MOST_NODES, Member, Names};
-use opa_tree::{Inferences, RbError, RbFault, Rule, Rules, first_of};
+use opa_tree::{Expr, Inferences, RbError, RbFault, Rule, Rules, first_of};
 use std::alloc::Global;
 
 /// What was read of rules so far: their first fault, and else the rules; how many rules and nodes there are, or one more
@@ -32,7 +32,7 @@ pub struct Taken {
     pub nodes: u32,
 }
 
-fn first_number(lines: &[BlockLine]) -> u32
+pub fn first_number(lines: &[BlockLine]) -> u32
     ensures { result ≡ first_number_of lines.now }
 {
     match front(lines) {
@@ -72,15 +72,29 @@ fn rule_in(block: RuleBlock) -> Option<Rule>
     } = block;
     match statement {
         None => None,
-        Some(statement) => rule_of(file, line, statement),
+        Some(statement) => {
+            let Statement { attr, by_if, said } = statement;
+            rule_from_parts(file, line, attr, by_if, tree_of(said))
+        }
     }
 }
 
-fn rule_of(file: u32, line: u32, statement: Statement) -> Option<Rule>
-    ensures { listed_rule result ≡ rule_from file line statement.attr statement.said.reading.tree statement.by_if }
+pub fn tree_of(said: Said) -> Option<Expr>
+    ensures { result ≡ said.reading.tree }
 {
-    let Statement { attr, by_if, said } = statement;
-    match (attr, said.reading.tree) {
+    said.reading.tree
+}
+
+fn rule_from_parts(
+    file: u32,
+    line: u32,
+    attr: Option<AttrId>,
+    by_if: bool,
+    tree: Option<Expr>,
+) -> Option<Rule>
+    ensures { listed_rule result ≡ rule_from file line attr tree by_if }
+{
+    match (attr, tree) {
         (Some(attr), Some(expr)) => Some(Rule {
             attr,
             expr,
@@ -101,14 +115,6 @@ fn statement_nodes(statement: &Option<Statement>) -> u32
     }
 }
 
-/// So many more, or one more than the most.
-fn more_than(before: u32, more: u32, most: u32) -> u32
-    requires { most < 1_000_000 }
-    ensures { result ≡ min (before + more) (most + 1) }
-{
-    before.saturating_add(more).min(most + 1)
-}
-
 impl Taken {
     fn none(alloc: Global, nodes: u32) -> Taken
         ensures { (start : ℕ) → nodes ≡ min start (MOST_NODES_OF + 1) → IsTaken start [] result }
@@ -123,7 +129,7 @@ impl Taken {
 
     /// One more rule.
     fn take(self, alloc: Global, block: RuleBlock) -> Result<Taken, NoMemory>
-        ensures { IfOk result (λ t. Takes block self t) }
+        ensures { IfOk result (Takes block self) }
     {
         let Taken {
             first,
@@ -141,32 +147,31 @@ impl Taken {
             nodes: more_than(nodes, more, MOST_NODES),
         })
     }
-
-    /// The rules, or their first fault.
-    fn finish(self) -> Result<Rules, RbError>
-        ensures rules { IfOk result (λ rules. (self.first ≡ None) × (rules ≡ self.rules)) }
-        ensures refused { IfErr result (λ e. (fault : FaultView) → e ≡ Refused fault → self.first ≡ Some fault) }
-    {
-        let Taken { first, rules, .. } = self;
-        match first {
-            None => Ok(Rules::from_list(rules)),
-            Some(fault) => Err(RbError::Refused(fault)),
-        }
-    }
 }
 
 /// The rules with that of a block, where no fault was found.
 fn with_rule(rules: List<Rule>, is_sound: bool, block: RuleBlock) -> Result<List<Rule>, NoMemory>
     ensures { IfOk result (λ all. is_sound ≡ true → all ≡ rules ++ rule_in_block block) }
 {
-    let mut rules = rules;
     if is_sound {
-        match rule_in(block) {
-            None => {}
-            Some(rule) => rules.push(rule)?,
+        with_listed(rules, rule_in(block))
+    } else {
+        Ok(rules)
+    }
+}
+
+#[tactic(auto, using(crate::proofs::RuleLaws::nothing_more))]
+fn with_listed(rules: List<Rule>, rule: Option<Rule>) -> Result<List<Rule>, NoMemory>
+    ensures { IfOk result (λ all. all ≡ rules ++ listed_rule rule) }
+{
+    match rule {
+        None => Ok(rules),
+        Some(rule) => {
+            let mut rules = rules;
+            rules.push(rule)?;
+            Ok(rules)
         }
     }
-    Ok(rules)
 }
 
 /// Takes a block, if it is a rule.
@@ -178,16 +183,37 @@ fn take_block(
     taken: Taken,
 ) -> Result<Taken, NoMemory>
     requires { AreShort block.now.lines }
-    ensures { IfOk result (λ t. Goes model.now names.now block.now taken t) }
+    ensures { IfOk result (Goes model.now names.now block.now taken) }
 {
     match sort_of(alloc, block.lines.as_slice())? {
         BlockSort::Rule => {
             let rule = rule_block(alloc, model, names, block)?;
-            taken.take(alloc, rule)
+            let next = taken.take(alloc, rule)?;
+            Ok(next)
         }
         BlockSort::Declaration => Ok(taken),
         BlockSort::Members => Ok(taken),
     }
+}
+
+/// Takes the rules among blocks.
+fn take_blocks(
+    alloc: Global,
+    model: &Model,
+    names: &Names,
+    blocks: &[Block],
+    taken: Taken,
+) -> Result<Taken, NoMemory>
+    requires { All (λ b. AreShort b.lines) blocks.now }
+    ensures { IfOk result (TakesAll model.now names.now blocks.now taken) }
+{
+    let mut next = taken;
+    let mut rest = blocks;
+    while let Some((block, later)) = front(rest) {
+        next = take_block(alloc, model, names, block, next)?;
+        rest = later;
+    }
+    Ok(next)
 }
 
 /// The nodes of the members' trees as they are written, or one more than the most.
@@ -197,10 +223,16 @@ fn inferred_nodes(members: &[Member]) -> u32
     let mut nodes = 0;
     let mut rest = members;
     while let Some((member, later)) = front(rest) {
-        nodes = more_than(nodes, member.nodes, MOST_NODES);
+        nodes = more_nodes(nodes, member);
         rest = later;
     }
     nodes
+}
+
+fn more_nodes(before: u32, member: &Member) -> u32
+    ensures { result ≡ min (before + nodes_of member.now.expr) (MOST_NODES_OF + 1) }
+{
+    more_than(before, member.nodes, MOST_NODES)
 }
 
 /// The rules of the blocks in their order. Blocks of declarations and of members are passed over. The blocks are those of
@@ -216,11 +248,11 @@ pub fn read_rules(
     ensures refused { IfErr result (λ e. (fault : FaultView) → e ≡ Refused fault → AreRefused model.now inferences.now blocks.now fault) }
 {
     let names = names_of(alloc, model, inferences)?;
-    let mut taken = Taken::none(alloc, inferred_nodes(names.members.as_slice()));
-    let mut rest = blocks;
-    while let Some((block, later)) = front(rest) {
-        taken = take_block(alloc, model, &names, block, taken)?;
-        rest = later;
+    let none = Taken::none(alloc, inferred_nodes(names.members.as_slice()));
+    let taken = take_blocks(alloc, model, &names, blocks, none)?;
+    let Taken { first, rules, .. } = taken;
+    match first {
+        None => Ok(Rules::from_list(rules)),
+        Some(fault) => Err(RbError::Refused(fault)),
     }
-    taken.finish()
 }
