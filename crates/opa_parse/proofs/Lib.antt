@@ -7,3 +7,4 @@ pub mod FrontLaws
 pub mod BlockLaws
 pub mod NameLaws
 pub mod RuleLaws
+pub mod MemberLaws

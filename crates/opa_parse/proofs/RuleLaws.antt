@@ -1,6 +1,6 @@
 -- Rules are taken one after another.
-use Rattle.std.proofs.Common.{◌≡◌, ℕ, ◌+◌, min, List, [], ◌∷◌, ◌++◌, length, map, Bool, true, false, ◌&&◌, ◌==◌, nat_le, nat_lt, if◌then◌else◌, Option, Some, None, refl, sym, ap, ap₂, subst, ◌∙◌, append_assoc, length-append, arith}
-use Rattle.std.specs.Prelude.{is_none}
+use Rattle.std.proofs.Common.{◌≡◌, ℕ, ◌+◌, min, List, [], ◌∷◌, ◌++◌, length, map, Bool, true, false, not, ◌&&◌, ◌==◌, nat_le, nat_lt, if◌then◌else◌, Option, Some, None, refl, sym, ap, ap₂, subst, ◌∙◌, append_assoc, length-append, arith}
+use Rattle.std.specs.Prelude.{is_none, is_some}
 use Rattle.std.proofs.lemmas.List.{append-nil}
 use Rattle.opa_model.specs.declared.lists.Lists.{Lists}
 use Rattle.opa_layout.specs.declared.block.Block.{Block}
@@ -184,3 +184,9 @@ nothing_more rules = append-nil rules
 -- the first of four lists of faults
 pub of_four : (a b c d : List RbFault) → first_of (first_of (first_fault a) (first_fault b)) (first_of (first_fault c) (first_fault d)) ≡ first_fault ((a ++ b) ++ (c ++ d))
 of_four a b c d = ap₂ first_of (sym (first_fault-append a b)) (sym (first_fault-append c d)) ∙ sym (first_fault-append (a ++ b) (c ++ d))
+
+pub none_test : {X : Type 0} (o : Option X) (b : Bool) → is_some o ≡ not b → b ≡ is_none o
+none_test None true e = refl
+none_test None false e = absurd (cc e)
+none_test (Some y) true e = absurd (cc e)
+none_test (Some y) false e = refl

@@ -8,12 +8,14 @@ mod faults;
 mod group;
 mod line;
 mod lines;
+mod members;
 mod names;
 mod openings;
 mod reader;
 mod rules;
 mod sayings;
 mod table;
+mod texts;
 mod words;
 
 pub use block::{
@@ -22,7 +24,9 @@ pub use block::{
 pub use group::{Cases, Frame, Front, Group, Items, Joint, Mark, Said, Several, Sort};
 pub use line::{Ending, Head, Line};
 pub use lines::Lines;
+pub use members::{Gathered, read_inferences};
 pub use names::names_of;
 pub use reader::read;
 pub use rules::{Taken, read_rules};
 pub use table::Step;
+pub use texts::Texts;

@@ -128,6 +128,7 @@ fn member_fault(alloc: Global, is_taken: bool, nodes: u32, block: &MemberBlock) 
 
 impl Texts {
     /// Takes the phrase of a membership block, and answers whether it was taken before.
+    #[tactic(auto, using(crate::proofs::MemberLaws::same_steps))]
     fn take(
         &mut self,
         alloc: Global,
@@ -142,6 +143,7 @@ impl Texts {
         }
     }
 
+    #[tactic(auto, using(crate::proofs::MemberLaws::same_steps))]
     fn add_all(&mut self, alloc: Global, texts: &[Txt]) -> Result<(), NoMemory>
         ensures { OnOk result (AreSame self.new (self.old ++ texts.now)) }
     {
@@ -155,6 +157,7 @@ impl Texts {
 }
 
 /// The texts that no inferred relation may have as its phrase.
+#[tactic(auto, using(crate::proofs::MemberLaws::same_steps))]
 fn declared_texts(alloc: Global, model: &Model) -> Result<Texts, NoMemory>
     ensures { IfOk result (λ texts. AreSame texts (declared_texts_of model.now)) }
 {

@@ -1,4 +1,4 @@
-use Rattle.std.proofs.Common.{◌≡◌, map, ap, sym, ◌∙◌, ◌+◌, min, refl, Some, None}
+use Rattle.std.proofs.Common.{◌≡◌, ℕ, List, map, ap, sym, ◌∙◌, ◌+◌, min, refl, Some, None}
 use Rattle.opa_tree.specs.declared.faults.RbFault.{RbFault}
 use Rattle.opa_tree.specs.declared.faults.RbError.TheVariants as errors
 use Rattle.opa_sentence.specs.declared.measure.TheConstants.{MOST_NODES}
@@ -11,20 +11,16 @@ use Rattle.opa_parse.proofs.rules.read_rules.Goals as goal
 
 pub returns-in-None : goal.returns-in-None
 returns-in-None c =
-    let count : (List Member → ℕ) = λ ms. total (map (λ (x : Member). nodes x.expr) ms) in
+    let count : List Member → ℕ = λ ms. total (map (λ (x : Member). nodes x.expr) ms) in
     let e = c.inferred_nodes.ensures ∙ ap (λ ms. min (count ms) (MOST_NODES + 1)) (c.as_slice.ensures ∙ ap (λ (n : Names). n.members) c.in_ok-names.ensures) ∙ ap (λ k. min k (MOST_NODES + 1)) (members_nodes c.args.inferences.now) in
     record {
       rules = rules_read c.args.model.now c.args.inferences.now c.args.blocks.now c.in_ok-names.names c.none-none.result c.in_ok-taken.taken _ c.in_ok-names.ensures (c.none-none.ensures (inferred_nodes c.args.inferences.now) e) c.in_ok-taken.ensures c.in-None.is c.from_list.ensures;
       refused = tt;
     }
 
-pub returns-in-Some : goal.returns-in-Some
-returns-in-Some c =
-    let count : (List Member → ℕ) = λ ms. total (map (λ (x : Member). nodes x.expr) ms) in
+pub returns-clause-refused : goal.returns-clause-refused
+returns-clause-refused c fault same =
+    let count : List Member → ℕ = λ ms. total (map (λ (x : Member). nodes x.expr) ms) in
     let e = c.inferred_nodes.ensures ∙ ap (λ ms. min (count ms) (MOST_NODES + 1)) (c.as_slice.ensures ∙ ap (λ (n : Names). n.members) c.in_ok-names.ensures) ∙ ap (λ k. min k (MOST_NODES + 1)) (members_nodes c.args.inferences.now) in
-    record {
-      rules = tt;
-      refused = λ fault same.
-          let f : c.in-Some.fault ≡ fault = cc same in
-          rules_refused c.args.model.now c.args.inferences.now c.args.blocks.now c.in_ok-names.names c.none-none.result c.in_ok-taken.taken fault c.in_ok-names.ensures (c.none-none.ensures (inferred_nodes c.args.inferences.now) e) c.in_ok-taken.ensures (c.in-Some.is ∙ ap (λ (x : RbFault). Some x) f);
-    }
+    let f : c.in-Some.fault ≡ fault = cc same in
+    rules_refused c.args.model.now c.args.inferences.now c.args.blocks.now c.in_ok-names.names c.none-none.result c.in_ok-taken.taken fault c.in_ok-names.ensures (c.none-none.ensures (inferred_nodes c.args.inferences.now) e) c.in_ok-taken.ensures (c.in-Some.is ∙ ap (λ (x : RbFault). Some x) f)

@@ -1,0 +1,20 @@
+use Rattle.std.proofs.Common.{◌≡◌, ap, sym, ◌∙◌, Some, None, refl}
+use Rattle.opa_tree.specs.declared.faults.RbFault.{RbFault}
+use Rattle.opa_parse.specs.Naming.{names_in}
+use Rattle.opa_parse.specs.Memberships.{declared_texts}
+use Rattle.opa_parse.proofs.MemberLaws.{inferences_read, inferences_refused}
+use Rattle.opa_parse.proofs.members.read_inferences.Goals as goal
+
+pub returns-in-None : goal.returns-in-None
+returns-in-None c =
+    let ns = c.in_ok-names.ensures ∙ ap (names_in c.args.model.now) c.new-inferred.ensures in
+    record {
+      inferences = inferences_read c.args.model.now c.args.blocks.now c.in_ok-names.names c.none-none.result c.in_ok-gathered.gathered _ ns (c.none-none.ensures (declared_texts c.args.model.now) c.in_ok-texts.ensures) c.in_ok-gathered.ensures c.in-None.is refl;
+      refused = tt;
+    }
+
+pub returns-clause-refused : goal.returns-clause-refused
+returns-clause-refused c fault same =
+    let ns = c.in_ok-names.ensures ∙ ap (names_in c.args.model.now) c.new-inferred.ensures in
+    let f : c.in-Some.fault ≡ fault = cc same in
+    inferences_refused c.args.model.now c.args.blocks.now c.in_ok-names.names c.none-none.result c.in_ok-gathered.gathered fault ns (c.none-none.ensures (declared_texts c.args.model.now) c.in_ok-texts.ensures) c.in_ok-gathered.ensures (c.in-Some.is ∙ ap (λ (x : RbFault). Some x) f)
