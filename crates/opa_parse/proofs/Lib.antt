@@ -8,3 +8,7 @@ pub mod BlockLaws
 pub mod NameLaws
 pub mod RuleLaws
 pub mod MemberLaws
+pub mod LineForms
+pub mod GroupForms
+pub mod Handing
+pub mod LawsHold

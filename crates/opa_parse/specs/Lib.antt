@@ -15,3 +15,5 @@ pub mod Runs
 pub mod MemberFaults
 pub mod Memberships
 pub mod MemberRuns
+pub mod Handed
+pub mod Laws

@@ -6,6 +6,7 @@ mod blocks;
 mod cut;
 mod faults;
 mod group;
+mod laws;
 mod line;
 mod lines;
 mod members;
@@ -22,6 +23,7 @@ pub use block::{
     BlockSort, MOST_PHRASE, MOST_RULES, MemberBlock, Membership, Opening, RuleBlock, Statement,
 };
 pub use group::{Cases, Frame, Front, Group, Items, Joint, Mark, Said, Several, Sort};
+pub use laws::one_rule;
 pub use line::{Ending, Head, Line};
 pub use lines::Lines;
 pub use members::{Gathered, read_inferences};

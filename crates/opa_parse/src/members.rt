@@ -5,6 +5,7 @@ ghost use Rattle.opa_tree.specs.declared.faults.RbFault.{RbFault as FaultView};
 ghost use Rattle.opa_tree.specs.FirstFaults.{first_fault};
 ghost use Rattle.opa_parse.specs.Blocks.{IsMembership};
 ghost use Rattle.opa_parse.specs.Fronts.{AreShort};
+ghost use Rattle.opa_parse.specs.Handed.{AreFormed, AreFlat};
 ghost use Rattle.opa_parse.specs.MemberFaults.{is_taken_by, phrase_by, membership_nodes as membership_nodes_of, membership_faults, block_faults};
 ghost use Rattle.opa_parse.specs.Memberships.{listed_inferred, inferred_from, inferred_by, declared_texts as declared_texts_of, AreInferences, AreRefused};
 ghost use Rattle.opa_parse.specs.MemberRuns.{AreSame, IsGathered, Gathers, Goes, GathersAll};
@@ -288,6 +289,9 @@ pub fn read_inferences(
     requires short { All (λ b. AreShort b.lines) blocks.now }
     ensures inferences { IfOk result (AreInferences model.now blocks.now) }
     ensures refused { IfErr result (λ e. (fault : FaultView) → e ≡ Refused fault → AreRefused model.now blocks.now fault) }
+    // What `read_rules` asks of them, to hand on the same of rules.
+    ensures formed { IfOk result AreFormed }
+    ensures shallow { IfOk result AreFlat }
 {
     let inferred = List::new(alloc);
     let names = names_of(alloc, model, &inferred)?;

@@ -1,9 +1,11 @@
 // Rules are read block by block.
-ghost use Rattle.std.specs.Prelude.{ℕ, ◌≡◌, ◌+◌, ◌++◌, min, map, true, [], All, IfOk, IfErr};
+ghost use Rattle.std.specs.Prelude.{ℕ, ◌≡◌, ◌+◌, ◌++◌, ◌≤◌, length, min, map, true, [], All, IfOk, IfErr};
 ghost use Rattle.opa_tree.specs.declared.faults.RbError.TheVariants.{Refused};
 ghost use Rattle.opa_tree.specs.declared.faults.RbFault.{RbFault as FaultView};
 ghost use Rattle.opa_sentence.specs.declared.measure.TheConstants.{MOST_NODES as MOST_NODES_OF};
+ghost use Rattle.opa_tree.specs.Accepted.{HaveForm, AreShallow};
 ghost use Rattle.opa_parse.specs.Fronts.{AreShort};
+ghost use Rattle.opa_parse.specs.Handed.{AreFormed, AreDeclared, AreFiledAs};
 ghost use Rattle.opa_parse.specs.RuleFaults.{statement_nodes as statement_nodes_of};
 ghost use Rattle.opa_sentence.specs.Measures.{total, nodes as nodes_of};
 ghost use Rattle.opa_parse.specs.Blocks.{IsStatement};
@@ -246,6 +248,12 @@ pub fn read_rules(
     requires short { All (λ b. AreShort b.lines) blocks.now }
     ensures rules { IfOk result (AreRules model.now inferences.now blocks.now) }
     ensures refused { IfErr result (λ e. (fault : FaultView) → e ≡ Refused fault → AreRefused model.now inferences.now blocks.now fault) }
+    // What is asked of rules that are checked, and of a rulebase.
+    ensures formed { IfOk result (λ rules. AreFormed inferences.now → HaveForm rules) }
+    ensures shallow { IfOk result (λ rules. AreFormed inferences.now → AreShallow rules) }
+    ensures declared { IfOk result (AreDeclared model.now) }
+    ensures filed { IfOk result (AreFiledAs blocks.now) }
+    ensures few { IfOk result (λ rules. length rules ≤ 4000) }
 {
     let names = names_of(alloc, model, inferences)?;
     let none = Taken::none(alloc, inferred_nodes(names.members.as_slice()));
