@@ -1,5 +1,6 @@
 -- What is handed on of the rules and of the inferred relations that are read.
-use Rattle.std.proofs.Common.{◌≡◌, ℕ, zero, suc, ◌+◌, ◌≤◌, ◌<◌, List, [], ◌∷◌, ◌++◌, length, map, Bool, true, false, ◌==◌, if◌then◌else◌, Option, Some, None, option_map, slice_get, position, All, IsTrue, refl, sym, ap, subst, ◌∙◌, length-append, length-map, arith}
+use Rattle.std.proofs.Common.{◌≡◌, ℕ, zero, suc, ◌+◌, ◌≤◌, ◌<◌, List, [], ◌∷◌, ◌++◌, length, map, Bool, true, false, ◌==◌, if◌then◌else◌, Option, Some, None, option_map, slice_get, position, All, IsTrue, refl, sym, ap, subst, ◌∙◌, length-append, arith}
+use Rattle.std.proofs.lemmas.List.{length-map}
 use Rattle.std.proofs.lemmas.List.Elements.{All-nil, All-cons, All-head, All-tail}
 use Rattle.std.proofs.lemmas.List.Quantifiers.{position-Some}
 use Rattle.std.specs.Str.{bytes_eq}
@@ -57,12 +58,10 @@ use Rattle.opa_parse.proofs.GroupForms.{Sound, SoundTop, SoundSaid, at_top, Line
 -- ---- tests, and what holds of each
 
 is_true : (t : Bool) → t ≡ true → IsTrue t
-is_true true e = tt
-is_true false e = absurd (cc e)
+is_true t e = e
 
 true_is : (t : Bool) → IsTrue t → t ≡ true
-true_is true h = refl
-true_is false h = absurd h
+true_is t h = h
 
 module _ {X : Type 0} (P : X → Type 0) where
   abbrev Each : List X → Type 0

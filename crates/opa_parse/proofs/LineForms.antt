@@ -1,5 +1,6 @@
 -- The tree that a line says has the form of a part, and isn't too deep.
-use Rattle.std.proofs.Common.{◌≡◌, ℕ, zero, suc, drop, ℤ, pos, negsuc, ◌+◌, ◌-◌, ◌/◌, ◌%◌, ◌==◌, ◌<◌, ◌≤◌, min, max, nat_le, nat_lt, List, [], ◌∷◌, ◌++◌, length, map, Bool, true, false, ◌&&◌, cond, if◌then◌else◌, Option, Some, None, slice_get, option_map, refl, sym, ap, subst, ◌∙◌, eq-eqb, length-map, arith}
+use Rattle.std.proofs.Common.{◌≡◌, ℕ, zero, suc, drop, ℤ, pos, negsuc, ◌+◌, ◌-◌, ◌/◌, ◌%◌, ◌==◌, ◌<◌, ◌≤◌, min, max, nat_le, nat_lt, List, [], ◌∷◌, ◌++◌, length, map, Bool, true, false, ◌&&◌, cond, if◌then◌else◌, Option, Some, None, slice_get, option_map, refl, sym, ap, subst, ◌∙◌, eq-eqb, arith}
+use Rattle.std.proofs.lemmas.List.{length-map}
 use Rattle.opa_value.specs.declared.value.Value.{Value}
 use Rattle.opa_value.specs.declared.value.Value.TheVariants as value
 use Rattle.opa_model.specs.declared.ids.AttrId.{AttrId}
@@ -421,7 +422,7 @@ real_drop zero ts h = h
 real_drop (suc n) [] h = h
 real_drop (suc n) (t ∷ ts) h = real_drop n ts h.1
 
-real_past : (ts : List Lexeme) → AreReal ts → AreReal (past_words ts)
+pub real_past : (ts : List Lexeme) → AreReal ts → AreReal (past_words ts)
 real_past [] h = h
 real_past (t ∷ ts) h = at (is_wordlike t.class) (real_past ts h.1)
   where
