@@ -73,6 +73,7 @@ formed_last (x ∷ es) e h k = both (has_form x false) (formed (es ++ e ∷ []))
     left : (a b : Bool) → (a && b) ≡ true → a ≡ true
     left true b p = refl
     left false b p = absurd (cc p)
+
     right : (a b : Bool) → (a && b) ≡ true → b ≡ true
     right true b p = p
     right false b p = absurd (cc p)

@@ -150,9 +150,9 @@ gathers b t u n declared found h =
       first_is =
           n.first_is ∙ ap (λ x. first_of x (first_fault (block_faults (is_taken_by t.texts b.membership) t.nodes b))) h.first_is
           ∙ ap (λ x. first_of (first_fault (faults_from declared 0 found)) (first_fault x))
-            (ap (λ y. block_faults y t.nodes b) (taken_by_same t.texts texts b.membership h.texts_are) ∙ ap (λ k. block_faults (is_taken_by texts b.membership) k b) h.nodes_are
-            ∙ spelled_same (is_taken_by texts b.membership) (nodes_in found) b.file b.line b.membership
-            ∙ ap (λ k. block_faults (is_taken_by texts b.membership) k b) (let e : nodes_in found ≡ 0 + nodes_in found = omega arith in e))
+          (ap (λ y. block_faults y t.nodes b) (taken_by_same t.texts texts b.membership h.texts_are) ∙ ap (λ k. block_faults (is_taken_by texts b.membership) k b) h.nodes_are
+          ∙ spelled_same (is_taken_by texts b.membership) (nodes_in found) b.file b.line b.membership
+          ∙ ap (λ k. block_faults (is_taken_by texts b.membership) k b) (let e : nodes_in found ≡ 0 + nodes_in found = omega arith in e))
           ∙ sym (first_fault-append (faults_from declared 0 found) (fault_by texts (0 + nodes_in found) b))
           ∙ ap first_fault (sym (faults_append declared 0 found b));
       inferences_are = λ e.

@@ -113,8 +113,8 @@ takes b t u n start found h = record {
   first_is =
       n.first_is ∙ ap (λ x. first_of x (first_fault (block_faults t.count t.nodes b))) h.first_is
       ∙ ap (λ x. first_of (first_fault (faults_from 0 start found)) (first_fault x))
-        (ap (λ c. block_faults c t.nodes b) h.count_is ∙ ap (λ k. block_faults (min (length found) (MOST_RULES + 1)) k b) h.nodes_are ∙ block_same (length found) (start + nodes_in found) b
-        ∙ ap (λ c. block_faults c (start + nodes_in found) b) (let e : length found ≡ 0 + length found = omega arith in e))
+      (ap (λ c. block_faults c t.nodes b) h.count_is ∙ ap (λ k. block_faults (min (length found) (MOST_RULES + 1)) k b) h.nodes_are ∙ block_same (length found) (start + nodes_in found) b
+      ∙ ap (λ c. block_faults c (start + nodes_in found) b) (let e : length found ≡ 0 + length found = omega arith in e))
       ∙ sym (first_fault-append (faults_from 0 start found) (block_faults (0 + length found) (start + nodes_in found) b))
       ∙ ap first_fault (sym (faults_append 0 start found b));
   rules_are = λ e.

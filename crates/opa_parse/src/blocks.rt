@@ -171,7 +171,11 @@ fn declared_every(model: &Model, rel: RelId) -> Option<RelId>
     ensures { result ≡ if_every rel (relation_at model.now rel) }
 {
     if rel.0 < model.relation_count() {
-        if model.relation(rel).every { Some(rel) } else { None }
+        if model.relation(rel).every {
+            Some(rel)
+        } else {
+            None
+        }
     } else {
         None
     }

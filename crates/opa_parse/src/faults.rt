@@ -72,12 +72,7 @@ fn passes(most: u32, before: u32, more: u32) -> bool
 
 /// A depth or nodes over their number, where so many nodes stand before.
 #[tactic(auto, using(opa_tree::proofs::FirstFaultLaws::first_faults))]
-pub fn size_fault(
-    alloc: Global,
-    before: u32,
-    place: Place,
-    reading: &Reading,
-) -> Option<RbFault>
+pub fn size_fault(alloc: Global, before: u32, place: Place, reading: &Reading) -> Option<RbFault>
     ensures { result ≡ first_fault (size_faults before place.file place.line reading.now) }
 {
     let is_deep = reading.measure.depth > MOST_DEPTH;

@@ -32,3 +32,6 @@ pub use reader::read;
 pub use rules::{Taken, read_rules};
 pub use table::Step;
 pub use texts::Texts;
+
+#[cfg(test)]
+mod tests;

@@ -66,7 +66,13 @@ impl Lines {
     {
         match self.backward.as_slice() {
             [] => None,
-            [.., line] => { if line.level > level { Some(level + 1) } else { None } }
+            [.., line] => {
+                if line.level > level {
+                    Some(level + 1)
+                } else {
+                    None
+                }
+            }
         }
     }
 

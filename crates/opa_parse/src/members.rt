@@ -110,7 +110,10 @@ fn membership_fault(
     let unnamed = when(alloc, membership.every.is_none(), place, RbKind::Name);
     let marks = marked(alloc, place.file, membership.said.marks.as_slice());
     let twice = when(alloc, is_taken, place, RbKind::Twice);
-    first_of(first_of(long, size), first_of(first_of(unnamed, marks), twice))
+    first_of(
+        first_of(long, size),
+        first_of(first_of(unnamed, marks), twice),
+    )
 }
 
 /// The first fault of a membership block, whose phrase is taken or isn't, where so many nodes stand before.
@@ -130,11 +133,7 @@ fn member_fault(alloc: Global, is_taken: bool, nodes: u32, block: &MemberBlock) 
 impl Texts {
     /// Takes the phrase of a membership block, and answers whether it was taken before.
     #[tactic(auto, using(crate::proofs::MemberLaws::same_steps))]
-    fn take(
-        &mut self,
-        alloc: Global,
-        membership: &Option<Membership>,
-    ) -> Result<bool, NoMemory>
+    fn take(&mut self, alloc: Global, membership: &Option<Membership>) -> Result<bool, NoMemory>
         ensures taken { IfOk result (λ taken. taken ≡ is_taken_by self.old membership.now) }
         ensures texts { OnOk result (AreSame self.new (self.old ++ phrase_by membership.now)) }
     {
@@ -299,7 +298,9 @@ pub fn read_inferences(
     let none = Gathered::none(alloc, texts);
     let gathered = gather_blocks(alloc, model, &names, blocks, none)?;
     let Gathered {
-        first, inferences, ..
+        first,
+        inferences,
+        ..
     } = gathered;
     match first {
         None => Ok(inferences),

@@ -32,7 +32,8 @@ impl Operands {
         ensures texts { OnOk result (self.new.texts ≡ self.old.texts ++ texts_of model.now attribute.now) }
         ensures meanings { OnOk result (self.new.meanings ≡ self.old.meanings ++ (operand_of attr.0 false ∷ map (λ t. operand_of attr.0 true) (denials model.now attribute.now))) }
     {
-        self.texts.push(Txt::from_str(alloc, attribute.phrase.as_str())?)?;
+        self.texts
+            .push(Txt::from_str(alloc, attribute.phrase.as_str())?)?;
         self.meanings.push(Operand {
             attr,
             denied: false,
@@ -40,7 +41,8 @@ impl Operands {
         match &attribute.sentence {
             None => Ok(()),
             Some(sentence) => {
-                self.texts.push(say(alloc, model, sentence, Form::Negative)?)?;
+                self.texts
+                    .push(say(alloc, model, sentence, Form::Negative)?)?;
                 self.meanings.push(Operand { attr, denied: true })?;
                 Ok(())
             }
@@ -148,11 +150,7 @@ fn phrases_of(alloc: Global, texts: &List<Txt>) -> Result<Phrases, NoMemory>
 
 /// The phrases of attributes and what denies them, and the phrases of relations, the inferred ones last, each with what it
 /// stands for.
-pub fn names_of(
-    alloc: Global,
-    model: &Model,
-    inferences: &Inferences,
-) -> Result<Names, NoMemory>
+pub fn names_of(alloc: Global, model: &Model, inferences: &Inferences) -> Result<Names, NoMemory>
     ensures { IfOk result (λ names. names ≡ names_in model.now inferences.now) }
 {
     if inferences.len() >= 4_294_967_296 {

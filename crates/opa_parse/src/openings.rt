@@ -95,11 +95,7 @@ fn first_words(words: Cursor<'_>, count: usize) -> Cursor<'_>
 }
 
 /// The attribute whose phrase these words are.
-fn concluded(
-    alloc: Global,
-    model: &Model,
-    words: Cursor<'_>,
-) -> Result<Option<AttrId>, NoMemory>
+fn concluded(alloc: Global, model: &Model, words: Cursor<'_>) -> Result<Option<AttrId>, NoMemory>
     ensures { IfOk result (λ attr. attr ≡ concluded_of model.now (seen words.entry)) }
 {
     let phrase = phrase_text(alloc, words.text, words.tokens)?;

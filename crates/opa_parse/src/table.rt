@@ -69,13 +69,7 @@ fn go_on(level: u32, front: Option<Front>, lines: Lines) -> Step
 
 impl Items {
     /// With an item and its connector.
-    fn joined(
-        self,
-        alloc: Global,
-        item: Said,
-        joint: Joint,
-        lines: Lines,
-    ) -> Result<Step, NoMemory>
+    fn joined(self, alloc: Global, item: Said, joint: Joint, lines: Lines) -> Result<Step, NoMemory>
         ensures { IfOk result (λ m. move_of m ≡ go_on_of self.level (extended_of self.front item joint) lines) }
     {
         let Items { level, front } = self;

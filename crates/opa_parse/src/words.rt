@@ -122,7 +122,13 @@ pub fn relation_of(names: &Names, words: Cursor<'_>) -> Option<Relation>
 {
     match relation_at(names, words) {
         None => None,
-        Some((relation, rest)) => { if is_none_left(rest) { Some(relation) } else { None } }
+        Some((relation, rest)) => {
+            if is_none_left(rest) {
+                Some(relation)
+            } else {
+                None
+            }
+        }
     }
 }
 

@@ -21,6 +21,6 @@ pub returns-in-Some-2 : goal.returns-in-Some-2
 returns-in-Some-2 c =
     subst (λ e. SpellsMembers c.args.model.now c.args.names.now (c.args.first.now ∷ c.args.rest.now) (let s : Membership = record { phrase = c.in-Some.phrase; every = e; said = c.in-Some-2.said } in s)) (sym c.every_of.ensures)
     (membership_said c.args.model.now c.args.names.now c.args.first.now c.args.rest.now c.args.tokens.now c.requires.level c.requires.cut (c.in-Some.phrase, c.in-Some.relation) c.in-Some-2.said
-        (sym (c.in_ok-heading.ensures ∙ ap (λ t. heading c.args.names.now t c.args.tokens.now) c.as_str.ensures) ∙ c.in-Some.is)
-        (subst (λ s. IsSaid c.args.names.now s c.args.rest.now (Some c.in-Some-2.said)) c.below_first.ensures
-        (subst (λ o. IsSaid c.args.names.now c.below_first.result c.args.rest.now o) c.in-Some-2.is c.in_ok-said_below-in-Some.ensures)))
+    (sym (c.in_ok-heading.ensures ∙ ap (λ t. heading c.args.names.now t c.args.tokens.now) c.as_str.ensures) ∙ c.in-Some.is)
+    (subst (λ s. IsSaid c.args.names.now s c.args.rest.now (Some c.in-Some-2.said)) c.below_first.ensures
+    (subst (λ o. IsSaid c.args.names.now c.below_first.result c.args.rest.now o) c.in-Some-2.is c.in_ok-said_below-in-Some.ensures)))

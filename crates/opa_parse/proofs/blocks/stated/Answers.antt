@@ -12,7 +12,7 @@ pub returns-in_ok-said-in-If : goal.returns-in_ok-said-in-If
 returns-in_ok-said-in-If c =
     subst (IsStatement c.args.model.now c.args.names.now (c.args.first.now ∷ c.args.rest.now)) (sym c.statement.ensures)
     (if_stated c.args.model.now c.args.names.now c.args.first.now c.args.rest.now (seen c.args.words) c.requires.level c.requires.cut c.in-If.attr (sym c.in_ok-opening.ensures ∙ c.in-If.is) c.in_ok-said-in-If.said
-        (subst (λ s. IsSaid c.args.names.now s c.args.rest.now c.in_ok-said-in-If.said) c.below_first.ensures c.in_ok-said-in-If.ensures))
+    (subst (λ s. IsSaid c.args.names.now s c.args.rest.now c.in_ok-said-in-If.said) c.below_first.ensures c.in_ok-said-in-If.ensures))
 
 pub returns-in_ok-said-in-Is : goal.returns-in_ok-said-in-Is
 returns-in_ok-said-in-Is c =

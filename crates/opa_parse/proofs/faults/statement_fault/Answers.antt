@@ -14,5 +14,5 @@ returns c =
     let s = c.args.statement.now in
     c.first_of-3.ensures
     ∙ ap₂ first_of (c.first_of.ensures ∙ ap₂ first_of c.when-over.ensures c.size_fault-size.ensures)
-      (c.first_of-2.ensures ∙ ap₂ first_of (c.when-unnamed.ensures ∙ ap (λ t. first_fault (when t (fault_at file line kind.Name))) (none_test s.attr c.is_none.result c.is_none.ensures)) (c.marked-marks.ensures ∙ ap (λ ms. first_fault (marked file ms)) c.as_slice.ensures))
+    (c.first_of-2.ensures ∙ ap₂ first_of (c.when-unnamed.ensures ∙ ap (λ t. first_fault (when t (fault_at file line kind.Name))) (none_test s.attr c.is_none.result c.is_none.ensures)) (c.marked-marks.ensures ∙ ap (λ ms. first_fault (marked file ms)) c.as_slice.ensures))
     ∙ of_four (when (c.args.rules == MOST_RULES) (fault_at file line kind.Limit)) (size_faults c.args.nodes file line s.said.reading) (when (is_none s.attr) (fault_at file line kind.Name)) (marked file s.said.marks)

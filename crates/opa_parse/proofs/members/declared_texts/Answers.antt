@@ -11,4 +11,4 @@ returns c t =
     let second = c.as_slice-2.result.now in
     c.in_ok-add_all-2.ensures t ∙ same_more c.add_all.new.self (none ++ first) second c.in_ok-add_all.ensures t
     ∙ ap (λ ys. is_taken ys t)
-      (ap (λ y. (y ++ first) ++ second) c.new-texts.ensures ∙ ap (λ y. y ++ second) (c.as_slice.ensures ∙ c.in_ok-operands.ensures.texts) ∙ ap (λ y. operand_phrases c.args.model.now ++ y) (c.as_slice-2.ensures ∙ c.in_ok-relations.ensures.texts))
+    (ap (λ y. (y ++ first) ++ second) c.new-texts.ensures ∙ ap (λ y. y ++ second) (c.as_slice.ensures ∙ c.in_ok-operands.ensures.texts) ∙ ap (λ y. operand_phrases c.args.model.now ++ y) (c.as_slice-2.ensures ∙ c.in_ok-relations.ensures.texts))
