@@ -1,0 +1,15 @@
+pub mod Shrinks
+pub mod WordLaws
+pub mod GroupsRead
+pub mod GroupsMeant
+pub mod CutOnce
+pub mod FrontLaws
+pub mod BlockLaws
+pub mod NameLaws
+pub mod RuleLaws
+pub mod MemberLaws
+pub mod LineForms
+pub mod GroupForms
+pub mod Handing
+pub mod LawsHold
+pub mod ShortLaws

@@ -1,0 +1,33 @@
+use Rattle.std.proofs.Common.{◌≡◌, ℕ, List, map, ap, sym, ◌∙◌, ◌+◌, min, refl, Some, None}
+use Rattle.opa_tree.specs.declared.faults.RbFault.{RbFault}
+use Rattle.opa_tree.specs.declared.faults.RbError.TheVariants as errors
+use Rattle.opa_sentence.specs.declared.measure.TheConstants.{MOST_NODES}
+use Rattle.opa_sentence.specs.declared.names.Member.{Member}
+use Rattle.opa_sentence.specs.declared.names.Names.{Names}
+use Rattle.opa_sentence.specs.Measures.{nodes, total}
+use Rattle.opa_parse.specs.Rules.{inferred_nodes}
+use Rattle.opa_parse.proofs.Handing.{formed_hold, shallow_hold, declared_hold, filed_hold, few_hold}
+use Rattle.opa_parse.proofs.RuleLaws.{rules_read, rules_refused, members_nodes}
+use Rattle.opa_parse.proofs.rules.read_rules.Goals as goal
+
+pub returns-in-None : goal.returns-in-None
+returns-in-None c =
+    let count : List Member → ℕ = λ ms. total (map (λ (x : Member). nodes x.expr) ms) in
+    let e = c.inferred_nodes.ensures ∙ ap (λ ms. min (count ms) (MOST_NODES + 1)) (c.as_slice.ensures ∙ ap (λ (n : Names). n.members) c.in_ok-names.ensures) ∙ ap (λ k. min k (MOST_NODES + 1)) (members_nodes c.args.inferences.now) in
+    let all = rules_read c.args.model.now c.args.inferences.now c.args.blocks.now c.in_ok-names.names c.none-none.result c.in_ok-taken.taken c.from_list.result c.in_ok-names.ensures (c.none-none.ensures (inferred_nodes c.args.inferences.now) e) c.in_ok-taken.ensures c.in-None.is c.from_list.ensures in
+    record {
+      rules = all;
+      refused = tt;
+      formed = formed_hold c.args.model.now c.args.inferences.now c.args.blocks.now c.from_list.result all;
+      shallow = shallow_hold c.args.model.now c.args.inferences.now c.args.blocks.now c.from_list.result all;
+      declared = declared_hold c.args.model.now c.args.inferences.now c.args.blocks.now c.from_list.result all;
+      filed = filed_hold c.args.model.now c.args.inferences.now c.args.blocks.now c.from_list.result all;
+      few = few_hold c.args.model.now c.args.inferences.now c.args.blocks.now c.from_list.result all;
+    }
+
+pub returns-clause-refused : goal.returns-clause-refused
+returns-clause-refused c fault same =
+    let count : List Member → ℕ = λ ms. total (map (λ (x : Member). nodes x.expr) ms) in
+    let e = c.inferred_nodes.ensures ∙ ap (λ ms. min (count ms) (MOST_NODES + 1)) (c.as_slice.ensures ∙ ap (λ (n : Names). n.members) c.in_ok-names.ensures) ∙ ap (λ k. min k (MOST_NODES + 1)) (members_nodes c.args.inferences.now) in
+    let f : c.in-Some.fault ≡ fault = cc same in
+    rules_refused c.args.model.now c.args.inferences.now c.args.blocks.now c.in_ok-names.names c.none-none.result c.in_ok-taken.taken fault c.in_ok-names.ensures (c.none-none.ensures (inferred_nodes c.args.inferences.now) e) c.in_ok-taken.ensures (c.in-Some.is ∙ ap (λ (x : RbFault). Some x) f)

@@ -1,0 +1,37 @@
+//! Rules and membership blocks: what a model's phrases stand for, and how the blocks of rule files are read.
+#![tactic(auto)]
+
+mod block;
+mod blocks;
+mod cut;
+mod faults;
+mod group;
+mod laws;
+mod line;
+mod lines;
+mod members;
+mod names;
+mod openings;
+mod reader;
+mod rules;
+mod sayings;
+mod table;
+mod texts;
+mod words;
+
+pub use block::{
+    BlockSort, MOST_PHRASE, MOST_RULES, MemberBlock, Membership, Opening, RuleBlock, Statement,
+};
+pub use group::{Cases, Frame, Front, Group, Items, Joint, Mark, Said, Several, Sort};
+pub use laws::one_rule;
+pub use line::{Ending, Head, Line};
+pub use lines::Lines;
+pub use members::{Gathered, read_inferences};
+pub use names::names_of;
+pub use reader::read;
+pub use rules::{Taken, read_rules};
+pub use table::Step;
+pub use texts::Texts;
+
+#[cfg(test)]
+mod tests;
