@@ -3,7 +3,7 @@ ghost use Rattle.std.specs.Prelude.{◌≡◌, ◌<◌, ◌^◌, All, IfOk, leng
 ghost use Rattle.opa_model.specs.Samples.{IsGlobalBool};
 ghost use Rattle.opa_parse.specs.Fronts.{AreShort};
 
-use crate::blocks::{membership_of, statement_of};
+use crate::blocks::statement_of;
 use crate::*;
 use opa_io::{List, NoMemory, Txt};
 use opa_layout::{Block, LayoutFault, blocks};
@@ -597,45 +597,4 @@ const INFERRED: [(&str, &str); 11] = [
 #[test]
 fn inferred_relations(rt: HostRuntime) -> Result<(), Fail> {
     check_inferred(&rt, rt.alloc(), INFERRED.as_slice())
-}
-
-fn membership_text(alloc: Global, membership: &Membership) -> Result<String, Fail> {
-    let mut out = String::from_str(alloc, membership.phrase.as_str())?;
-    put(
-        &mut out,
-        if membership.every.is_none() {
-            ": "
-        } else {
-            " every: "
-        },
-    )?;
-    put_tree(alloc, &mut out, &membership.said.reading.tree)?;
-    put_marks(alloc, &mut out, membership.said.marks.as_slice())?;
-    Ok(out)
-}
-
-fn first_membership(
-    alloc: Global,
-    model: &Model,
-    names: &Names,
-    laid: &[Block],
-) -> Result<Option<Membership>, NoMemory>
-    requires { All (λ b. AreShort b.lines) laid.now }
-{
-    match opa_io::front(laid) {
-        None => Ok(None),
-        Some((block, _)) => membership_of(alloc, model, names, block.lines.as_slice()),
-    }
-}
-
-#[test]
-fn a_membership_block(rt: HostRuntime) -> Result<(), Fail> {
-    let model = small_model(rt.alloc())?;
-    let names = names(rt.alloc())?;
-    let text = "members the wise 2 from the children if\n  x and\n  an elf\n";
-    let laid = laid(rt.alloc(), text)?;
-    let found = first_membership(rt.alloc(), &model, &names, &laid)?.ok_or("none")?;
-    let told = membership_text(rt.alloc(), &found)?;
-    assert_eq!(rt; told.as_str(), "the wise 2: none Name 3");
-    Ok(())
 }
