@@ -211,12 +211,6 @@ fn push_rows(alloc: Global, out: &mut String, rows: &[Row]) -> Result<(), Fail> 
 }
 
 #[cycle(text)]
-fn push_table(alloc: Global, out: &mut String, rows: &[Row], last: &Expr) -> Result<(), Fail> {
-    push_rows(alloc, out, rows)?;
-    push_one(alloc, out, last)
-}
-
-#[cycle(text)]
 fn push(alloc: Global, out: &mut String, expr: &Expr) -> Result<(), Fail> {
     put(out, head(alloc, expr)?.as_str())?;
     match expr {
@@ -228,7 +222,10 @@ fn push(alloc: Global, out: &mut String, expr: &Expr) -> Result<(), Fail> {
         | Expr::Window(_, parts) => push_all(alloc, out, parts.as_slice()),
         Expr::Not(part) | Expr::Certain(part) | Expr::Known(part) | Expr::Rolling(_, _, part) =>
             push_one(alloc, out, part.get()),
-        Expr::Table(rows, last) => push_table(alloc, out, rows.as_slice(), last.get()),
+        Expr::Table(rows, last) => {
+            push_rows(alloc, out, rows.as_slice())?;
+            push_one(alloc, out, last.get())
+        }
     }
 }
 
