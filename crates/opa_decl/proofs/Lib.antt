@@ -1,0 +1,3 @@
+pub mod QuotedLaws
+pub mod HeadLaws
+pub mod CutBlockLaws

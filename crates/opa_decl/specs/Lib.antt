@@ -1,0 +1,5 @@
+pub mod Heads
+pub mod Cutting
+pub mod Steps
+pub mod Quoted
+pub mod Pieces

@@ -1,0 +1,15 @@
+//! Declarations: the model that the blocks of rule files declare, or the first fault.
+#![tactic(auto)]
+
+mod cut;
+mod head;
+mod items;
+mod pieces;
+
+pub use cut::{CutBlock, CutLine, declaration_blocks};
+pub use head::{Head, head_in, head_of};
+pub use items::{
+    AttributeLine, Bounds, EntityLines, Item, Name, Place, Reach, RelationLine, Said, ScreenLines,
+    Sort, VerbLine,
+};
+pub use pieces::{has_text, is_number, phrase, quoted_text, split_at, words};
