@@ -1,3 +1,4 @@
 pub mod QuotedLaws
 pub mod HeadLaws
 pub mod CutBlockLaws
+pub mod LimitLaws

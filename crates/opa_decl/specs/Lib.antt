@@ -3,3 +3,5 @@ pub mod Cutting
 pub mod Steps
 pub mod Quoted
 pub mod Pieces
+pub mod Limits
+pub mod Lines

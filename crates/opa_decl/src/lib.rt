@@ -4,6 +4,8 @@
 mod cut;
 mod head;
 mod items;
+mod lines;
+mod limits;
 mod pieces;
 
 pub use cut::{CutBlock, CutLine, declaration_blocks};
@@ -12,4 +14,6 @@ pub use items::{
     AttributeLine, Bounds, EntityLines, Item, Name, Place, Reach, RelationLine, Said, ScreenLines,
     Sort, VerbLine,
 };
+pub use limits::{Limits, comma_list};
+pub use lines::{inside_line, verb_line};
 pub use pieces::{has_text, is_number, phrase, quoted_text, split_at, words};
