@@ -5,3 +5,4 @@ pub mod Quoted
 pub mod Pieces
 pub mod Limits
 pub mod Lines
+pub mod Spelling

@@ -6,10 +6,13 @@ mod head;
 mod items;
 mod lines;
 mod limits;
+mod members;
 mod pieces;
+mod spelling;
 
 pub use cut::{CutBlock, CutLine, declaration_blocks};
 pub use head::{Head, head_in, head_of};
+pub use members::member;
 pub use items::{
     AttributeLine, Bounds, EntityLines, Item, Name, Place, Reach, RelationLine, Said, ScreenLines,
     Sort, VerbLine,

@@ -112,7 +112,7 @@ fn said_by(
 
 /// `bool SUBJECT [POS] REST`.
 #[tactic(auto, unfolding(crate::specs::Lines::bool_line))]
-fn bool_line(
+pub fn bool_line(
     alloc: Global,
     text: &str,
     tokens: &[Token],
@@ -131,7 +131,7 @@ fn bool_line(
 
 /// `number PHRASE` or `currency PHRASE`, with `:` and bounds or without.
 #[tactic(auto, unfolding(crate::specs::Lines::number_line, crate::specs::Pieces::phrase))]
-fn number_line(
+pub fn number_line(
     alloc: Global,
     text: &str,
     decimals: u8,
@@ -192,7 +192,7 @@ fn target(
 
 /// `reference PHRASE: one ENTITY` or `reference PHRASE: many ENTITY`.
 #[tactic(auto, unfolding(crate::specs::Lines::reference_line))]
-fn reference_line(
+pub fn reference_line(
     alloc: Global,
     text: &str,
     place: Place,
@@ -227,7 +227,7 @@ fn reference_line(
 
 /// `every PHRASE: ENTITY`.
 #[tactic(auto, unfolding(crate::specs::Lines::every_line))]
-fn every_line(
+pub fn every_line(
     alloc: Global,
     text: &str,
     place: Place,
