@@ -31,6 +31,10 @@ behind_head line = option_and_then behind_first line.tokens
 abbrev pub inner : CutLine → Option (List Token)
 inner line = if line.level == 1 then line.tokens else None
 
+-- the verb behind the first word
+unfoldable pub headed_verb : CutLine → Option Verb
+headed_verb line = behind_head line >>= verb_line line.text
+
 module _ (file : ℕ) where
   -- a level-1 line of a `global` block, or of an `entity` block
   unfoldable pub member_in : Bool → CutLine → Option Item
@@ -49,9 +53,6 @@ module _ (file : ℕ) where
 
   unfoldable pub headed_text : CutLine → Option Name
   headed_text line = option_map (name (place_in file line)) (behind_head line >>= quoted_text line.text)
-
-  unfoldable pub headed_verb : CutLine → Option Verb
-  headed_verb line = behind_head line >>= verb_line line.text
 
   abbrev pub verb_item : CutLine → Verb → List Item
   verb_item line verb = item.Verb (record { place = place_in file line; verb = verb }) ∷ []

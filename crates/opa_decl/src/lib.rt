@@ -19,4 +19,5 @@ pub use items::{
 };
 pub use limits::{Limits, comma_list};
 pub use lines::{inside_line, verb_line};
+pub use spelling::spelled;
 pub use pieces::{has_text, is_number, phrase, quoted_text, split_at, words};

@@ -10,9 +10,9 @@ ghost use Rattle.opa_decl.specs.Lines.{attribute, bool_attribute, number_attribu
 
 use crate::items::{AttributeLine, Item, Name, Place, Sort};
 use crate::lines::{bool_line, every_line, number_line, reference_line};
-use crate::pieces::phrase;
+use crate::pieces::{has_text, phrase};
 use opa_io::{NoMemory, Txt, front};
-use opa_words::{Token, token_text};
+use opa_words::Token;
 use std::alloc::Global;
 
 fn attribute(place: Place, of_global: bool, sort: Sort, text: Txt) -> Item
@@ -139,16 +139,28 @@ fn member_of(
     requires within { All (IsWithin text.now) tokens.now }
     ensures { IfOk result (λ o. o ≡ member_of text.now place of_global first tokens.now) }
 {
-    match token_text(text, first) {
-        "bool" => bool_member(alloc, text, place, of_global, tokens),
-        "number" => number_member(alloc, text, place, of_global, tokens),
-        "currency" => currency_member(alloc, text, place, of_global, tokens),
-        "text" => plain_member(alloc, text, place, of_global, Sort::Words, tokens),
-        "date" => plain_member(alloc, text, place, of_global, Sort::Date, tokens),
-        "reference" => reference_member(alloc, text, place, of_global, tokens),
-        "every" => every_member(alloc, text, place, of_global, tokens),
-        _ => Ok(None),
+    if has_text(text, "bool", first) {
+        return bool_member(alloc, text, place, of_global, tokens);
     }
+    if has_text(text, "number", first) {
+        return number_member(alloc, text, place, of_global, tokens);
+    }
+    if has_text(text, "currency", first) {
+        return currency_member(alloc, text, place, of_global, tokens);
+    }
+    if has_text(text, "text", first) {
+        return plain_member(alloc, text, place, of_global, Sort::Words, tokens);
+    }
+    if has_text(text, "date", first) {
+        return plain_member(alloc, text, place, of_global, Sort::Date, tokens);
+    }
+    if has_text(text, "reference", first) {
+        return reference_member(alloc, text, place, of_global, tokens);
+    }
+    if has_text(text, "every", first) {
+        return every_member(alloc, text, place, of_global, tokens);
+    }
+    Ok(None)
 }
 
 /// A level-1 line of `global` or `entity`, but for `in PARENT: PHRASE`.

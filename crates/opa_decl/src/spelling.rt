@@ -1,5 +1,5 @@
 // What a declaration block spells.
-ghost use Rattle.std.specs.Prelude.{◌≡◌, ◌++◌, [], IfOk, IfSome, true, false, MatchOption};
+ghost use Rattle.std.specs.Prelude.{◌≡◌, ◌++◌, ◌∷◌, [], IfOk, IfSome, Some};
 ghost use Rattle.std.specs.Option.{option_map};
 ghost use Rattle.std.specs.List.{All};
 ghost use Rattle.opa_words.specs.Places.{IsWithin, IsOfKind};
@@ -165,5 +165,231 @@ fn headed_verb(alloc: Global, line: &CutLine) -> Result<Option<Verb>, NoMemory>
     match behind_head(line) {
         None => Ok(None),
         Some(tokens) => verb_line(alloc, line.text.as_str(), tokens),
+    }
+}
+
+/// `verb POS / NEG / ASK / REST`.
+fn verb_block(
+    alloc: Global,
+    file: u32,
+    first: &CutLine,
+    deeper: &[CutLine],
+) -> Result<Option<List<Item>>, NoMemory>
+    requires { HasTokens first.now.text first.now.tokens }
+    ensures { IfOk result (λ o. o ≡ verb_block file first.now deeper.now) }
+{
+    if front(deeper).is_some() {
+        return Ok(None);
+    }
+    match headed_verb(alloc, first)? {
+        None => Ok(None),
+        Some(verb) => {
+            let place = place_in(file, first);
+            alone(alloc, Item::Verb(VerbLine { place, verb }))
+        }
+    }
+}
+
+/// A block of one item.
+fn alone(alloc: Global, item: Item) -> Result<Option<List<Item>>, NoMemory>
+    ensures { IfOk result (λ o. o ≡ Some (item ∷ [])) }
+{
+    let mut items = List::new(alloc);
+    items.push(item)?;
+    Ok(Some(items))
+}
+
+/// The items so far and those of level-1 lines.
+fn members_in(
+    alloc: Global,
+    file: u32,
+    of_global: bool,
+    lines: &[CutLine],
+    before: List<Item>,
+) -> Result<Option<List<Item>>, NoMemory>
+    requires { All (λ line. HasTokens line.text line.tokens) lines.now }
+    ensures { IfOk result (λ o. o ≡ option_map (λ items. before ++ items) (each (member_in file of_global) lines.now)) }
+{
+    let mut items = before;
+    let mut rest = lines;
+    while let Some((line, later)) = front(rest) {
+        match member_in(alloc, file, of_global, line)? {
+            None => return Ok(None),
+            Some(item) => items.push(item)?,
+        }
+        rest = later;
+    }
+    Ok(Some(items))
+}
+
+/// `global` with level-1 lines.
+fn global_block(
+    alloc: Global,
+    file: u32,
+    first: &CutLine,
+    deeper: &[CutLine],
+) -> Result<Option<List<Item>>, NoMemory>
+    requires first { HasTokens first.now.text first.now.tokens }
+    requires deeper { All (λ line. HasTokens line.text line.tokens) deeper.now }
+    ensures { IfOk result (λ o. o ≡ global_block file first.now deeper.now) }
+{
+    if front(deeper).is_none() {
+        return Ok(None);
+    }
+    let Some(more) = behind_head(first) else {
+        return Ok(None);
+    };
+    if !more.is_empty() {
+        return Ok(None);
+    }
+    members_in(alloc, file, true, deeper, List::new(alloc))
+}
+
+/// `entity PHRASE` with level-1 lines, of which the first is `in PARENT: PHRASE`.
+fn entity_block(
+    alloc: Global,
+    file: u32,
+    first: &CutLine,
+    deeper: &[CutLine],
+) -> Result<Option<List<Item>>, NoMemory>
+    requires first { HasTokens first.now.text first.now.tokens }
+    requires deeper { All (λ line. HasTokens line.text line.tokens) deeper.now }
+    ensures { IfOk result (λ o. o ≡ entity_block file first.now deeper.now) }
+{
+    let Some((second, lines)) = front(deeper) else {
+        return Ok(None);
+    };
+    let Some(phrase) = headed_phrase(alloc, file, first)? else {
+        return Ok(None);
+    };
+    let Some((parent, inside)) = inside_in(alloc, file, second)? else {
+        return Ok(None);
+    };
+    let entity = EntityLines {
+        phrase,
+        parent,
+        inside,
+    };
+    let mut items = List::new(alloc);
+    items.push(Item::Entity(entity))?;
+    members_in(alloc, file, false, lines, items)
+}
+
+/// `goal PHRASE`.
+fn goal_block(
+    alloc: Global,
+    file: u32,
+    first: &CutLine,
+    deeper: &[CutLine],
+) -> Result<Option<List<Item>>, NoMemory>
+    requires { HasTokens first.now.text first.now.tokens }
+    ensures { IfOk result (λ o. o ≡ goal_block file first.now deeper.now) }
+{
+    if front(deeper).is_some() {
+        return Ok(None);
+    }
+    match headed_phrase(alloc, file, first)? {
+        None => Ok(None),
+        Some(goal) => alone(alloc, Item::Goal(goal)),
+    }
+}
+
+/// The phrases of a screen.
+fn screen_items(
+    alloc: Global,
+    file: u32,
+    lines: &[CutLine],
+) -> Result<Option<List<Name>>, NoMemory>
+    requires { All (λ line. HasTokens line.text line.tokens) lines.now }
+    ensures { IfOk result (λ o. o ≡ each (screen_item file) lines.now) }
+{
+    let mut items = List::new(alloc);
+    let mut rest = lines;
+    while let Some((line, later)) = front(rest) {
+        match screen_item(alloc, file, line)? {
+            None => return Ok(None),
+            Some(item) => items.push(item)?,
+        }
+        rest = later;
+    }
+    Ok(Some(items))
+}
+
+/// `screen TEXT` with level-1 lines of one phrase.
+fn screen_block(
+    alloc: Global,
+    file: u32,
+    first: &CutLine,
+    deeper: &[CutLine],
+) -> Result<Option<List<Item>>, NoMemory>
+    requires first { HasTokens first.now.text first.now.tokens }
+    requires deeper { All (λ line. HasTokens line.text line.tokens) deeper.now }
+    ensures { IfOk result (λ o. o ≡ screen_block file first.now deeper.now) }
+{
+    if front(deeper).is_none() {
+        return Ok(None);
+    }
+    let Some(title) = headed_text(alloc, file, first)? else {
+        return Ok(None);
+    };
+    match screen_items(alloc, file, deeper)? {
+        None => Ok(None),
+        Some(items) => alone(alloc, Item::Screen(ScreenLines { title, items })),
+    }
+}
+
+/// `include TEXT` or `table TEXT`, in the main file only.
+fn file_block(
+    alloc: Global,
+    file: u32,
+    first: &CutLine,
+    deeper: &[CutLine],
+) -> Result<Option<List<Item>>, NoMemory>
+    requires { HasTokens first.now.text first.now.tokens }
+    ensures { IfOk result (λ o. o ≡ file_block file first.now deeper.now) }
+{
+    if front(deeper).is_some() || file != 0 {
+        return Ok(None);
+    }
+    match headed_text(alloc, file, first)? {
+        None => Ok(None),
+        Some(name) => alone(alloc, Item::File(name)),
+    }
+}
+
+#[tactic(auto, unfolding(crate::specs::Spelling::block_by))]
+fn block_by(
+    alloc: Global,
+    file: u32,
+    head: Head,
+    first: &CutLine,
+    deeper: &[CutLine],
+) -> Result<Option<List<Item>>, NoMemory>
+    requires first { HasTokens first.now.text first.now.tokens }
+    requires deeper { All (λ line. HasTokens line.text line.tokens) deeper.now }
+    ensures { IfOk result (λ o. o ≡ block_by file head first.now deeper.now) }
+{
+    match head {
+        Head::Verb => verb_block(alloc, file, first, deeper),
+        Head::Global => global_block(alloc, file, first, deeper),
+        Head::Entity => entity_block(alloc, file, first, deeper),
+        Head::Goal => goal_block(alloc, file, first, deeper),
+        Head::Screen => screen_block(alloc, file, first, deeper),
+        Head::File => file_block(alloc, file, first, deeper),
+    }
+}
+
+/// What the lines of a declaration block say, one after another.
+#[tactic(auto, unfolding(crate::specs::Spelling::spelled))]
+pub fn spelled(alloc: Global, block: &CutBlock) -> Result<Option<List<Item>>, NoMemory>
+    requires { All (λ line. HasTokens line.text line.tokens) block.now.lines }
+    ensures { IfOk result (λ o. o ≡ spelled block.now) }
+{
+    let Some((first, deeper)) = front(block.lines.as_slice()) else {
+        return Ok(None);
+    };
+    match head_of(first.text.as_str()) {
+        None => Ok(None),
+        Some(head) => block_by(alloc, block.file, head, first, deeper),
     }
 }
