@@ -2,3 +2,4 @@ pub mod QuotedLaws
 pub mod HeadLaws
 pub mod CutBlockLaws
 pub mod LimitLaws
+pub mod StepLaws
