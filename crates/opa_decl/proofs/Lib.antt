@@ -3,3 +3,4 @@ pub mod HeadLaws
 pub mod CutBlockLaws
 pub mod LimitLaws
 pub mod StepLaws
+pub mod PlaceLaws

@@ -6,3 +6,7 @@ pub mod Pieces
 pub mod Limits
 pub mod Lines
 pub mod Spelling
+pub mod Numbering
+pub mod Names
+pub mod Lists
+pub mod Faults

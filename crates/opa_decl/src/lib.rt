@@ -7,7 +7,10 @@ mod items;
 mod lines;
 mod limits;
 mod members;
+mod names;
+mod numbered;
 mod pieces;
+mod places;
 mod spelling;
 
 pub use cut::{CutBlock, CutLine, declaration_blocks};
@@ -20,4 +23,7 @@ pub use items::{
 pub use limits::{Limits, comma_list};
 pub use lines::{inside_line, verb_line};
 pub use spelling::spelled;
+pub use places::Places;
+pub use names::{attribute_names, entity_names, file_names, goal_names, relation_names, screen_names, verb_names};
+pub use numbered::{Counts, Numbered, is_every, is_one, with_numbers};
 pub use pieces::{has_text, is_number, phrase, quoted_text, split_at, words};
