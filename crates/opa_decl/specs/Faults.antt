@@ -95,9 +95,8 @@ module _ (t : Tables) where
   is_of_another None = false
   is_of_another (Some a) = not (a.entity.0 == 0)
 
-  abbrev pub scope_faults : List Attribute → Item → List RbFault
-  scope_faults attributes (item.Goal g) = when (is_of_another (slice_get attributes (place t.attributes g.text))) Scope g.place
-  scope_faults attributes i = []
+  abbrev pub scope_faults : List Attribute → Name → List RbFault
+  scope_faults attributes g = when (is_of_another (slice_get attributes (place t.attributes g.text))) Scope g.place
 
 -- ---- what stands a second time
 
@@ -123,4 +122,4 @@ twice_faults t items =
 -- all faults of declarations that are spelled
 abbrev pub faults_by : Tables → List Item → List Numbered → List RbFault
 faults_by t items ns =
-    flat_map limit_faults ns ++ (flat_map (name_faults t) ns ++ (flat_map (scope_faults t (flat_map (attribute_in t) ns)) items ++ twice_faults t items))
+    flat_map limit_faults ns ++ (flat_map (name_faults t) ns ++ (flat_map (scope_faults t (flat_map (attribute_in t) ns)) (flat_map goal_name items) ++ twice_faults t items))

@@ -10,3 +10,4 @@ pub mod Numbering
 pub mod Names
 pub mod Lists
 pub mod Faults
+pub mod Seen

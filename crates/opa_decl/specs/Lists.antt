@@ -19,7 +19,7 @@ use Rattle.opa_decl.specs.declared.items.Name.{Name}
 use Rattle.opa_decl.specs.declared.items.Sort.{Sort}
 use Rattle.opa_decl.specs.declared.items.Sort.TheVariants as sort
 use Rattle.opa_decl.specs.declared.numbered.Numbered.{Numbered}
-use Rattle.opa_decl.specs.Names.{Tables, place, is_declared, sentence, verb_in}
+use Rattle.opa_decl.specs.Names.{Tables, place, is_declared, sentence, verb_in, goal_name}
 use Rattle.opa_decl.specs.Numbering.{is_every, is_one}
 
 -- The first entity has an empty phrase, itself as its parent, and 0 as what contains it.
@@ -104,9 +104,8 @@ module _ (t : Tables) where
   screen_by (item.Screen s) = record { title = s.title.text; items = map shown s.items } ∷ []
   screen_by i = []
 
-  abbrev pub goal_by : Item → List AttrId
-  goal_by (item.Goal g) = record { 0 = place t.attributes g.text } ∷ []
-  goal_by i = []
+  abbrev pub goal_by : Name → AttrId
+  goal_by g = record { 0 = place t.attributes g.text }
 
   abbrev pub entity_in : Numbered → List Entity
   entity_in n = entity_by n n.item
@@ -125,5 +124,5 @@ lists_of t items ns = record {
   relations = flat_map (relation_in t) ns;
   verbs = flat_map verb_in items;
   screens = flat_map (screen_by t) items;
-  goals = flat_map (goal_by t) items;
+  goals = map (goal_by t) (flat_map goal_name items);
 }

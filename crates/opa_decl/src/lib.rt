@@ -2,6 +2,7 @@
 #![tactic(auto)]
 
 mod cut;
+mod faults;
 mod head;
 mod items;
 mod lines;
@@ -9,9 +10,13 @@ mod limits;
 mod members;
 mod names;
 mod numbered;
+mod over;
 mod pieces;
 mod places;
 mod spelling;
+mod tables;
+mod tabling;
+mod unknown;
 
 pub use cut::{CutBlock, CutLine, declaration_blocks};
 pub use head::{Head, head_in, head_of};
@@ -25,5 +30,9 @@ pub use lines::{inside_line, verb_line};
 pub use spelling::spelled;
 pub use places::Places;
 pub use names::{attribute_names, entity_names, file_names, goal_names, relation_names, screen_names, verb_names};
+pub use over::first_over;
+pub use tables::Tables;
+pub use tabling::tables_of;
+pub use unknown::{first_astray, first_unknown};
 pub use numbered::{Counts, Numbered, is_every, is_one, with_numbers};
 pub use pieces::{has_text, is_number, phrase, quoted_text, split_at, words};
