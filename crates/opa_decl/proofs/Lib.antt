@@ -4,3 +4,5 @@ pub mod CutBlockLaws
 pub mod LimitLaws
 pub mod StepLaws
 pub mod PlaceLaws
+pub mod CountLaws
+pub mod TwiceLaws

@@ -56,6 +56,13 @@ limit_faults n = long_names n.item ++ too_many n.before n.item
 
 -- ---- names that are not declared
 
+abbrev pub unknown : List (List ℕ) → Name → List RbFault
+unknown names n = when (not (is_declared names n.text)) Unnamed n.place
+
+abbrev pub is_of_another : Option Attribute → Bool
+is_of_another None = false
+is_of_another (Some a) = not (a.entity.0 == 0)
+
 module _ (t : Tables) where
   -- a parent is declared earlier
   abbrev pub unknown_parent : Counts → Option Name → List RbFault
@@ -69,9 +76,6 @@ module _ (t : Tables) where
   unknown_verb c at (sort.Currency b) = []
   unknown_verb c at sort.Words = []
   unknown_verb c at sort.Date = []
-
-  abbrev pub unknown : List (List ℕ) → Name → List RbFault
-  unknown names n = when (not (is_declared names n.text)) Unnamed n.place
 
   -- an attribute or a relation
   abbrev pub unknown_item : Name → List RbFault
@@ -90,10 +94,6 @@ module _ (t : Tables) where
   name_faults n = unknown_names n.before n.item
 
   -- ---- goals that are not of the global entity
-
-  abbrev pub is_of_another : Option Attribute → Bool
-  is_of_another None = false
-  is_of_another (Some a) = not (a.entity.0 == 0)
 
   abbrev pub scope_faults : List Attribute → Name → List RbFault
   scope_faults attributes g = when (is_of_another (slice_get attributes (place t.attributes g.text))) Scope g.place

@@ -3,6 +3,7 @@
 
 mod cut;
 mod faults;
+mod wording;
 mod head;
 mod items;
 mod lines;
@@ -13,9 +14,11 @@ mod numbered;
 mod over;
 mod pieces;
 mod places;
+mod marks;
 mod spelling;
 mod tables;
 mod tabling;
+mod twice;
 mod unknown;
 
 pub use cut::{CutBlock, CutLine, declaration_blocks};
@@ -30,6 +33,9 @@ pub use lines::{inside_line, verb_line};
 pub use spelling::spelled;
 pub use places::Places;
 pub use names::{attribute_names, entity_names, file_names, goal_names, relation_names, screen_names, verb_names};
+pub use wording::forms;
+pub use marks::Seen;
+pub use twice::first_repeated;
 pub use over::first_over;
 pub use tables::Tables;
 pub use tabling::tables_of;
