@@ -7,6 +7,7 @@ mod wording;
 mod head;
 mod items;
 mod lines;
+mod lists;
 mod limits;
 mod members;
 mod names;
@@ -36,6 +37,7 @@ pub use names::{attribute_names, entity_names, file_names, goal_names, relation_
 pub use wording::forms;
 pub use marks::Seen;
 pub use twice::first_repeated;
+pub use lists::{attributes, entities, goals, relations, screens, verbs};
 pub use over::first_over;
 pub use tables::Tables;
 pub use tabling::tables_of;

@@ -1,5 +1,5 @@
 // The texts by which rules know attributes and relations.
-ghost use Rattle.std.specs.Prelude.{◌≡◌, ◌++◌, ◌∷◌, [], flat_map, slice_get, IfOk, OnOk};
+ghost use Rattle.std.specs.Prelude.{◌≡◌, ◌++◌, ◌∷◌, [], flat_map, slice_get, None, Some, MatchOption, IfOk, OnOk};
 ghost use Rattle.opa_verbs.specs.Forms.{beside as beside_of};
 ghost use Rattle.opa_decl.specs.Names.{denied as denied_of, negative, place as place_in, forms as forms_of};
 
@@ -31,6 +31,19 @@ fn denied(alloc: Global, verb: &Verb, said: &Said) -> Result<Txt, NoMemory>
     beside(alloc, said.subject.as_str(), after.as_str())
 }
 
+/// The verb whose POS stands there.
+fn verb_named<'v>(verb_names: &Places, verbs: &'v [Verb], said: &Said) -> Option<&'v Verb>
+    ensures { MatchOption result (slice_get verbs.now (place_in verb_names.now said.now.positive) ≡ None) (λ v. slice_get verbs.now (place_in verb_names.now said.now.positive) ≡ Some v.now) }
+{
+    verb_at(verbs, verb_names.place(said.positive.as_str()))
+}
+
+fn verb_at(verbs: &[Verb], place: u32) -> Option<&Verb>
+    ensures { MatchOption result (slice_get verbs.now place ≡ None) (λ v. slice_get verbs.now place ≡ Some v.now) }
+{
+    verbs.get(place as usize)
+}
+
 fn add_denied(
     alloc: Global,
     verb_names: &Places,
@@ -41,8 +54,7 @@ fn add_denied(
 ) -> Result<(), NoMemory>
     ensures { OnOk result (names.new ≡ names.old ++ denied_of verb_names.now place said.now (slice_get verbs.now (place_in verb_names.now said.now.positive))) }
 {
-    let at = verb_names.place(said.positive.as_str());
-    match verbs.get(at as usize) {
+    match verb_named(verb_names, verbs, said) {
         None => Ok(()),
         Some(verb) => names.push(Name {
             place,
