@@ -11,3 +11,4 @@ pub mod Names
 pub mod Lists
 pub mod Faults
 pub mod Seen
+pub mod Declarations

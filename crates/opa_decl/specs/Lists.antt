@@ -31,6 +31,10 @@ abbrev pub owner : Numbered → Bool → EntityId
 owner n true = record { 0 = 0 }
 owner n false = record { 0 = n.before.entities - 1 }
 
+-- an `every` line is of the global entity
+abbrev pub source : Numbered → Bool → Bool → EntityId
+source n every of_global = if every then record { 0 = 0 } else owner n of_global
+
 abbrev pub kind_of : Sort → Kind
 kind_of (sort.Bool said) = kind.Bool
 kind_of (sort.Number b) = kind.Number
@@ -82,10 +86,6 @@ module _ (t : Tables) where
   attribute_by n (item.Goal g) = []
   attribute_by n (item.Screen s) = []
   attribute_by n (item.File f) = []
-
-  -- an `every` line is of the global entity
-  abbrev pub source : Numbered → Bool → Bool → EntityId
-  source n every of_global = if every then record { 0 = 0 } else owner n of_global
 
   abbrev pub relation_by : Numbered → Item → List Relation
   relation_by n (item.Verb v) = []
