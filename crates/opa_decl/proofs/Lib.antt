@@ -6,3 +6,5 @@ pub mod StepLaws
 pub mod PlaceLaws
 pub mod CountLaws
 pub mod TwiceLaws
+pub mod FoldLaws
+pub mod JudgeLaws

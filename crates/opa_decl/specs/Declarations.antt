@@ -42,10 +42,10 @@ abbrev pub items_of : List CutBlock → List Item
 items_of blocks = flat_map items_in blocks
 
 -- the model of these items, and their faults
-abbrev pub model_of : List Item → Lists
+unfoldable pub model_of : List Item → Lists
 model_of items = lists_of (tables_of items) items (numbered no_counts items)
 
-abbrev pub item_faults : List Item → List RbFault
+unfoldable pub item_faults : List Item → List RbFault
 item_faults items = faults_by (tables_of items) items (numbered no_counts items)
 
 -- all faults of declaration blocks

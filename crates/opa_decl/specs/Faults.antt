@@ -110,7 +110,7 @@ repeated seen [] = []
 repeated seen (n ∷ ns) = if stands seen n.text then fault_at Twice n.place ∷ repeated seen ns else repeated (seen ++ n.text ∷ []) ns
 
 -- verbs, entities, phrases and negative forms, goals, what stands on screens, and files
-abbrev pub twice_faults : Tables → List Item → List RbFault
+unfoldable pub twice_faults : Tables → List Item → List RbFault
 twice_faults t items =
     repeated [] (flat_map verb_name items)
     ++ (repeated [] (flat_map entity_name items)
@@ -120,6 +120,6 @@ twice_faults t items =
     ++ repeated [] (flat_map file_name items)))))
 
 -- all faults of declarations that are spelled
-abbrev pub faults_by : Tables → List Item → List Numbered → List RbFault
+unfoldable pub faults_by : Tables → List Item → List Numbered → List RbFault
 faults_by t items ns =
     flat_map limit_faults ns ++ (flat_map (name_faults t) ns ++ (flat_map (scope_faults t (flat_map (attribute_in t) ns)) (flat_map goal_name items) ++ twice_faults t items))

@@ -12,3 +12,4 @@ pub mod Lists
 pub mod Faults
 pub mod Seen
 pub mod Declarations
+pub mod Judging

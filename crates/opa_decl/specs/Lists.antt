@@ -117,7 +117,7 @@ module _ (t : Tables) where
   relation_in n = relation_by n n.item
 
 -- the lists of the model
-abbrev pub lists_of : Tables → List Item → List Numbered → Lists
+unfoldable pub lists_of : Tables → List Item → List Numbered → Lists
 lists_of t items ns = record {
   entities = global_entity ∷ flat_map (entity_in t) ns;
   attributes = flat_map (attribute_in t) ns;

@@ -67,7 +67,7 @@ pub record Tables : Type 0 where
   pub attributes : List (List ℕ)
   pub relations : List (List ℕ)
 
-abbrev pub tables_of : List Item → Tables
+unfoldable pub tables_of : List Item → Tables
 tables_of items = record { verbs = texts (flat_map verb_name items); entities = texts (flat_map entity_name items); attributes = texts (flat_map attribute_name items); relations = texts (flat_map relation_name items) }
 
 -- SUBJECT and REST with the verb whose POS stands there

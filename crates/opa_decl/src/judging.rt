@@ -1,25 +1,23 @@
 // The model that items declare, and their first fault.
-ghost use Rattle.std.specs.Prelude.{◌≡◌, ◌+◌, ◌<◌, ◌^◌, flat_map, length, IfOk};
-ghost use Rattle.opa_tree.specs.FirstFaults.{first_fault};
-ghost use Rattle.opa_decl.specs.Declarations.{model_of, item_faults};
-ghost use Rattle.opa_decl.specs.Faults.{twice_faults};
-ghost use Rattle.opa_decl.specs.Names.{verb_in, forms as forms_of};
+ghost use Rattle.std.specs.Prelude.{◌≡◌, ◌+◌, ◌<◌, ◌^◌, flat_map, length, IfOk, List as Seq};
+ghost use Rattle.opa_tree.specs.FirstFaults.{first_of as first_of_two, first_fault};
+ghost use Rattle.opa_decl.specs.declared.items.Item.{Item as ItemView};
+ghost use Rattle.opa_decl.specs.Faults.{limit_faults, name_faults, scope_faults};
+ghost use Rattle.opa_decl.specs.Judging.{IsDraft, AreJudged};
+ghost use Rattle.opa_decl.specs.Numbering.{numbered, no_counts};
 ghost use Rattle.opa_decl.specs.Seen.{seen};
 
-use crate::items::Item;
-use crate::lists::{attributes, entities, goals, relations, screens, verbs};
-use crate::names::{entity_names, file_names, goal_names, screen_names, verb_names};
-use crate::numbered::with_numbers;
+use crate::drafting::{drafted, first_of_four};
+use crate::drafts::Draft;
+use crate::items::{Item, Name};
+use crate::lists::{attributes, entities, goals, relations};
+use crate::numbered::{Numbered, with_numbers};
 use crate::over::first_over;
-use crate::places::Places;
 use crate::tables::Tables;
-use crate::tabling::tables_of;
-use crate::twice::first_repeated;
 use crate::unknown::{first_astray, first_unknown};
-use crate::wording::forms;
 use opa_io::{List, NoMemory};
-use opa_model::{Lists, Verb};
-use opa_tree::{RbFault, first_of};
+use opa_model::{Attribute, Lists};
+use opa_tree::RbFault;
 use std::alloc::Global;
 
 /// What items declare, and their first fault.
@@ -29,58 +27,65 @@ pub struct Judged {
     pub fault: Option<RbFault>,
 }
 
-/// The first thing that stands a second time.
-fn first_twice(
+/// The first fault of items that have numbers.
+fn first_numbered(
     alloc: Global,
     tables: &Tables,
-    verbs: &[Verb],
-    items: &[Item],
-) -> Result<Option<RbFault>, NoMemory>
-    requires { verbs.now ≡ flat_map verb_in items.now }
-    ensures { IfOk result (λ fault. fault ≡ first_fault (twice_faults (seen tables.now) items.now)) }
+    attributes: &[Attribute],
+    goals: &[Name],
+    numbered: &[Numbered],
+    twice: Option<RbFault>,
+) -> Option<RbFault>
+    ensures { result ≡ first_of_two (first_fault (flat_map limit_faults numbered.now)) (first_of_two (first_fault (flat_map (name_faults (seen tables.now)) numbered.now)) (first_of_two (first_fault (flat_map (scope_faults (seen tables.now) attributes.now) goals.now)) twice)) }
 {
-    let verb = first_repeated(alloc, verb_names(alloc, items)?.as_slice())?;
-    let entity = first_repeated(alloc, entity_names(alloc, items)?.as_slice())?;
-    let form = first_repeated(alloc, forms(alloc, &tables.verbs, verbs, items)?.as_slice())?;
-    let goal = first_repeated(alloc, goal_names(alloc, items)?.as_slice())?;
-    let screen = first_repeated(alloc, screen_names(alloc, items)?.as_slice())?;
-    let file = first_repeated(alloc, file_names(alloc, items)?.as_slice())?;
-    Ok(first_of(
-        verb,
-        first_of(entity, first_of(form, first_of(goal, first_of(screen, file)))),
-    ))
+    let over = first_over(alloc, numbered);
+    let unknown = first_unknown(alloc, tables, numbered);
+    let astray = first_astray(alloc, tables, attributes, goals);
+    first_of_four(over, unknown, astray, twice)
+}
+
+fn finish(alloc: Global, draft: Draft, numbered: &[Numbered]) -> Result<Judged, NoMemory>
+    ensures { IfOk result (λ j. (items : Seq ItemView) → IsDraft draft items → numbered.now ≡ numbered no_counts items → AreJudged j.lists j.fault items) }
+{
+    let Draft {
+        tables,
+        verbs,
+        screens,
+        goals: named,
+        twice,
+    } = draft;
+    let attributes = attributes(alloc, &tables, numbered)?;
+    let entities = entities(alloc, &tables, numbered)?;
+    let relations = relations(alloc, &tables, numbered)?;
+    let goals = goals(alloc, &tables, named.as_slice())?;
+    let fault = first_numbered(
+        alloc,
+        &tables,
+        attributes.as_slice(),
+        named.as_slice(),
+        numbered,
+        twice,
+    );
+    Ok(Judged {
+        lists: Lists {
+            entities,
+            attributes,
+            relations,
+            verbs,
+            screens,
+            goals,
+        },
+        fault,
+    })
 }
 
 /// What items declare, and their first fault.
 pub fn judge(alloc: Global, items: List<Item>) -> Result<Judged, NoMemory>
     requires { length items + 1 < 2 ^ 32 }
-    ensures lists { IfOk result (λ j. j.lists ≡ model_of items) }
-    ensures fault { IfOk result (λ j. j.fault ≡ first_fault (item_faults items)) }
+    ensures { IfOk result (λ j. AreJudged j.lists j.fault items) }
 {
-    let tables = tables_of(alloc, items.as_slice())?;
-    let verbs = verbs(alloc, items.as_slice())?;
-    let screens = screens(alloc, &tables, items.as_slice())?;
-    let goal_names = goal_names(alloc, items.as_slice())?;
-    let twice = first_twice(alloc, &tables, verbs.as_slice(), items.as_slice())?;
+    let draft = drafted(alloc, items.as_slice())?;
     let numbered = with_numbers(alloc, items)?;
-    let attributes = attributes(alloc, &tables, numbered.as_slice())?;
-    let over = first_over(alloc, numbered.as_slice());
-    let unknown = first_unknown(alloc, &tables, numbered.as_slice());
-    let astray = first_astray(
-        alloc,
-        &tables,
-        attributes.as_slice(),
-        goal_names.as_slice(),
-    );
-    Ok(Judged {
-        lists: Lists {
-            entities: entities(alloc, &tables, numbered.as_slice())?,
-            attributes,
-            relations: relations(alloc, &tables, numbered.as_slice())?,
-            verbs,
-            screens,
-            goals: goals(alloc, &tables, goal_names.as_slice())?,
-        },
-        fault: first_of(over, first_of(unknown, first_of(astray, twice))),
-    })
+    let judged = finish(alloc, draft, numbered.as_slice())?;
+    Ok(judged)
 }

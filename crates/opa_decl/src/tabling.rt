@@ -11,6 +11,7 @@ use opa_io::NoMemory;
 use std::alloc::Global;
 
 /// What is declared, by its names.
+#[tactic(auto, unfolding(crate::specs::Names::tables_of))]
 pub fn tables_of(alloc: Global, items: &[Item]) -> Result<Tables, NoMemory>
     requires { length items.now + 1 < 2 ^ 32 }
     ensures { IfOk result (λ t. seen t ≡ tables_of items.now) }
