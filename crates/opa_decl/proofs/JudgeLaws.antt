@@ -17,7 +17,7 @@ use Rattle.opa_decl.specs.Faults.{faults_by, twice_faults, limit_faults, name_fa
 use Rattle.opa_decl.specs.Lists.{lists_of, global_entity, entity_in, attribute_in, relation_in, screen_by, goal_by}
 use Rattle.opa_decl.specs.declared.drafts.Draft.{Draft}
 use Rattle.opa_decl.specs.declared.items.Name.{Name}
-use Rattle.opa_decl.specs.Judging.{IsDraft, AreJudged}
+use Rattle.opa_decl.specs.Judging.{IsDraft, IsFinished, AreJudged}
 use Rattle.opa_decl.specs.Seen.{seen}
 use Rattle.opa_decl.specs.Names.{Tables, tables_of, verb_in, verb_name, entity_name, goal_name, screen_name, file_name, forms}
 use Rattle.opa_decl.specs.Numbering.{numbered, no_counts}
@@ -56,14 +56,11 @@ twice_are t items verb entity form goal screen file pv pe pf pg ps pl =
         verb _ pv (joined (repeated [] (flat_map entity_name items)) (repeated [] (flat_map (forms t.verbs (flat_map verb_in items)) items) ++ (repeated [] (flat_map goal_name items) ++ (repeated [] (flat_map screen_name items) ++ repeated [] (flat_map file_name items))))
         entity _ pe (four (repeated [] (flat_map (forms t.verbs (flat_map verb_in items)) items)) (repeated [] (flat_map goal_name items)) (repeated [] (flat_map screen_name items)) (repeated [] (flat_map file_name items)) form goal screen file pf pg ps pl))
 
-pub judged_are : (d : Draft) (items : List Item) (ns : List Numbered) (a : List Attribute) (e : List Entity) (r : List Relation) (g : List AttrId) (fault : Option RbFault) → IsDraft d items → ns ≡ numbered no_counts items
-    → a ≡ flat_map (attribute_in (seen d.tables)) ns → e ≡ global_entity ∷ flat_map (entity_in (seen d.tables)) ns → r ≡ flat_map (relation_in (seen d.tables)) ns → g ≡ map (goal_by (seen d.tables)) d.goals
-    → fault ≡ first_of (first_fault (flat_map limit_faults ns)) (first_of (first_fault (flat_map (name_faults (seen d.tables)) ns)) (first_of (first_fault (flat_map (scope_faults (seen d.tables) a) d.goals)) d.twice))
-    → AreJudged (record { entities = e; attributes = a; relations = r; verbs = d.verbs; screens = d.screens; goals = g }) fault items
-judged_are d items ns a e r g fault is pn pa pe pr pg pf =
+pub judged_are : (d : Draft) (items : List Item) (ns : List Numbered) (l : Lists) (fault : Option RbFault) → IsDraft d items → ns ≡ numbered no_counts items → IsFinished d ns l fault → AreJudged l fault items
+judged_are d items ns l fault is pn f =
     let t = seen d.tables in
     record {
-      model_is = lists_are (record { entities = e; attributes = a; relations = r; verbs = d.verbs; screens = d.screens; goals = g }) t items ns is.tables pn pe pa pr is.verbs is.screens (pg ∙ ap (map (goal_by t)) is.goals);
-      fault_is = pf ∙ faults_are t items ns (first_fault (flat_map limit_faults ns)) (first_fault (flat_map (name_faults t) ns)) (first_fault (flat_map (scope_faults t a) d.goals)) d.twice is.tables pn refl refl
-          (ap₂ (λ (x : List Attribute) (y : List Name). first_fault (flat_map (scope_faults t x) y)) pa is.goals) is.twice;
+      model_is = lists_are l t items ns is.tables pn f.entities f.attributes f.relations (f.verbs ∙ is.verbs) (f.screens ∙ is.screens) (f.goals ∙ ap (map (goal_by t)) is.goals);
+      fault_is = f.fault_is ∙ faults_are t items ns (first_fault (flat_map limit_faults ns)) (first_fault (flat_map (name_faults t) ns)) (first_fault (flat_map (scope_faults t l.attributes) d.goals)) d.twice is.tables pn refl refl
+          (ap₂ (λ (x : List Attribute) (y : List Name). first_fault (flat_map (scope_faults t x) y)) f.attributes is.goals) is.twice;
     }

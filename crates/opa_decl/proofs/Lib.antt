@@ -8,3 +8,4 @@ pub mod CountLaws
 pub mod TwiceLaws
 pub mod FoldLaws
 pub mod JudgeLaws
+pub mod OutcomeLaws

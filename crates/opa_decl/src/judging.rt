@@ -1,10 +1,9 @@
 // The model that items declare, and their first fault.
-ghost use Rattle.std.specs.Prelude.{◌≡◌, ◌+◌, ◌<◌, ◌^◌, flat_map, length, IfOk, List as Seq};
+ghost use Rattle.std.specs.Prelude.{◌≡◌, ◌+◌, ◌<◌, ◌^◌, ◌∷◌, flat_map, map, length, IfOk};
 ghost use Rattle.opa_tree.specs.FirstFaults.{first_of as first_of_two, first_fault};
-ghost use Rattle.opa_decl.specs.declared.items.Item.{Item as ItemView};
 ghost use Rattle.opa_decl.specs.Faults.{limit_faults, name_faults, scope_faults};
-ghost use Rattle.opa_decl.specs.Judging.{IsDraft, AreJudged};
-ghost use Rattle.opa_decl.specs.Numbering.{numbered, no_counts};
+ghost use Rattle.opa_decl.specs.Judging.{AreJudged};
+ghost use Rattle.opa_decl.specs.Lists.{global_entity, entity_in, attribute_in, relation_in, goal_by};
 ghost use Rattle.opa_decl.specs.Seen.{seen};
 
 use crate::drafting::{drafted, first_of_four};
@@ -45,7 +44,13 @@ fn first_numbered(
 }
 
 fn finish(alloc: Global, draft: Draft, numbered: &[Numbered]) -> Result<Judged, NoMemory>
-    ensures { IfOk result (λ j. (items : Seq ItemView) → IsDraft draft items → numbered.now ≡ numbered no_counts items → AreJudged j.lists j.fault items) }
+    ensures entities { IfOk result (λ j. j.lists.entities ≡ global_entity ∷ flat_map (entity_in (seen draft.tables)) numbered.now) }
+    ensures attributes { IfOk result (λ j. j.lists.attributes ≡ flat_map (attribute_in (seen draft.tables)) numbered.now) }
+    ensures relations { IfOk result (λ j. j.lists.relations ≡ flat_map (relation_in (seen draft.tables)) numbered.now) }
+    ensures verbs { IfOk result (λ j. j.lists.verbs ≡ draft.verbs) }
+    ensures screens { IfOk result (λ j. j.lists.screens ≡ draft.screens) }
+    ensures goals { IfOk result (λ j. j.lists.goals ≡ map (goal_by (seen draft.tables)) draft.goals) }
+    ensures fault { IfOk result (λ j. j.fault ≡ first_of_two (first_fault (flat_map limit_faults numbered.now)) (first_of_two (first_fault (flat_map (name_faults (seen draft.tables)) numbered.now)) (first_of_two (first_fault (flat_map (scope_faults (seen draft.tables) j.lists.attributes) draft.goals)) draft.twice))) }
 {
     let Draft {
         tables,
@@ -86,6 +91,8 @@ pub fn judge(alloc: Global, items: List<Item>) -> Result<Judged, NoMemory>
 {
     let draft = drafted(alloc, items.as_slice())?;
     let numbered = with_numbers(alloc, items)?;
-    let judged = finish(alloc, draft, numbered.as_slice())?;
-    Ok(judged)
+    match finish(alloc, draft, numbered.as_slice()) {
+        Err(error) => Err(error),
+        Ok(judged) => Ok(judged),
+    }
 }

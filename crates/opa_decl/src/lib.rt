@@ -6,6 +6,7 @@ mod faults;
 mod wording;
 mod head;
 mod items;
+mod declarations;
 mod drafting;
 mod drafts;
 mod judging;
@@ -44,9 +45,13 @@ pub use twice::first_repeated;
 pub use lists::{attributes, entities, goals, relations, screens, verbs};
 pub use reading::{Reading, read};
 pub use judging::{Judged, judge};
+pub use declarations::read_lists;
 pub use over::first_over;
 pub use tables::Tables;
 pub use tabling::tables_of;
 pub use unknown::{first_astray, first_unknown};
 pub use numbered::{Counts, Numbered, is_every, is_one, with_numbers};
 pub use pieces::{has_text, is_number, phrase, quoted_text, split_at, words};
+
+#[cfg(test)]
+mod tests;
