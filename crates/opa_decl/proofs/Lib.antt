@@ -9,3 +9,4 @@ pub mod TwiceLaws
 pub mod FoldLaws
 pub mod JudgeLaws
 pub mod OutcomeLaws
+pub mod OneReading

@@ -13,3 +13,4 @@ pub mod Faults
 pub mod Seen
 pub mod Declarations
 pub mod Judging
+pub mod Laws
