@@ -63,4 +63,3 @@ verb_in-short (item.Relation r) = omega arith
 verb_in-short (item.Goal g) = omega arith
 verb_in-short (item.Screen s) = omega arith
 verb_in-short (item.File f) = omega arith
-

@@ -53,8 +53,8 @@ pub twice_are : (t : Tables) (items : List Item) (verb entity form goal screen f
 unfolding twice_faults
 twice_are t items verb entity form goal screen file pv pe pf pg ps pl =
     joined (repeated [] (flat_map verb_name items)) (repeated [] (flat_map entity_name items) ++ (repeated [] (flat_map (forms t.verbs (flat_map verb_in items)) items) ++ (repeated [] (flat_map goal_name items) ++ (repeated [] (flat_map screen_name items) ++ repeated [] (flat_map file_name items)))))
-        verb _ pv (joined (repeated [] (flat_map entity_name items)) (repeated [] (flat_map (forms t.verbs (flat_map verb_in items)) items) ++ (repeated [] (flat_map goal_name items) ++ (repeated [] (flat_map screen_name items) ++ repeated [] (flat_map file_name items))))
-        entity _ pe (four (repeated [] (flat_map (forms t.verbs (flat_map verb_in items)) items)) (repeated [] (flat_map goal_name items)) (repeated [] (flat_map screen_name items)) (repeated [] (flat_map file_name items)) form goal screen file pf pg ps pl))
+    verb _ pv (joined (repeated [] (flat_map entity_name items)) (repeated [] (flat_map (forms t.verbs (flat_map verb_in items)) items) ++ (repeated [] (flat_map goal_name items) ++ (repeated [] (flat_map screen_name items) ++ repeated [] (flat_map file_name items))))
+    entity _ pe (four (repeated [] (flat_map (forms t.verbs (flat_map verb_in items)) items)) (repeated [] (flat_map goal_name items)) (repeated [] (flat_map screen_name items)) (repeated [] (flat_map file_name items)) form goal screen file pf pg ps pl))
 
 pub judged_are : (d : Draft) (items : List Item) (ns : List Numbered) (l : Lists) (fault : Option RbFault) → IsDraft d items → ns ≡ numbered no_counts items → IsFinished d ns l fault → AreJudged l fault items
 judged_are d items ns l fault is pn f =

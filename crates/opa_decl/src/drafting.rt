@@ -117,4 +117,3 @@ pub fn drafted(alloc: Global, items: &[Item]) -> Result<Draft, NoMemory>
         twice,
     })
 }
-

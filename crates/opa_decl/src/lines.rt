@@ -170,11 +170,7 @@ fn reach_of(text: &str, token: Token) -> Option<Reach>
 }
 
 /// `one ENTITY` or `many ENTITY`.
-fn target(
-    alloc: Global,
-    text: &str,
-    tokens: &[Token],
-) -> Result<Option<(Reach, Txt)>, NoMemory>
+fn target(alloc: Global, text: &str, tokens: &[Token]) -> Result<Option<(Reach, Txt)>, NoMemory>
     requires { All (IsWithin text.now) tokens.now }
     ensures { IfOk result (λ o. o ≡ target text.now tokens.now) }
 {

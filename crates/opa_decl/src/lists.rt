@@ -9,7 +9,10 @@ use crate::numbered::{Numbered, is_every, is_one};
 use crate::places::Places;
 use crate::tables::Tables;
 use opa_io::{List, NoMemory, Txt, front};
-use opa_model::{AttrId, Attribute, Entity, EntityId, Item as Shown, Kind, RelId, Relation, Screen, Sentence, Verb};
+use opa_model::{
+    AttrId, Attribute, Entity, EntityId, Item as Shown, Kind, RelId, Relation, Screen, Sentence,
+    Verb,
+};
 use std::alloc::Global;
 
 /// The first entity.
@@ -232,11 +235,7 @@ fn shown(tables: &Tables, name: &Name) -> Shown
     }
 }
 
-fn all_shown(
-    alloc: Global,
-    tables: &Tables,
-    names: &[Name],
-) -> Result<List<Shown>, NoMemory>
+fn all_shown(alloc: Global, tables: &Tables, names: &[Name]) -> Result<List<Shown>, NoMemory>
     ensures { IfOk result (λ items. items ≡ map (shown (seen tables.now)) names.now) }
 {
     let mut items = List::new(alloc);
@@ -296,10 +295,7 @@ fn add_verb(alloc: Global, item: &Item, verbs: &mut List<Verb>) -> Result<(), No
 }
 
 /// The verbs.
-pub fn verbs(
-    alloc: Global,
-    items: &[Item],
-) -> Result<List<Verb>, NoMemory>
+pub fn verbs(alloc: Global, items: &[Item]) -> Result<List<Verb>, NoMemory>
     ensures { IfOk result (λ list. list ≡ flat_map verb_in items.now) }
 {
     let mut list = List::new(alloc);
@@ -364,11 +360,7 @@ pub fn relations(
 }
 
 /// The screens.
-pub fn screens(
-    alloc: Global,
-    tables: &Tables,
-    items: &[Item],
-) -> Result<List<Screen>, NoMemory>
+pub fn screens(alloc: Global, tables: &Tables, items: &[Item]) -> Result<List<Screen>, NoMemory>
     ensures { IfOk result (λ list. list ≡ flat_map (screen_by (seen tables.now)) items.now) }
 {
     let mut list = List::new(alloc);

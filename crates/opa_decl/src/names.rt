@@ -7,12 +7,7 @@ use opa_io::{List, NoMemory, Txt, front};
 use std::alloc::Global;
 
 /// Adds a name.
-fn add(
-    alloc: Global,
-    names: &mut List<Name>,
-    place: Place,
-    text: &Txt,
-) -> Result<(), NoMemory>
+fn add(alloc: Global, names: &mut List<Name>, place: Place, text: &Txt) -> Result<(), NoMemory>
     ensures { OnOk result (names.new ≡ names.old ++ record { place = place; text = text.now } ∷ []) }
 {
     names.push(Name {

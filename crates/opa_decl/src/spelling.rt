@@ -295,11 +295,7 @@ fn goal_block(
 }
 
 /// The phrases of a screen.
-fn screen_items(
-    alloc: Global,
-    file: u32,
-    lines: &[CutLine],
-) -> Result<Option<List<Name>>, NoMemory>
+fn screen_items(alloc: Global, file: u32, lines: &[CutLine]) -> Result<Option<List<Name>>, NoMemory>
     requires { All (λ line. HasTokens line.text line.tokens) lines.now }
     ensures { IfOk result (λ o. o ≡ each (screen_item file) lines.now) }
 {

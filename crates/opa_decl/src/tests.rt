@@ -78,32 +78,68 @@ const UNSPELLED: [&str; 20] = [
 const REFUSED: [(&str, &str); 20] = [
     ("entity e\n  in f: es", "refused 3 at 2"),
     ("entity e\n  in e: es", "refused 3 at 2"),
-    ("global\n  bool a [is] x\nverb is / is not / is /", "refused 3 at 2"),
+    (
+        "global\n  bool a [is] x\nverb is / is not / is /",
+        "refused 3 at 2",
+    ),
     ("goal a", "refused 3 at 1"),
     ("screen \"S\"\n  a", "refused 3 at 2"),
     ("global\n  reference r: one e", "refused 3 at 2"),
     ("global\n  every r: e", "refused 3 at 2"),
-    ("entity e\n  in global: es\n  text a\ngoal a", "refused 4 at 4"),
-    ("verb is / is not / is /\nverb is / isnt / is /", "refused 6 at 2"),
+    (
+        "entity e\n  in global: es\n  text a\ngoal a",
+        "refused 4 at 4",
+    ),
+    (
+        "verb is / is not / is /\nverb is / isnt / is /",
+        "refused 6 at 2",
+    ),
     ("global\n  text a\n  text a", "refused 6 at 3"),
-    ("global\n  text a\nentity e\n  in global: a", "refused 6 at 4"),
-    ("verb is / is not / is /\nglobal\n  bool a [is] x\n  text a is not x", "refused 6 at 4"),
-    ("verb is / is / is /\nglobal\n  bool a [is] x", "refused 6 at 3"),
+    (
+        "global\n  text a\nentity e\n  in global: a",
+        "refused 6 at 4",
+    ),
+    (
+        "verb is / is not / is /\nglobal\n  bool a [is] x\n  text a is not x",
+        "refused 6 at 4",
+    ),
+    (
+        "verb is / is / is /\nglobal\n  bool a [is] x",
+        "refused 6 at 3",
+    ),
     ("global\n  text a\ngoal a\ngoal a", "refused 6 at 4"),
-    ("global\n  text a\nscreen \"S\"\n  a\nscreen \"T\"\n  a", "refused 6 at 6"),
+    (
+        "global\n  text a\nscreen \"S\"\n  a\nscreen \"T\"\n  a",
+        "refused 6 at 6",
+    ),
     ("include \"x\"\ntable \"x\"", "refused 6 at 2"),
-    ("entity e\n  in global: es\nentity e\n  in global: fs", "refused 6 at 3"),
+    (
+        "entity e\n  in global: es\nentity e\n  in global: fs",
+        "refused 6 at 3",
+    ),
     ("goal a\nglobal", "refused 2 at 2"),
     ("goal a\ngoal b", "refused 3 at 1"),
     ("global\n  text a\n  text a\ngoal b", "refused 3 at 4"),
 ];
 
 const TWO_AT_ONCE: [(&str, &str); 8] = [
-    ("entity e\n  in global: es\n  text a\n  text a\ngoal a", "refused 4 at 5"),
-    ("screen \"S\"\n  b\nentity e\n  in global: es\n  text a\ngoal a", "refused 3 at 2"),
-    ("global\n  number a: decimals 9\n  text b\n  text b", "refused 2 at 1"),
+    (
+        "entity e\n  in global: es\n  text a\n  text a\ngoal a",
+        "refused 4 at 5",
+    ),
+    (
+        "screen \"S\"\n  b\nentity e\n  in global: es\n  text a\ngoal a",
+        "refused 3 at 2",
+    ),
+    (
+        "global\n  number a: decimals 9\n  text b\n  text b",
+        "refused 2 at 1",
+    ),
     ("global\n  bool a [is] x\n  every r: e", "refused 3 at 2"),
-    ("global\n  text a\n  text a\n  text b\n  text b", "refused 6 at 3"),
+    (
+        "global\n  text a\n  text a\n  text b\n  text b",
+        "refused 6 at 3",
+    ),
     ("verb is / is not / is\ngoal a\ngoal a", "refused 2 at 1"),
     ("goal x\nglobal\n  bool a [is] y", "refused 3 at 1"),
     ("include \"x\"\ntable \"x\"\ngoal z", "refused 3 at 3"),
@@ -153,8 +189,14 @@ fn many(alloc: Global, count: u32) -> Result<String, Fail> {
 #[test]
 fn counts_attributes(rt: HostRuntime) -> Result<(), Fail> {
     let text = many(rt.alloc(), 4_000)?;
-    assert_eq!(rt; outcome(rt.alloc(), text.as_str())?.as_str(), "1 4000 0 0 0");
+    assert_eq!(rt;
+        outcome(rt.alloc(), text.as_str())?.as_str(),
+        "1 4000 0 0 0"
+    );
     let text = many(rt.alloc(), 4_001)?;
-    assert_eq!(rt; outcome(rt.alloc(), text.as_str())?.as_str(), "refused 8 at 4002");
+    assert_eq!(rt;
+        outcome(rt.alloc(), text.as_str())?.as_str(),
+        "refused 8 at 4002"
+    );
     Ok(())
 }

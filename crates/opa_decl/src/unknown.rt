@@ -68,7 +68,12 @@ fn unknown_item(alloc: Global, tables: &Tables, name: &Name) -> Option<RbFault>
 {
     let is_attribute = tables.attributes.is_declared(name.text.as_str());
     let is_relation = tables.relations.is_declared(name.text.as_str());
-    when(alloc, !(is_attribute || is_relation), RbKind::Name, name.place)
+    when(
+        alloc,
+        !(is_attribute || is_relation),
+        RbKind::Name,
+        name.place,
+    )
 }
 
 #[tactic(auto, using(opa_tree::proofs::FirstFaultLaws::first_faults))]
@@ -84,12 +89,7 @@ fn unknown_items(alloc: Global, tables: &Tables, names: &[Name]) -> Option<RbFau
     first
 }
 
-fn unknown_names(
-    alloc: Global,
-    tables: &Tables,
-    before: Counts,
-    item: &Item,
-) -> Option<RbFault>
+fn unknown_names(alloc: Global, tables: &Tables, before: Counts, item: &Item) -> Option<RbFault>
     ensures { result ≡ first_fault (unknown_names (seen tables.now) before item.now) }
 {
     match item {

@@ -105,7 +105,14 @@ fn add_forms(
         Item::Entity(entity) => add_copy(alloc, &entity.inside, names),
         Item::Attribute(line) => {
             add_copy(alloc, &line.phrase, names)?;
-            add_negative(alloc, verb_names, verbs, line.phrase.place, &line.sort, names)
+            add_negative(
+                alloc,
+                verb_names,
+                verbs,
+                line.phrase.place,
+                &line.sort,
+                names,
+            )
         }
         Item::Relation(line) => add_copy(alloc, &line.phrase, names),
         Item::Goal(_) => Ok(()),
