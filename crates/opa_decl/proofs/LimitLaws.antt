@@ -1,6 +1,5 @@
 -- One item of a comma list, and the others.
-use Rattle.std.proofs.Common.{◌≡◌, ◌<◌, ◌-◌, ℕ, zero, suc, List, refl, ap, arith}
-use Rattle.std.specs.Prelude.{Option}
+use Rattle.std.proofs.Common.{◌≡◌, ◌<◌, ◌-◌, ℕ, zero, suc, List, ap, arith}
 use Rattle.std.specs.Option.{option_and_then}
 use Rattle.opa_words.specs.declared.kinds.Token.{Token}
 use Rattle.opa_decl.specs.declared.limits.Limits.{Limits}

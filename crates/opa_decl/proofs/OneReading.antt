@@ -8,14 +8,13 @@ use Rattle.opa_words.specs.declared.kinds.Token.{Token}
 use Rattle.opa_words.proofs.OneCut.{one_cut_holds, cut_or_stuck_holds}
 use Rattle.opa_layout.specs.declared.block.Block.{Block}
 use Rattle.opa_layout.specs.declared.block.BlockLine.{BlockLine}
-use Rattle.opa_model.specs.declared.lists.Lists.{Lists}
 use Rattle.opa_tree.specs.declared.faults.RbFault.{RbFault}
 use Rattle.opa_tree.specs.FirstFaults.{IsFirst}
 use Rattle.opa_tree.proofs.Members.{none_in}
 use Rattle.opa_decl.specs.declared.cut.CutBlock.{CutBlock}
 use Rattle.opa_decl.specs.declared.cut.CutLine.{CutLine}
-use Rattle.opa_decl.specs.Cutting.{HasTokens, HaveTokens, AreCut, line_of, block_of}
-use Rattle.opa_decl.specs.Declarations.{Declares, IsFirstFault, faults_of, model_of, items_of}
+use Rattle.opa_decl.specs.Cutting.{HasTokens, HaveTokens, line_of, block_of}
+use Rattle.opa_decl.specs.Declarations.{faults_of, model_of, items_of}
 use Rattle.opa_decl.specs.Laws.{OneCutting, OneModel, ModelOrFault}
 
 one_tokens : (text : List ℕ) (o p : Option (List Token)) → HasTokens text o → HasTokens text p → o ≡ p

@@ -1,6 +1,6 @@
 -- The first fault of blocks, or none.
-use Rattle.std.proofs.Common.{◌≡◌, ◌∙◌, List, [], ◌++◌, sym, ap, subst}
-use Rattle.std.specs.Prelude.{Option, None, Some, flat_map}
+use Rattle.std.proofs.Common.{◌≡◌, ◌∙◌, List, sym, ap, subst}
+use Rattle.std.specs.Prelude.{Option, flat_map}
 use Rattle.opa_tree.specs.declared.faults.RbFault.{RbFault}
 use Rattle.opa_tree.specs.FirstFaults.{first_of, first_fault, IsFirst}
 use Rattle.opa_tree.proofs.FirstFaultLaws.{first_fault_is_first_holds}

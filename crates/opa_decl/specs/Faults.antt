@@ -1,9 +1,8 @@
 -- The faults of declarations.
-use Rattle.std.specs.Prelude.{ℕ, ◌+◌, List, [], ◌∷◌, ◌++◌, map, flat_map, length, Bool, true, false, not, ◌&&◌, ◌||◌, ◌==◌, nat_lt, nat_le, Option, Some, None, slice_get, if◌then◌else◌}
+use Rattle.std.specs.Prelude.{ℕ, ◌+◌, List, [], ◌∷◌, ◌++◌, flat_map, length, Bool, false, not, ◌&&◌, ◌||◌, ◌==◌, nat_lt, nat_le, Option, Some, None, slice_get, if◌then◌else◌}
 use Rattle.std.specs.List.{list_any}
 use Rattle.std.specs.Str.{bytes_eq}
 use Rattle.opa_model.specs.declared.things.Attribute.{Attribute}
-use Rattle.opa_model.specs.declared.things.Verb.{Verb}
 use Rattle.opa_tree.specs.declared.faults.RbFault.{RbFault}
 use Rattle.opa_tree.specs.declared.faults.RbKind.{RbKind}
 use Rattle.opa_tree.specs.declared.faults.RbKind.TheVariants.{Limit, Name as Unnamed, Scope, Twice}
@@ -15,8 +14,8 @@ use Rattle.opa_decl.specs.declared.items.Sort.{Sort}
 use Rattle.opa_decl.specs.declared.items.Sort.TheVariants as sort
 use Rattle.opa_decl.specs.declared.numbered.Counts.{Counts}
 use Rattle.opa_decl.specs.declared.numbered.Numbered.{Numbered}
-use Rattle.opa_decl.specs.Names.{Tables, texts, place, is_declared, verb_name, entity_name, goal_name, screen_name, file_name, verb_in, forms, tables_of}
-use Rattle.opa_decl.specs.Numbering.{is_every, numbered, no_counts}
+use Rattle.opa_decl.specs.Names.{Tables, place, is_declared, verb_name, entity_name, goal_name, screen_name, file_name, verb_in, forms}
+use Rattle.opa_decl.specs.Numbering.{is_every}
 use Rattle.opa_decl.specs.Lists.{attribute_in}
 
 abbrev pub fault_at : RbKind → Place → RbFault

@@ -1,5 +1,5 @@
 -- What a block declares by its first word. The word counts even where a later character of its line begins no token.
-use Rattle.std.specs.Prelude.{ℕ, List, [], ◌∷◌, Bool, true, false, not, ◌||◌, Option, Some, None, codes, is_some, if◌then◌else◌}
+use Rattle.std.specs.Prelude.{ℕ, List, [], ◌∷◌, Bool, false, not, ◌||◌, Option, Some, None, codes, is_some, if◌then◌else◌}
 use Rattle.std.specs.Str.{chars}
 use Rattle.opa_words.specs.Characters.{continues_word}
 use Rattle.opa_words.specs.Phrases.{after_front}

@@ -1,6 +1,6 @@
 -- What the lines of declaration blocks say, in the words of the table of declarations.
-use Rattle.std.specs.Prelude.{ℕ, List, [], ◌∷◌, ◌++◌, length, Bool, true, false, not, ◌&&◌, ◌==◌, Option, Some, None, codes, if◌then◌else◌}
-use Rattle.std.specs.Option.{option_map, option_and_then}
+use Rattle.std.specs.Prelude.{ℕ, List, [], ◌∷◌, ◌++◌, length, Bool, false, ◌&&◌, ◌==◌, Option, Some, None, codes, if◌then◌else◌}
+use Rattle.std.specs.Option.{option_map}
 use Rattle.opa_words.specs.declared.kinds.Token.{Token}
 use Rattle.opa_words.specs.Reserved.{are_phrase, phrase_text}
 use Rattle.opa_model.specs.declared.things.Verb.{Verb}

@@ -1,5 +1,5 @@
 -- The model that items declare.
-use Rattle.std.specs.Prelude.{ℕ, ◌+◌, ◌-◌, ℤ, pos, List, [], ◌∷◌, ◌++◌, map, flat_map, Bool, true, false, Option, Some, None, if◌then◌else◌}
+use Rattle.std.specs.Prelude.{ℕ, ◌+◌, ◌-◌, pos, List, [], ◌∷◌, map, flat_map, Bool, true, false, Option, Some, None, if◌then◌else◌}
 use Rattle.opa_model.specs.declared.ids.AttrId.{AttrId}
 use Rattle.opa_model.specs.declared.ids.EntityId.{EntityId}
 use Rattle.opa_model.specs.declared.lists.Lists.{Lists}

@@ -1,6 +1,5 @@
 -- The names of declared things, in written order, and places by names.
-use Rattle.std.specs.Prelude.{ℕ, ◌+◌, List, [], ◌∷◌, ◌++◌, map, flat_map, length, Bool, true, false, Option, Some, None, unwrap_or, nat_lt, slice_get, if◌then◌else◌}
-use Rattle.std.specs.Option.{option_map}
+use Rattle.std.specs.Prelude.{ℕ, List, [], ◌∷◌, map, flat_map, length, Bool, Option, Some, None, unwrap_or, nat_lt, slice_get}
 use Rattle.opa_words.specs.Phrases.{first_position}
 use Rattle.opa_model.specs.declared.things.Verb.{Verb}
 use Rattle.opa_model.specs.declared.things.Sentence.{Sentence}
@@ -13,7 +12,6 @@ use Rattle.opa_decl.specs.declared.items.Place.{Place}
 use Rattle.opa_decl.specs.declared.items.Said.{Said}
 use Rattle.opa_decl.specs.declared.items.Sort.{Sort}
 use Rattle.opa_decl.specs.declared.items.Sort.TheVariants as sort
-use Rattle.opa_decl.specs.declared.numbered.Numbered.{Numbered}
 
 abbrev pub texts : List Name → List (List ℕ)
 texts names = map (λ n. n.text) names

@@ -1,5 +1,4 @@
-use Rattle.std.proofs.Common.{◌∙◌, sym, subst}
-use Rattle.std.specs.List.{All}
+use Rattle.std.proofs.Common.{◌∙◌, sym}
 use Rattle.std.proofs.lemmas.List.Elements.{All-push, All-same}
 use Rattle.opa_decl.specs.Cutting.{HaveTokens}
 use Rattle.opa_decl.proofs.CutBlockLaws.{one_cut_more, none_cut_more, short_here, short_later}

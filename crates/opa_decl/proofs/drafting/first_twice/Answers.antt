@@ -1,9 +1,9 @@
-use Rattle.std.proofs.Common.{◌∙◌, ap, ap₂, List, subst, sym, []}
+use Rattle.std.proofs.Common.{◌∙◌, ap, List, []}
 use Rattle.std.specs.Prelude.{flat_map}
 use Rattle.opa_model.specs.declared.things.Verb.{Verb}
 use Rattle.opa_tree.specs.FirstFaults.{first_of, first_fault}
 use Rattle.opa_decl.specs.Faults.{repeated}
-use Rattle.opa_decl.specs.Names.{forms, verb_in}
+use Rattle.opa_decl.specs.Names.{forms}
 use Rattle.opa_decl.specs.Seen.{seen}
 use Rattle.opa_decl.proofs.JudgeLaws.{twice_are}
 use Rattle.opa_decl.proofs.drafting.first_twice.Goals as goal

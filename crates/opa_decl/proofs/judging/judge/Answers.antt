@@ -1,4 +1,4 @@
-use Rattle.std.proofs.Common.{◌∙◌, subst, sym, List}
+use Rattle.std.proofs.Common.{◌∙◌, subst, List}
 use Rattle.opa_decl.specs.declared.items.Item.{Item}
 use Rattle.opa_decl.specs.Judging.{IsDraft}
 use Rattle.opa_decl.proofs.JudgeLaws.{judged_are}

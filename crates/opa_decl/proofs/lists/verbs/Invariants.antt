@@ -1,7 +1,6 @@
-use Rattle.std.proofs.Common.{◌≡◌, ◌++◌, ◌∷◌, length}
+use Rattle.std.proofs.Common.{◌≡◌, ◌++◌, length}
 use Rattle.std.specs.Prelude.{flat_map}
 use Rattle.opa_decl.specs.Names.{verb_in}
-use Rattle.opa_decl.specs.Seen.{seen}
 use Rattle.opa_decl.proofs.lists.verbs.Given as goal
 
 abbrev pub invariant-loop-item : goal.invariant-loop-item

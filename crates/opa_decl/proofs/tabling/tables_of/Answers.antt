@@ -1,4 +1,4 @@
-use Rattle.std.proofs.Common.{◌≡◌, ◌≤◌, ◌+◌, ◌∙◌, length, ap, arith}
+use Rattle.std.proofs.Common.{◌∙◌, length, ap, arith}
 use Rattle.opa_decl.specs.Names.{verb_name, entity_name, attribute_name, relation_name}
 use Rattle.opa_decl.proofs.CountLaws.{flat_map_short, verb_name-short, entity_name-short, attribute_name-short, relation_name-short}
 use Rattle.opa_decl.proofs.tabling.tables_of.Goals as goal
