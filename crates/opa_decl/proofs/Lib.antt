@@ -1,0 +1,12 @@
+pub mod QuotedLaws
+pub mod HeadLaws
+pub mod CutBlockLaws
+pub mod LimitLaws
+pub mod StepLaws
+pub mod PlaceLaws
+pub mod CountLaws
+pub mod TwiceLaws
+pub mod FoldLaws
+pub mod JudgeLaws
+pub mod OutcomeLaws
+pub mod OneReading

@@ -1,0 +1,12 @@
+use Rattle.std.proofs.Common.{◌≡◌, length}
+use Rattle.std.specs.Prelude.{flat_map}
+use Rattle.opa_tree.specs.FirstFaults.{first_of, first_fault}
+use Rattle.opa_decl.specs.Faults.{unknown_item}
+use Rattle.opa_decl.specs.Seen.{seen}
+use Rattle.opa_decl.proofs.unknown.unknown_items.Given as goal
+
+abbrev pub invariant-loop-name : goal.invariant-loop-name
+invariant-loop-name l = first_of l.first (first_fault (flat_map (unknown_item (seen l.tables)) l.rest)) ≡ first_fault (flat_map (unknown_item (seen l.tables)) l.names)
+
+abbrev pub decreases-loop-name : goal.decreases-loop-name
+decreases-loop-name l = length l.rest

@@ -1,0 +1,16 @@
+pub mod Heads
+pub mod Cutting
+pub mod Steps
+pub mod Quoted
+pub mod Pieces
+pub mod Limits
+pub mod Lines
+pub mod Spelling
+pub mod Numbering
+pub mod Names
+pub mod Lists
+pub mod Faults
+pub mod Seen
+pub mod Declarations
+pub mod Judging
+pub mod Laws
