@@ -5,3 +5,4 @@ pub mod NameLaws
 pub mod WholeLaws
 pub mod WrittenValues
 pub mod ReadBack
+pub mod SampleModels

@@ -3,3 +3,4 @@ pub mod Points
 pub mod Spelled
 pub mod Readers
 pub mod Laws
+pub mod Samples

@@ -1,24 +1,27 @@
 //! Each call on its happy path; texts and refusals as tables.
-ghost use Rattle.std.specs.Prelude.{◌≡◌, length, IfOk};
+ghost use Rattle.std.specs.Prelude.{◌≡◌, length, IfOk, codes};
 ghost use Rattle.opa_model.specs.Samples.{IsGlobalBool};
+ghost use Rattle.opa_text.specs.Samples.{IsGlobalNumber, IsGlobalList};
 
 use super::*;
 use opa_case::Question;
 use opa_cells::InstanceId;
 use opa_io::{List, NoMemory, Txt};
-use opa_model::{AttrId, Attribute, Entity, EntityId, Kind, Model, RelId, Sentence, Verb};
+use opa_model::{
+    AttrId, Attribute, Entity, EntityId, Kind, Model, RelId, Relation, Sentence, Verb,
+};
 use std::alloc::Global;
 use std::test::Fail;
 
 /// Texts of lines, each with its text as it is printed, or none where it is no line.
-const LINES: [(Kind, &str, &str); 18] = [
+const LINES: [(Kind, &str, &str); 20] = [
     (Kind::Bool, "unknown", "unknown"),
     (Kind::Bool, "uncertain", "uncertain"),
     (Kind::Number, "0.0001", "0.0001"),
     (Kind::Number, "- 0.6667", "-0.6667"),
     (Kind::Number, "10000000000000.00", "10000000000000"),
     (Kind::Currency, "750", "750.00"),
-    (Kind::Currency, "-2.5", "-2.50"),
+    (Kind::Currency, "3.33", "3.33"),
     (Kind::Words, "\"say \"\"no\"\"\"", "\"say \"\"no\"\"\""),
     (Kind::Date, "2024-02-29", "2024-02-29"),
     (
@@ -31,7 +34,17 @@ const LINES: [(Kind, &str, &str); 18] = [
         "0; from 2020-01-01 600; from 2022-07-01 800",
         "0.00; from 2020-01-01 600.00; from 2022-07-01 800.00",
     ),
-    (Kind::Bool, "true; from 2020-01-01 true", "true"),
+    (
+        Kind::Bool,
+        "false; from 2024-01-01 true; from 2024-07-01 uncertain",
+        "false; from 2024-01-01 true; from 2024-07-01 uncertain",
+    ),
+    (Kind::Bool, "true; from 2024-01-01 true", "true"),
+    (
+        Kind::Bool,
+        "true; from 2024-02-01 false; from 2024-01-01 true",
+        "no line",
+    ),
     (Kind::Bool, "false; from 2400-01-01 true", "no line"),
     (Kind::Number, "10000000000000.0001", "no line"),
     (Kind::Bool, "true; from 1600-01-01 false", "no line"),
@@ -183,6 +196,73 @@ fn small_model(alloc: Global) -> Result<Model, NoMemory>
     )
 }
 
+/// The income.
+fn income(alloc: Global) -> Result<Attribute, NoMemory>
+    ensures form { IfOk result IsGlobalNumber }
+    ensures phrase { IfOk result (λ a. a.phrase ≡ codes "the income") }
+{
+    Ok(Attribute {
+        entity: EntityId(0),
+        kind: Kind::Number,
+        phrase: Txt::from_str(alloc, "the income")?,
+        sentence: None,
+        least: 0,
+        most: 0,
+        decimals: 0,
+    })
+}
+
+/// The children, as a list that refers to nobody in particular.
+fn children(alloc: Global) -> Result<Relation, NoMemory>
+    ensures form { IfOk result IsGlobalList }
+    ensures phrase { IfOk result (λ r. r.phrase ≡ codes "the children") }
+{
+    Ok(Relation {
+        phrase: Txt::from_str(alloc, "the children")?,
+        source: EntityId(0),
+        target: EntityId(0),
+        contains: false,
+        one: false,
+        every: false,
+    })
+}
+
+/// One entity, a number and a list.
+fn listing_model(alloc: Global) -> Result<Model, NoMemory>
+    ensures attributes { IfOk result (λ m. length m.attributes ≡ 1) }
+    ensures relations { IfOk result (λ m. length m.relations ≡ 1) }
+{
+    let income = income(alloc)?;
+    let children = children(alloc)?;
+    let mut entities = List::new(alloc);
+    entities.push(global(alloc)?)?;
+    let mut attributes = List::new(alloc);
+    attributes.push(income)?;
+    let mut relations = List::new(alloc);
+    relations.push(children)?;
+    Model::from_lists(
+        alloc,
+        entities,
+        attributes,
+        relations,
+        List::new(alloc),
+        List::new(alloc),
+        List::new(alloc),
+    )
+}
+
+fn asked_number(alloc: Global) -> Result<Txt, NoMemory> {
+    let model = listing_model(alloc)?;
+    let question = Question::Attr(AttrId(0), InstanceId::global(alloc)?);
+    question_text(alloc, &model, &question)
+}
+
+fn asked_list(alloc: Global) -> Result<Txt, NoMemory> {
+    let model = listing_model(alloc)?;
+    let question = Question::Members(RelId(0), InstanceId::global(alloc)?);
+    question_text(alloc, &model, &question)
+}
+
 fn asked(alloc: Global) -> Result<Txt, NoMemory> {
     let model = small_model(alloc)?;
     let question = Question::Attr(AttrId(1), InstanceId::global(alloc)?);
@@ -192,5 +272,7 @@ fn asked(alloc: Global) -> Result<Txt, NoMemory> {
 #[test]
 fn questions(rt: HostRuntime) -> Result<(), Fail> {
     assert_eq!(rt; asked(rt.alloc())?.as_str(), "is the claimant an adult?");
+    assert_eq!(rt; asked_number(rt.alloc())?.as_str(), "what is the income?");
+    assert_eq!(rt; asked_list(rt.alloc())?.as_str(), "which are the children?");
     Ok(())
 }
