@@ -1,0 +1,3 @@
+mod FileLineLaws
+mod FileLaws
+mod LayoutLaws
