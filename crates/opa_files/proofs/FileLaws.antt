@@ -1,5 +1,5 @@
 -- Files that are taken one after another.
-use Rattle.std.proofs.Common.{◌≡◌, ℕ, ◌+◌, ◌≤◌, ◌-◌, ◌^◌, min, List, [], ◌∷◌, ◌++◌, length, false, Option, Some, None, IfSome, IfOk, IfErr, Result, Ok, Err, refl, sym, ap, ◌∙◌, append_assoc, append-nil, subst, slice_get, arith}
+use Rattle.std.proofs.Common.{◌≡◌, ℕ, ◌+◌, ◌≤◌, List, [], ◌∷◌, ◌++◌, length, false, Option, Some, None, IfSome, IfOk, IfErr, Result, Ok, Err, refl, sym, ap, ◌∙◌, append_assoc, append-nil, subst, slice_get, arith}
 use Rattle.opa_io.specs.Outside.{Files, Rose}
 use Rattle.opa_layout.specs.Lines.{rows}
 use Rattle.opa_tree.specs.declared.faults.RbKind.TheVariants.{Limit}

@@ -1,12 +1,12 @@
 -- Lines that name files.
-use Rattle.std.proofs.Common.{◌≡◌, ℕ, ◌+◌, List, [], ◌∷◌, ◌++◌, length, Bool, Option, Some, None, MatchOption, IfSome, IfOk, Result, Ok, Err, sym, ap, ◌∙◌, append_assoc, append-nil, subst}
+use Rattle.std.proofs.Common.{◌≡◌, ℕ, List, [], ◌∷◌, ◌++◌, length, Bool, Option, Some, None, MatchOption, IfSome, IfOk, Result, Ok, Err, sym, ap, ◌∙◌, append_assoc, append-nil, subst}
 use Rattle.std.specs.Str.{chars}
 use Rattle.opa_words.specs.declared.kinds.Token.{Token}
 use Rattle.opa_words.specs.Cuts.{Cuts, Stuck}
 use Rattle.opa_words.proofs.OneCut.{cut_or_stuck_holds}
 use Rattle.opa_layout.specs.Lines.{Row}
 use Rattle.opa_layout.specs.Indents.{level}
-use Rattle.opa_pieces.specs.Pieces.{Piece, pieces, word, text, IsCutInto}
+use Rattle.opa_pieces.specs.Pieces.{Piece, pieces, word, text}
 use Rattle.opa_pieces.proofs.LawsHold.{one_cutting_holds}
 use Rattle.opa_files.specs.declared.source.FileLine.{FileLine}
 use Rattle.opa_files.specs.FileLines.{NamesFile, NamesNone, AreFileLines, first_word, listed}

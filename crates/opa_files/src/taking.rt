@@ -17,13 +17,7 @@ const MOST_BYTES: u64 = 8_388_608;
 const MOST_LINES: usize = 100;
 
 /// A fault of a file that has this place and this name.
-fn unread(
-    alloc: Global,
-    file: u32,
-    line: u32,
-    kind: RbKind,
-    name: &str,
-) -> Result<Unread, NoMemory>
+fn unread(alloc: Global, file: u32, line: u32, kind: RbKind, name: &str) -> Result<Unread, NoMemory>
     ensures { IfOk result (λ u. u ≡ unread_of file line kind name.now) }
 {
     Ok(Unread {
@@ -148,13 +142,7 @@ pub fn take_files<F: Shelf>(
     let text = take_text(alloc, shelf, 0, name)?;
     let lines = file_lines(alloc, text.as_str())?;
     if let Some(line) = first_over(lines.as_slice()) {
-        return Err(TakeError::Refused(unread(
-            alloc,
-            0,
-            line,
-            RbKind::Limit,
-            name,
-        )?));
+        return Err(TakeError::Refused(unread(alloc, 0, line, RbKind::Limit, name)?));
     }
     let main = SourceFile {
         name: Txt::from_str(alloc, name)?,

@@ -1,4 +1,4 @@
-use Rattle.std.proofs.Common.{◌≡◌, ◌+◌, ◌<◌, ◌^◌, ◌∷◌, All, length, arith, ap, subst}
+use Rattle.std.proofs.Common.{◌<◌, ◌^◌, All, length, arith, ap, subst}
 use Rattle.std.proofs.lemmas.List.Elements.{All-tail}
 use Rattle.opa_files.specs.declared.source.SourceFile.{SourceFile}
 use Rattle.opa_files.specs.Layouts.{faults_from}

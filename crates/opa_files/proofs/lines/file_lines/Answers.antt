@@ -1,4 +1,4 @@
-use Rattle.std.proofs.Common.{rules, ◌≡◌, ◌+◌, ◌≤◌, ◌<◌, length, arith, ap, ◌∙◌, subst, MatchOption}
+use Rattle.std.proofs.Common.{rules, ◌+◌, ◌<◌, length, arith, ap, subst, MatchOption}
 use Rattle.opa_layout.specs.Lines.{rows, rows_from}
 use Rattle.opa_files.specs.FileLines.{NamesNone, NamesFile}
 use Rattle.opa_files.proofs.FileLineLaws.{lines_more, lines_end}

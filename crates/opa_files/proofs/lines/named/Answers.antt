@@ -1,9 +1,9 @@
-use Rattle.std.proofs.Common.{◌≡◌, length, subst, ap, ◌∙◌, arith, sym}
+use Rattle.std.proofs.Common.{◌≡◌, length, subst, ap, ◌∙◌, arith}
 use Rattle.std.specs.Str.{chars}
 use Rattle.opa_words.specs.Cuts.{IsCause}
 use Rattle.opa_layout.specs.Indents.{level}
 use Rattle.opa_pieces.specs.Pieces.{seen, pieces}
-use Rattle.opa_files.proofs.FileLineLaws.{stuck_names_none, named_as, read_as}
+use Rattle.opa_files.proofs.FileLineLaws.{stuck_names_none, read_as}
 use Rattle.opa_files.proofs.lines.named.Goals as goal
 
 pub returns-in-Err-Place : goal.returns-in-Err-Place

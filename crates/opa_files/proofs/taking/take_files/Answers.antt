@@ -1,9 +1,9 @@
-use Rattle.std.proofs.Common.{◌≡◌, ◌≤◌, [], ◌∷◌, length, IfOk, Ok, Some, IfSome, slice_get, sym, ap, ◌∙◌, subst, arith, refl, false}
+use Rattle.std.proofs.Common.{◌≡◌, ◌≤◌, [], ◌∷◌, length, IfOk, Ok, Some, IfSome, slice_get, ap, ◌∙◌, subst, false}
 use Rattle.std.proofs.lemmas.Result.{err_from_is_err_and}
 use Rattle.opa_layout.specs.Lines.{rows}
 use Rattle.opa_tree.specs.declared.faults.RbKind.TheVariants.{Limit}
 use Rattle.opa_files.specs.FileLines.{AreFileLines}
-use Rattle.opa_files.specs.Files.{text_under, files_from, with_more, source, unread}
+use Rattle.opa_files.specs.Files.{files_from, with_more, source, unread}
 use Rattle.opa_files.proofs.FileLaws.{main_fails, lines_over, failed_after, named_taken}
 use Rattle.opa_files.proofs.taking.take_files.Goals as goal
 
