@@ -1,1 +1,3 @@
 mod RuledLaws
+mod TableLaws
+mod LoadLaws

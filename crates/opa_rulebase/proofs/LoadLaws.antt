@@ -1,0 +1,87 @@
+-- What the files of a shelf open, phase by phase.
+use Rattle.std.proofs.Common.{◌≡◌, ℕ, ◌≤◌, ◌<◌, ◌^◌, List, [], ◌∷◌, length, map, All, Option, Some, None, Result, Ok, Err, IfOk, IfErr, IfSome, slice_index_or, refl, sym, ap, ◌∙◌, subst, arith}
+use Rattle.opa_io.specs.Outside.{Files}
+use Rattle.opa_model.specs.declared.lists.Lists.{Lists}
+use Rattle.opa_layout.specs.declared.block.Block.{Block}
+use Rattle.opa_tree.specs.declared.faults.RbError.{RbError}
+use Rattle.opa_tree.specs.declared.faults.RbError.TheVariants as errors
+use Rattle.opa_tree.specs.declared.faults.RbFault.{RbFault}
+use Rattle.opa_tree.specs.declared.rulebase.Rulebase.{Rulebase}
+use Rattle.opa_tree.specs.declared.rules.Inferred.{Inferred}
+use Rattle.opa_tree.specs.declared.rules.Rule.{Rule}
+use Rattle.opa_files.specs.declared.fault.TakeError.{TakeError}
+use Rattle.opa_files.specs.declared.fault.TakeError.TheVariants as take
+use Rattle.opa_files.specs.declared.source.SourceFile.{SourceFile}
+use Rattle.opa_files.specs.Files.{AreFiles, HasTakeError}
+use Rattle.opa_rulebase.specs.declared.fault.LoadError.{LoadError}
+use Rattle.opa_rulebase.specs.declared.fault.LoadError.TheVariants as load
+use Rattle.opa_rulebase.specs.declared.fault.Unaccepted.{Unaccepted}
+use Rattle.opa_rulebase.specs.declared.fault.Unaccepted.TheVariants as unaccepted
+use Rattle.opa_rulebase.specs.Tables.{AreAllRules}
+use Rattle.opa_rulebase.specs.Loading.{AreInferred, IsAccepted, IsRefused, HasRefusal, IsCircleRefusal, IsPlain, IsUntaken, IsUnacceptedAs, IsRefusedAs, IsRefusalOf, HasLoadError, IsFaultOf, Opens, phrases_of, refusal_in}
+
+-- ---- phases
+
+pub plain_refusal : (files : List SourceFile) (e : RbError) (u : Unaccepted) → IsPlain e u → ((f : RbFault) → e ≡ errors.Refused f → IsRefused files f []) → HasRefusal files u
+plain_refusal files (errors.Refused f) u p h = subst (HasRefusal files) (sym p) (h f refl)
+plain_refusal files errors.NoMemory u p h = subst (HasRefusal files) (sym p) tt
+
+module _ (files : List SourceFile) (blocks : List Block) (m : Lists) (inferences : List Inferred) (rules : List Rule) (inferred : AreInferred files blocks m inferences) (all : AreAllRules m inferences blocks files rules) where
+  pub accepted_by : (names : List (List ℕ)) (r : Result Rulebase Unaccepted) → names ≡ map (λ (f : SourceFile). f.name) files → IfOk r (λ base. base.model ≡ m) → IfOk r (λ base. base.rules ≡ rules) → IfOk r (λ base. base.files ≡ names) → IfOk r (IsAccepted files)
+  accepted_by names (Ok base) n p q s = record {
+    blocks = blocks;
+    inferences = inferences;
+    are_inferred = subst (λ x. AreInferred files blocks x inferences) (sym p) inferred;
+    are_rules = subst (λ x. AreAllRules x inferences blocks files base.rules) (sym p) (subst (AreAllRules m inferences blocks files) (sym q) all);
+    files_are = s ∙ n;
+  }
+  accepted_by names (Err u) n p q s = tt
+
+  refused_in : (u : Unaccepted) → IsCircleRefusal m rules u → HasRefusal files u
+  refused_in (unaccepted.Refused r) h = subst (IsRefused files r.fault) (sym h.1) (IsRefused.checked blocks m inferences rules inferred all h.0)
+  refused_in unaccepted.NoMemory h = tt
+
+  pub refused_by : (r : Result Rulebase Unaccepted) → IfErr r (IsCircleRefusal m rules) → IfErr r (HasRefusal files)
+  refused_by (Ok base) h = tt
+  refused_by (Err u) h = refused_in u h
+
+-- ---- shelves
+
+pub refused_as : (files : List SourceFile) (u : Unaccepted) (e : LoadError) → HasRefusal files u → IsUnacceptedAs files u e → IsRefusedAs files e
+refused_as files (unaccepted.Refused r) (load.Refused f t) h k = (r.circle, subst (λ x. IsRefused files x r.circle) (sym k.0) h, k.1 ∙ ap (λ x. refusal_in files x r.circle) (sym k.0))
+refused_as files (unaccepted.Refused r) load.ReadFault h k = absurd k
+refused_as files (unaccepted.Refused r) load.NoMemory h k = tt
+refused_as files unaccepted.NoMemory e h k = subst (IsRefusedAs files) (sym k) tt
+
+module _ (told : Option Files) (name : List ℕ) (b n : ℕ) where
+  told_of : {P Q : Files → Type 0} (o : Option Files) → IfSome o P → ((files : Files) → P files → Q files) → IfSome o Q
+  told_of None h f = tt
+  told_of (Some files) h f = f files h
+
+  pub load_untaken : (e : TakeError) (x : LoadError) → HasTakeError told (λ files u. AreFiles files name (Err u)) b n e → IsUntaken e x → HasLoadError told name b n x
+  load_untaken (take.Refused u) (load.Refused f t) h k =
+      told_of {P = λ files. AreFiles files name (Err u)} {Q = λ files. IsRefusalOf files name f t} told h (λ files a. record { opens = subst (λ x. Opens files name (Err x)) (sym k.1) (Opens.unread u a); fault_is = IsFaultOf.of_file u a (sym k.0) })
+  load_untaken (take.Refused u) load.ReadFault h k = absurd k
+  load_untaken (take.Refused u) load.NoMemory h k = tt
+  load_untaken take.ReadFault x h k = subst (HasLoadError told name b n) (sym k) h
+  load_untaken take.NoMemory x h k = subst (HasLoadError told name b n) (sym k) tt
+
+  module _ (sources : List SourceFile) (taken : IfSome told (λ files. AreFiles files name (Ok sources))) where
+    pub load_opens : (r : Result Rulebase LoadError) → IfOk r (IsAccepted sources) → IfSome told (λ files. IfOk r (λ base. Opens files name (Ok base)))
+    load_opens (Ok base) h = told_of {P = λ files. AreFiles files name (Ok sources)} {Q = λ files. Opens files name (Ok base)} told taken (λ files a. Opens.accepted sources base a h)
+    load_opens (Err x) h = told_of {P = λ files. AreFiles files name (Ok sources)} {Q = λ files. Unit {0}} told taken (λ files a. tt)
+
+    fails : (x : LoadError) → IsRefusedAs sources x → HasLoadError told name b n x
+    fails (load.Refused f t) h = told_of {P = λ files. AreFiles files name (Ok sources)} {Q = λ files. IsRefusalOf files name f t} told taken
+        (λ files a. record { opens = subst (λ x. Opens files name (Err x)) (sym h.2) (Opens.refused sources f h.0 a h.1); fault_is = IsFaultOf.of_rules sources h.0 a h.1 })
+    fails load.ReadFault h = absurd h
+    fails load.NoMemory h = tt
+
+    pub load_fails : (r : Result Rulebase LoadError) → IfErr r (IsRefusedAs sources) → IfErr r (HasLoadError told name b n)
+    load_fails (Ok base) h = tt
+    load_fails (Err x) h = fails x h
+
+-- ---- bounds
+
+pub short_texts : (files : List SourceFile) → All (λ (f : SourceFile). length f.text ≤ 8388608) files → All (λ (f : SourceFile). length f.text < 2 ^ 32) files
+short_texts files h = λ k d i. let m : length (slice_index_or files k d).text ≤ 8388608 = h k d i in omega (arith, m)
