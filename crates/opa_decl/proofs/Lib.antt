@@ -10,3 +10,14 @@ pub mod FoldLaws
 pub mod JudgeLaws
 pub mod OutcomeLaws
 pub mod OneReading
+pub mod Occurrences
+pub mod NumberedLaws
+pub mod ThingLaws
+pub mod MadeLists
+pub mod RangeLaws
+pub mod ContainmentLaws
+pub mod FormLaws
+pub mod AttributeLaws
+pub mod DeclaredModels
+pub mod SpelledItems
+pub mod DecimalLaws

@@ -29,7 +29,7 @@ mod unknown;
 mod wording;
 
 pub use cut::{CutBlock, CutLine, declaration_blocks};
-pub use declarations::read_lists;
+pub use declarations::read_declarations;
 pub use head::{Head, head_in, head_of};
 pub use items::{
     AttributeLine, Bounds, EntityLines, Item, Name, Place, Reach, RelationLine, Said, ScreenLines,

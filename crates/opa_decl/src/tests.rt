@@ -1,5 +1,5 @@
 //! Declarations: models of rule files, and refusals with their kinds and lines.
-use super::read_lists;
+use super::read_declarations;
 use opa_layout::blocks;
 use opa_tree::RbError;
 use std::alloc::Global;
@@ -13,14 +13,14 @@ fn outcome(alloc: Global, text: &str) -> Result<String, Fail> {
     let Ok(laid) = blocks(alloc, 0, text) else {
         return Ok(String::from_str(alloc, "not laid out")?);
     };
-    match read_lists(alloc, &laid) {
-        Ok(lists) => Ok(format!(in alloc;
+    match read_declarations(alloc, &laid) {
+        Ok(model) => Ok(format!(in alloc;
             "{} {} {} {} {}",
-            lists.entities.len(),
-            lists.attributes.len(),
-            lists.relations.len(),
-            lists.screens.len(),
-            lists.goals.len()
+            model.entity_count(),
+            model.attribute_count(),
+            model.relation_count(),
+            model.screen_count(),
+            model.goal_count()
         )?),
         Err(RbError::Refused(fault)) => Ok(format!(in alloc;
             "refused {} at {}",
