@@ -22,10 +22,11 @@ use Rattle.opa_decl.specs.declared.items.Sort.TheVariants as sort
 use Rattle.opa_decl.specs.declared.limits.Limits.{Limits}
 use Rattle.opa_decl.specs.Declarations.{items_of}
 use Rattle.opa_decl.specs.Limits.{whole_up_to, no_limits, bounds_of, with_least, with_most, with_decimals, number_at, signed, whole, limit, ends_or, limits}
-use Rattle.opa_decl.specs.Lines.{bool_line, number_line, bool_attribute, number_attribute, attribute, reference_line, every_line, member_of, member}
+use Rattle.opa_decl.specs.Lines.{number_line}
 use Rattle.opa_decl.specs.Pieces.{has_text, split_at, phrase}
-use Rattle.opa_decl.specs.Spelling.{place_in, inner, member_in}
+use Rattle.opa_decl.specs.Spelling.{place_in, member_in}
 use Rattle.opa_decl.proofs.AttributeLaws.{DeclaresFew}
+use Rattle.opa_decl.proofs.MemberLines.{HoldOfLines, in_member, member_tokens}
 use Rattle.opa_decl.proofs.SpelledItems.{bound, mapped, Hold, in_all_items}
 
 -- ---- bounds
@@ -109,56 +110,22 @@ module _ (bytes : List ℕ) where
 
 -- ---- lines
 
-choose : {X : Type 0} (Q : X → Type 0) (b : Bool) (x y : Option X) → ((z : X) → x ≡ Some z → Q z) → ((z : X) → y ≡ Some z → Q z) → (z : X) → cond b x y ≡ Some z → Q z
-choose Q true x y f g z h = f z h
-choose Q false x y f g z h = g z h
+line_few : (bytes : List ℕ) (at : Place) (of_global : Bool) (ts : List Token) → HoldOfLines DeclaresFew bytes at of_global ts
+line_few bytes at of_global ts = record {
+  of_bool = λ x h. tt;
+  of_number = number_few bytes 4 ts;
+  of_currency = number_few bytes 2 ts;
+  of_words = λ x h. tt;
+  of_date = λ x h. tt;
+  of_reference = λ x h. tt;
+  of_every = λ x h. tt;
+}
 
-module _ (bytes : List ℕ) (at : Place) (of_global : Bool) (t : Token) (ts : List Token) where
-  abbrev or_every : Option Item
-  or_every = cond (has_text bytes (codes "every") t) (option_map Relation (every_line bytes at of_global ts)) None
-
-  abbrev or_reference : Option Item
-  or_reference = cond (has_text bytes (codes "reference") t) (option_map Relation (reference_line bytes at of_global ts)) or_every
-
-  abbrev or_date : Option Item
-  or_date = cond (has_text bytes (codes "date") t) (option_map (attribute at of_global sort.Date) (phrase bytes ts)) or_reference
-
-  abbrev or_words : Option Item
-  or_words = cond (has_text bytes (codes "text") t) (option_map (attribute at of_global sort.Words) (phrase bytes ts)) or_date
-
-  abbrev or_currency : Option Item
-  or_currency = cond (has_text bytes (codes "currency") t) (option_map (number_attribute at of_global sort.Currency) (number_line bytes 2 ts)) or_words
-
-  abbrev or_number : Option Item
-  or_number = cond (has_text bytes (codes "number") t) (option_map (number_attribute at of_global sort.Number) (number_line bytes 4 ts)) or_currency
-
-  made_few : {A : Type 0} (f : A → Item) (o : Option A) → ((x : A) → o ≡ Some x → DeclaresFew (f x)) → (i : Item) → option_map f o ≡ Some i → DeclaresFew i
-  made_few f o few i h = let x = mapped f o i h in subst (λ (j : Item). DeclaresFew j) x.2 (few x.0 x.1)
-
-  no_item : (i : Item) → None ≡ Some i → DeclaresFew i
-  no_item i h = absurd (cc h)
-
-  line_few : (i : Item) → member_of bytes at of_global t ts ≡ Some i → DeclaresFew i
-  line_few =
-      choose DeclaresFew (has_text bytes (codes "bool") t) (option_map (bool_attribute at of_global) (bool_line bytes ts)) or_number (made_few (bool_attribute at of_global) (bool_line bytes ts) (λ x e. tt))
-      (choose DeclaresFew (has_text bytes (codes "number") t) (option_map (number_attribute at of_global sort.Number) (number_line bytes 4 ts)) or_currency (made_few (number_attribute at of_global sort.Number) (number_line bytes 4 ts) (number_few bytes 4 ts))
-      (choose DeclaresFew (has_text bytes (codes "currency") t) (option_map (number_attribute at of_global sort.Currency) (number_line bytes 2 ts)) or_words (made_few (number_attribute at of_global sort.Currency) (number_line bytes 2 ts) (number_few bytes 2 ts))
-      (choose DeclaresFew (has_text bytes (codes "text") t) (option_map (attribute at of_global sort.Words) (phrase bytes ts)) or_date (made_few (attribute at of_global sort.Words) (phrase bytes ts) (λ x e. tt))
-      (choose DeclaresFew (has_text bytes (codes "date") t) (option_map (attribute at of_global sort.Date) (phrase bytes ts)) or_reference (made_few (attribute at of_global sort.Date) (phrase bytes ts) (λ x e. tt))
-      (choose DeclaresFew (has_text bytes (codes "reference") t) (option_map Relation (reference_line bytes at of_global ts)) or_every (made_few Relation (reference_line bytes at of_global ts) (λ x e. tt))
-      (choose DeclaresFew (has_text bytes (codes "every") t) (option_map Relation (every_line bytes at of_global ts)) None (made_few Relation (every_line bytes at of_global ts) (λ x e. tt)) no_item))))))
-
-member_few : (bytes : List ℕ) (at : Place) (of_global : Bool) (ts : List Token) (i : Item) → member bytes at of_global ts ≡ Some i → DeclaresFew i
-unfolding member
-member_few bytes at of_global [] i h = absurd (cc h)
-member_few bytes at of_global (t ∷ ts) i h = line_few bytes at of_global t ts i h
-
-member_in_few : (file : ℕ) (of_global : Bool) (line : CutLine) (i : Item) → Unit {0} → member_in file of_global line ≡ Some i → DeclaresFew i
-unfolding member_in
-member_in_few file of_global line i any h =
-    let ts = bound (member line.text (place_in file line) of_global) (inner line) i h in member_few line.text (place_in file line) of_global ts.0 i ts.2
+member_few : (file : ℕ) (of_global : Bool) (line : CutLine) (i : Item) → Unit {0} → member_in file of_global line ≡ Some i → DeclaresFew i
+member_few file of_global line i any h =
+    let ts = member_tokens file of_global line i h in in_member DeclaresFew line.text (place_in file line) of_global ts.0 i (λ t more is. line_few line.text (place_in file line) of_global more) ts.2
 
 pub few_decimals : (blocks : List CutBlock) → All DeclaresFew (items_of blocks)
 few_decimals blocks =
-    let holds : Hold DeclaresFew (λ line. Unit {0}) = record { of_member = member_in_few; of_verb = λ file line v any h. tt; of_entity = λ file first second phrase above one two h k. tt; of_goal = λ goal. tt; of_screen = λ screen. tt; of_file = λ named. tt } in
+    let holds : Hold DeclaresFew (λ line. Unit {0}) = record { of_member = member_few; of_verb = λ file line v any h. tt; of_entity = λ file first second phrase above one two h k. tt; of_goal = λ goal. tt; of_screen = λ screen. tt; of_file = λ named. tt } in
     in_all_items DeclaresFew (λ line. Unit {0}) holds blocks (λ k d within j e inside. tt)

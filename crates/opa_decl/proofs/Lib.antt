@@ -21,3 +21,7 @@ pub mod AttributeLaws
 pub mod DeclaredModels
 pub mod SpelledItems
 pub mod DecimalLaws
+pub mod PhraseTexts
+pub mod MemberLines
+pub mod PhrasedItems
+pub mod ReadableModels

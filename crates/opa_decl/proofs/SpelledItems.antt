@@ -2,7 +2,7 @@
 use Rattle.std.proofs.Common.{◌≡◌, ◌∙◌, ℕ, Bool, true, false, cond, List, [], ◌∷◌, length, Option, Some, None, All, refl, sym, ap, subst}
 use Rattle.std.specs.Prelude.{flat_map, ◌==◌, if◌then◌else◌}
 use Rattle.std.specs.Option.{option_map, option_and_then}
-use Rattle.std.proofs.lemmas.Option.{cond_some}
+use Rattle.std.proofs.lemmas.Option.{cond_some, same_Some}
 use Rattle.std.proofs.lemmas.List.Elements.{All-nil, All-cons, All-head, All-tail, All-append}
 use Rattle.opa_words.specs.declared.kinds.Token.{Token}
 use Rattle.opa_model.specs.declared.things.Verb.{Verb}
@@ -37,6 +37,9 @@ module _ {A B : Type 0} (P : B → Type 0) (L : A → Type 0) (f : A → Option 
       let rest = mapped (λ (zs : List B). here.0 ∷ zs) (each f xs) ys here.2 in
       subst (λ (zs : List B). All P zs) rest.2 (All-cons P here.0 rest.0 (has x here.0 (All-head L x xs all) here.1) (each_has xs rest.0 rest.1 (All-tail L x xs all)))
 
+pub same_value : {A : Type 0} {x y : A} → Some x ≡ Some y → x ≡ y
+same_value {A} {x} {y} h = same_Some x y h
+
 -- ---- blocks
 
 pub record Hold (P : Item → Type 0) (L : CutLine → Type 0) : Type 0 where
@@ -63,6 +66,11 @@ module _ (P : Item → Type 0) (L : CutLine → Type 0) (holds : Hold P L) where
       let members = bound (λ (members : List Item). if length more.0 == 0 then Some members else None) (each (member_in file true) (line ∷ lines)) is more.2 in
       subst (λ (zs : List Item). All P zs) (cond_some (length more.0 == 0) members.0 is members.2).1 (each_has P L (member_in file true) (holds.of_member file true) (line ∷ lines) members.0 members.1 ls)
 
+  with_entity : (phrase : Name) (above : Option Name × Name) (members is : List Item) → P (item.Entity (record { phrase = phrase; parent = above.0; inside = above.1 })) → All P members
+      → Some (item.Entity (record { phrase = phrase; parent = above.0; inside = above.1 }) ∷ members) ≡ Some is → All P is
+  with_entity phrase above members is h all e =
+      subst (λ (zs : List Item). All P zs) (same_value e) (All-cons P (item.Entity (record { phrase = phrase; parent = above.0; inside = above.1 })) members h all)
+
   in_entity : (file : ℕ) (first : CutLine) (deeper : List CutLine) (is : List Item) → L first → All L deeper → entity_block file first deeper ≡ Some is → All P is
   in_entity file first [] is l ls h = absurd (cc h)
   in_entity file first (second ∷ lines) is l ls h =
@@ -70,9 +78,7 @@ module _ (P : Item → Type 0) (L : CutLine → Type 0) (holds : Hold P L) where
       let phrase = bound (λ (phrase : Name). option_and_then (λ (above : Option Name × Name). option_and_then (λ (members : List Item). Some (make phrase above members)) (each (member_in file false) lines)) (inside_in file second)) (headed_phrase file first) is h in
       let above = bound (λ (above : Option Name × Name). option_and_then (λ (members : List Item). Some (make phrase.0 above members)) (each (member_in file false) lines)) (inside_in file second) is phrase.2 in
       let members = bound (λ (members : List Item). Some (make phrase.0 above.0 members)) (each (member_in file false) lines) is above.2 in
-      let same : make phrase.0 above.0 members.0 ≡ is = cc members.2 in
-      subst (λ (zs : List Item). All P zs) same
-        (All-cons P _ members.0 (holds.of_entity file first second phrase.0 above.0 l (All-head L second lines ls) phrase.1 above.1) (each_has P L (member_in file false) (holds.of_member file false) lines members.0 members.1 (All-tail L second lines ls)))
+      with_entity phrase.0 above.0 members.0 is (holds.of_entity file first second phrase.0 above.0 l (All-head L second lines ls) phrase.1 above.1) (each_has P L (member_in file false) (holds.of_member file false) lines members.0 members.1 (All-tail L second lines ls)) members.2
 
   in_goal : (file : ℕ) (first : CutLine) (deeper : List CutLine) (is : List Item) → goal_block file first deeper ≡ Some is → All P is
   in_goal file first [] is h = let g = mapped (λ (goal : Name). item.Goal goal ∷ []) (headed_phrase file first) is h in one _ is (holds.of_goal g.0) g.2

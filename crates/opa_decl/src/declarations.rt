@@ -8,6 +8,7 @@ ghost use Rattle.opa_tree.specs.declared.faults.RbFault.{RbFault as FaultView};
 ghost use Rattle.opa_tree.specs.FirstFaults.{IsFirst};
 ghost use Rattle.opa_decl.specs.Cutting.{HaveTokens, IsShort};
 ghost use Rattle.opa_decl.specs.Declarations.{faults_of, items_of, model_of, Declares, IsFirstFault};
+ghost use Rattle.opa_decl.specs.Phrasing.{IsReadable};
 
 use crate::cut::{CutBlock, declaration_blocks};
 use crate::judging::{Judged, judge};
@@ -37,6 +38,7 @@ fn read_cut(alloc: Global, cuts: &[CutBlock]) -> Result<Lists, RbError>
     requires { All HaveTokens cuts.now }
     ensures accepted { IfOk result (λ l. (faults_of cuts.now ≡ []) × (l ≡ model_of (items_of cuts.now))) }
     ensures form { IfOk result IsModel }
+    ensures readable { IfOk result IsReadable }
     ensures refused { IfErr result (λ e. (f : FaultView) → e ≡ Refused f → IsFirst (faults_of cuts.now) (Some f)) }
 {
     let Reading { items, fault } = read(alloc, cuts)?;
@@ -55,6 +57,7 @@ fn read_lists(alloc: Global, blocks: &[Block]) -> Result<Lists, RbError>
     requires { All IsShort (lines_of blocks.now) }
     ensures accepted { IfOk result (Declares blocks.now) }
     ensures form { IfOk result IsModel }
+    ensures readable { IfOk result IsReadable }
     ensures refused { IfErr result (λ e. (fault : FaultView) → e ≡ Refused fault → IsFirstFault blocks.now fault) }
 {
     let cuts = declaration_blocks(alloc, blocks)?;
@@ -84,6 +87,7 @@ fn modelled(alloc: Global, lists: Lists) -> Result<Model, NoMemory>
 pub fn read_declarations(alloc: Global, blocks: &[Block]) -> Result<Model, RbError>
     requires { All IsShort (lines_of blocks.now) }
     ensures accepted { IfOk result (Declares blocks.now) }
+    ensures readable { IfOk result IsReadable }
     ensures refused { IfErr result (λ e. (fault : FaultView) → e ≡ Refused fault → IsFirstFault blocks.now fault) }
 {
     let lists = read_lists(alloc, blocks)?;

@@ -8,7 +8,9 @@ use Rattle.opa_tree.specs.declared.faults.RbFault.{RbFault}
 use Rattle.opa_tree.specs.FirstFaults.{IsFirst}
 use Rattle.opa_words.proofs.ResultLaws.{on_ok, on_err}
 use Rattle.opa_decl.specs.Declarations.{faults_of, items_of, model_of}
+use Rattle.opa_decl.specs.Phrasing.{IsReadable}
 use Rattle.opa_decl.proofs.DeclaredModels.{declared_by}
+use Rattle.opa_decl.proofs.ReadableModels.{readable_by}
 use Rattle.opa_decl.proofs.OutcomeLaws.{outcome}
 use Rattle.opa_decl.proofs.declarations.read_cut.Goals as goal
 
@@ -25,6 +27,14 @@ returns-clause-form c =
     on_ok (λ (l : Lists). (l ≡ judged.lists) × (c.first_of.result ≡ None)) IsModel c.decided.result
     (λ l h. declared_by cuts read.items l (outcome cuts read.items read.fault judged.fault c.first_of.result None c.in_ok-items.ensures.items c.in_ok-items.ensures.fault c.in_ok-lists.ensures.fault_is c.first_of.ensures h.1)
       c.in_ok-items.ensures.items (h.0 ∙ c.in_ok-lists.ensures.model_is) (omega arith))
+    c.decided.ensures.ok
+
+pub returns-clause-readable : goal.returns-clause-readable
+returns-clause-readable c =
+    let cuts = c.args.cuts.now in let read = c.in_ok-items.field-0 in let judged = c.in_ok-lists.field-0 in
+    on_ok (λ (l : Lists). (l ≡ judged.lists) × (c.first_of.result ≡ None)) IsReadable c.decided.result
+    (λ l h. readable_by cuts read.items l c.requires (outcome cuts read.items read.fault judged.fault c.first_of.result None c.in_ok-items.ensures.items c.in_ok-items.ensures.fault c.in_ok-lists.ensures.fault_is c.first_of.ensures h.1)
+      c.in_ok-items.ensures.items (h.0 ∙ c.in_ok-lists.ensures.model_is))
     c.decided.ensures.ok
 
 pub returns-clause-refused : goal.returns-clause-refused
