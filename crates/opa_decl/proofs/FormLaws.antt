@@ -66,10 +66,15 @@ module _ (t : Tables) (items : List Item) where
   forms_differ ok u =
       let once = at_most_once (flat_map (forms t.verbs verbs) items) ok.forms_once u in
       let parted : texts (flat_map (forms t.verbs verbs) items) ≡ flat_map (λ i. texts (attribute_name i) ++ (texts (denied_by i) ++ texts (relation_name i))) items =
-          map-flat_map (λ (n : Name). n.text) (forms t.verbs verbs) items ∙ flat_map-same (λ (i : Item). texts (forms t.verbs verbs i)) (λ (i : Item). texts (attribute_name i) ++ (texts (denied_by i) ++ texts (relation_name i))) parts_of_form items in
+      map-flat_map (λ (n : Name). n.text) (forms t.verbs verbs) items ∙ flat_map-same (λ (i : Item). texts (forms t.verbs verbs i)) (λ (i : Item). texts (attribute_name i) ++ (texts (denied_by i) ++ texts (relation_name i))) parts_of_form items in
       let same : occurs u (texts (flat_map (forms t.verbs verbs) items)) ≡ occurs u (flat_map (λ i. texts (attribute_name i) ++ (texts (denied_by i) ++ texts (relation_name i))) items) = ap (occurs u) parted in
-      omega (arith, once, same, occurs-parts (λ (i : Item). texts (attribute_name i)) (λ (i : Item). texts (denied_by i) ++ texts (relation_name i)) u items,
-        occurs-parts (λ (i : Item). texts (denied_by i)) (λ (i : Item). texts (relation_name i)) u items)
+      omega (
+        arith,
+        once,
+        same,
+        occurs-parts (λ (i : Item). texts (attribute_name i)) (λ (i : Item). texts (denied_by i) ++ texts (relation_name i)) u items,
+        occurs-parts (λ (i : Item). texts (denied_by i)) (λ (i : Item). texts (relation_name i)) u items,
+      )
 
   pub attributes_texts : attribute_phrases (made t items) ≡ attribute_texts
   attributes_texts = attribute_phrases_are t no_counts items ∙ map-flat_map (λ (n : Name). n.text) attribute_name items
@@ -145,6 +150,6 @@ module _ (t : Tables) where
   items_apart items named ok =
       let ns : List Numbered = numbered no_counts items in
       let known : All IsKnown (flat_map screen_name items) =
-          All-same IsKnown (flat_map screen_name items) (flat_map (λ (n : Numbered). screen_name n.item) ns) (sym (whatever_number screen_name no_counts items))
-          (all_flat IsKnown (λ (n : Numbered). screen_name n.item) ns (each_of (λ (n : Numbered). All IsKnown (screen_name n.item)) ns (λ n at. names_known n.before n.item (known_at t items named ok n at)))) in
+      All-same IsKnown (flat_map screen_name items) (flat_map (λ (n : Numbered). screen_name n.item) ns) (sym (whatever_number screen_name no_counts items))
+      (all_flat IsKnown (λ (n : Numbered). screen_name n.item) ns (each_of (λ (n : Numbered). All IsKnown (screen_name n.item)) ns (λ n at. names_known n.before n.item (known_at t items named ok n at)))) in
       subst (λ (x : List Shown). AllPairs (λ i j. i ≢ j) x) (sym (all_items items)) (names_apart (flat_map screen_name items) known (at_most_once (flat_map screen_name items) ok.shown_once))

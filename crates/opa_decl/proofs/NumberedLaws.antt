@@ -96,7 +96,7 @@ module _ {A : Type 0} (f : Numbered → List A) (count : Counts → ℕ) (counts
   comes_from short c (i ∷ is) k x h =
       let first : Numbered = record { before = c; item = i } in
       ⊎_elim
-        (λ (here : slice_get (f first) k ≡ Some x). let only = the_only (f first) k x (short first) here in (first, (0, omega arith, refl), only.1, omega (arith, only.0)))
-        (λ (there : (j : ℕ) × (k ≡ length (f first) + j) × (slice_get (flat_map f (numbered (counts_after c i) is)) j ≡ Some x)).
-            let rest = comes_from short (counts_after c i) is there.0 x there.2 in (rest.0, (suc rest.1.0, omega (arith, rest.1.1), rest.1.2), rest.2, omega (arith, rest.3, there.1, counts c i)))
-        (slice_get-cases (f first) (flat_map f (numbered (counts_after c i) is)) k x h)
+      (λ (here : slice_get (f first) k ≡ Some x). let only = the_only (f first) k x (short first) here in (first, (0, omega arith, refl), only.1, omega (arith, only.0)))
+      (λ (there : (j : ℕ) × (k ≡ length (f first) + j) × (slice_get (flat_map f (numbered (counts_after c i) is)) j ≡ Some x)).
+      let rest = comes_from short (counts_after c i) is there.0 x there.2 in (rest.0, (suc rest.1.0, omega (arith, rest.1.1), rest.1.2), rest.2, omega (arith, rest.3, there.1, counts c i)))
+      (slice_get-cases (f first) (flat_map f (numbered (counts_after c i) is)) k x h)

@@ -149,22 +149,22 @@ module _ (t : Tables) (items : List Item) (named : AreNamed t items) (ok : AreFa
   parents_in =
       All-cons (λ (e : Entity). e.parent.0 < all_entities) global_entity (flat_map (entity_in t) ns) (omega arith)
       (all_flat (λ (e : Entity). e.parent.0 < all_entities) (entity_in t) ns (each_of (λ (n : Numbered). All (λ (e : Entity). e.parent.0 < all_entities) (entity_in t n)) ns
-        (λ n at. let w = entities_within n at in parent_in t n n.item all_entities (known_at n at) w.0 (omega (arith, w.1)))))
+      (λ n at. let w = entities_within n at in parent_in t n n.item all_entities (known_at n at) w.0 (omega (arith, w.1)))))
 
   owners_in : All (λ a. HasEntity (made t items) a.entity) (attributes t items)
   owners_in =
       all_flat (λ (a : Attribute). a.entity.0 < all_entities) (attribute_in t) ns (each_of (λ (n : Numbered). All (λ (a : Attribute). a.entity.0 < all_entities) (attribute_in t n)) ns
-        (λ n at. let w = entities_within n at in owner_in t n n.item all_entities (omega (arith, w.1)) (omega (arith, w.0, w.1))))
+      (λ n at. let w = entities_within n at in owner_in t n n.item all_entities (omega (arith, w.1)) (omega (arith, w.0, w.1))))
 
   sentences_in : All (λ a. IfSome a.sentence (HasVerb (made t items))) (attributes t items)
   sentences_in =
       all_flat (SaysWithin t (length (flat_map verb_in items))) (attribute_in t) ns (each_of (λ (n : Numbered). All (SaysWithin t (length (flat_map verb_in items))) (attribute_in t n)) ns
-        (λ n at. verb_within t n n.item (length (flat_map verb_in items)) (known_at n at) (verbs_within n at)))
+      (λ n at. verb_within t n n.item (length (flat_map verb_in items)) (known_at n at) (verbs_within n at)))
 
   relations_in : All (LeadsWithin t all_entities) (relations t items)
   relations_in =
       all_flat (LeadsWithin t all_entities) (relation_in t) ns (each_of (λ (n : Numbered). All (LeadsWithin t all_entities) (relation_in t n)) ns
-        (λ n at. let w = entities_within n at in ends_in t n n.item all_entities (known_at n at) w.0 w.1 all_named))
+      (λ n at. let w = entities_within n at in ends_in t n n.item all_entities (known_at n at) w.0 w.1 all_named))
 
   attributes_within : length t.attributes ≡ length (attributes t items)
   attributes_within = ap length named.attributes_are ∙ sym (attributes_named t no_counts items)
@@ -187,7 +187,7 @@ module _ (t : Tables) (items : List Item) (named : AreNamed t items) (ok : AreFa
   goals_of_global =
       All-map (λ (id : AttrId). IfSome (attribute_at (made t items) id) (λ a. a.entity.0 ≡ 0)) (goal_by t) (flat_map goal_name items)
       (All-weaker (λ (g : Name). scope_faults t (attributes t items) g ≡ []) (λ (g : Name). IfSome (attribute_at (made t items) (goal_by t g)) (λ a. a.entity.0 ≡ 0))
-        (λ g h. of_global t (slice_get (attributes t items) (place t.attributes g.text)) (not_when (is_of_another (slice_get (attributes t items) (place t.attributes g.text))) Scope g.place h)) (flat_map goal_name items) ok.scoped)
+      (λ g h. of_global t (slice_get (attributes t items) (place t.attributes g.text)) (not_when (is_of_another (slice_get (attributes t items) (place t.attributes g.text))) Scope g.place h)) (flat_map goal_name items) ok.scoped)
 
   -- ---- what stands on screens
 

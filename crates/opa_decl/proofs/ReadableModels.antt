@@ -140,9 +140,9 @@ module _ (t : Tables) (items : List Item) where
   all_differ : AreFaultless t items → AllPairs (λ p q. p ≢ q) (operand_phrases m ++ relation_phrases m)
   all_differ ok =
       differ_once (operand_phrases m ++ relation_phrases m) (λ u.
-        let operands : occurs u (operand_phrases m) ≡ occurs u (flat_map (λ i. texts (attribute_name i) ++ texts (denied_by t items i)) items) = ap (occurs u) operands_are in
-        let related : occurs u (relation_phrases m) ≡ occurs u (relation_texts t items) = ap (occurs u) (relations_texts t items) in
-        omega (arith, forms_differ t items ok u, operands, related, occurs-append u (operand_phrases m) (relation_phrases m), occurs-parts (λ (i : Item). texts (attribute_name i)) (λ (i : Item). texts (denied_by t items i)) u items))
+      let operands : occurs u (operand_phrases m) ≡ occurs u (flat_map (λ i. texts (attribute_name i) ++ texts (denied_by t items i)) items) = ap (occurs u) operands_are in
+      let related : occurs u (relation_phrases m) ≡ occurs u (relation_texts t items) = ap (occurs u) (relations_texts t items) in
+      omega (arith, forms_differ t items ok u, operands, related, occurs-append u (operand_phrases m) (relation_phrases m), occurs-parts (λ (i : Item). texts (attribute_name i)) (λ (i : Item). texts (denied_by t items i)) u items))
 
   pub made_readable : AreFaultless t items → All IsPhrased items → IsReadable m
   made_readable ok h =
@@ -150,11 +150,11 @@ module _ (t : Tables) (items : List Item) where
       let said : All (λ (v : Verb). IsSaidFully v.negative) verbs = all_flat (λ (v : Verb). IsSaidFully v.negative) verb_in items (All-weaker IsPhrased (λ (i : Item). All (λ (v : Verb). IsSaidFully v.negative) (verb_in i)) verb_worded items h) in
       record {
         attributes = All-map IsPhrase (λ (a : Attribute). a.phrase) (attributes t items)
-          (all_flat (λ (a : Attribute). IsPhrase a.phrase) (attribute_in t) ns (All-weaker (λ (n : Numbered). IsPhrased n.item) (λ (n : Numbered). All (λ (a : Attribute). IsPhrase a.phrase) (attribute_in t n)) (λ n k. attribute_phrased n n.item k) ns phrased));
+            (all_flat (λ (a : Attribute). IsPhrase a.phrase) (attribute_in t) ns (All-weaker (λ (n : Numbered). IsPhrased n.item) (λ (n : Numbered). All (λ (a : Attribute). IsPhrase a.phrase) (attribute_in t n)) (λ n k. attribute_phrased n n.item k) ns phrased));
         relations = All-map IsPhrase (λ (r : Relation). r.phrase) (relations t items)
-          (all_flat (λ (r : Relation). IsPhrase r.phrase) (relation_in t) ns (All-weaker (λ (n : Numbered). IsPhrased n.item) (λ (n : Numbered). All (λ (r : Relation). IsPhrase r.phrase) (relation_in t n)) (λ n k. relation_phrased n n.item k) ns phrased));
+            (all_flat (λ (r : Relation). IsPhrase r.phrase) (relation_in t) ns (All-weaker (λ (n : Numbered). IsPhrased n.item) (λ (n : Numbered). All (λ (r : Relation). IsPhrase r.phrase) (relation_in t n)) (λ n k. relation_phrased n n.item k) ns phrased));
         denied = all_flat IsWorded (denials m) (attributes t items)
-          (all_flat IsDenied (attribute_in t) ns (All-weaker (λ (n : Numbered). IsPhrased n.item) (λ (n : Numbered). All IsDenied (attribute_in t n)) (λ n k. denied_here n n.item said k) ns phrased));
+            (all_flat IsDenied (attribute_in t) ns (All-weaker (λ (n : Numbered). IsPhrased n.item) (λ (n : Numbered). All IsDenied (attribute_in t n)) (λ n k. denied_here n n.item said k) ns phrased));
         differ = all_differ ok;
       }
 

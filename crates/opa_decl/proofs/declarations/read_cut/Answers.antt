@@ -26,7 +26,7 @@ returns-clause-form c =
     let cuts = c.args.cuts.now in let read = c.in_ok-items.field-0 in let judged = c.in_ok-lists.field-0 in
     on_ok (λ (l : Lists). (l ≡ judged.lists) × (c.first_of.result ≡ None)) IsModel c.decided.result
     (λ l h. declared_by cuts read.items l (outcome cuts read.items read.fault judged.fault c.first_of.result None c.in_ok-items.ensures.items c.in_ok-items.ensures.fault c.in_ok-lists.ensures.fault_is c.first_of.ensures h.1)
-      c.in_ok-items.ensures.items (h.0 ∙ c.in_ok-lists.ensures.model_is) (omega arith))
+    c.in_ok-items.ensures.items (h.0 ∙ c.in_ok-lists.ensures.model_is) (omega arith))
     c.decided.ensures.ok
 
 pub returns-clause-readable : goal.returns-clause-readable
@@ -34,7 +34,7 @@ returns-clause-readable c =
     let cuts = c.args.cuts.now in let read = c.in_ok-items.field-0 in let judged = c.in_ok-lists.field-0 in
     on_ok (λ (l : Lists). (l ≡ judged.lists) × (c.first_of.result ≡ None)) IsReadable c.decided.result
     (λ l h. readable_by cuts read.items l c.requires (outcome cuts read.items read.fault judged.fault c.first_of.result None c.in_ok-items.ensures.items c.in_ok-items.ensures.fault c.in_ok-lists.ensures.fault_is c.first_of.ensures h.1)
-      c.in_ok-items.ensures.items (h.0 ∙ c.in_ok-lists.ensures.model_is))
+    c.in_ok-items.ensures.items (h.0 ∙ c.in_ok-lists.ensures.model_is))
     c.decided.ensures.ok
 
 pub returns-clause-refused : goal.returns-clause-refused
