@@ -3,7 +3,7 @@ use Rattle.std.proofs.Common.{◌≡◌, ◌∙◌, Bool, true, false, cond, Lis
 use Rattle.std.specs.Prelude.{filter}
 use Rattle.std.specs.List.{All}
 use Rattle.std.proofs.lemmas.List.{map-append}
-use Rattle.std.proofs.lemmas.List.Elements.{All-tail, All-head, All-nil, All-cons}
+use Rattle.std.proofs.lemmas.List.Elements.{All-tail, All-head, All-nil, All-cons, All-append}
 use Rattle.opa_layout.specs.declared.block.Block.{Block}
 use Rattle.opa_layout.specs.declared.block.BlockLine.{BlockLine}
 use Rattle.opa_layout.specs.Blocks.{lines_of}
@@ -40,3 +40,9 @@ short_here block rest later r h = all_left IsShort block.lines (lines_of later) 
 
 pub short_later : (block : Block) (rest later : List Block) → rest ≡ block ∷ later → All IsShort (lines_of rest) → All IsShort (lines_of later)
 short_later block rest later r h = all_right IsShort block.lines (lines_of later) (subst (λ (x : List Block). All IsShort (lines_of x)) r h)
+
+-- the blocks of two files
+pub short_both : (xs ys : List Block) → All IsShort (lines_of xs) → All IsShort (lines_of ys) → All IsShort (lines_of (xs ++ ys))
+short_both [] ys h k = k
+short_both (x ∷ xs) ys h k =
+    All-append IsShort x.lines (lines_of (xs ++ ys)) (all_left IsShort x.lines (lines_of xs) h) (short_both xs ys (all_right IsShort x.lines (lines_of xs) h) k)

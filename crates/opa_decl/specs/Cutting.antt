@@ -1,7 +1,7 @@
 -- Declaration blocks with the tokens of their lines.
 use Rattle.std.specs.Prelude.{◌≡◌, ◌<◌, ◌^◌, ℕ, List, length, map, filter, Option, Some, None}
 use Rattle.std.specs.List.{All}
-use Rattle.std.specs.Str.{chars}
+use Rattle.std.specs.Str.{chars, IsUtf8}
 use Rattle.opa_words.specs.declared.kinds.Token.{Token}
 use Rattle.opa_words.specs.Cuts.{Cuts, Stuck}
 use Rattle.opa_words.specs.Places.{IsWithin, IsOfKind}
@@ -13,6 +13,7 @@ use Rattle.opa_decl.specs.Heads.{is_declaration}
 
 -- The text is cut into these tokens, which are what their kinds say.
 pub record AreTokens (text : List ℕ) (ts : List Token) : Type 0 where
+  pub utf8 : IsUtf8 text
   pub cut : Cuts (length text) (chars text) ts
   pub within : All (IsWithin text) ts
   pub kinds : All (IsOfKind text) ts

@@ -14,3 +14,4 @@ pub mod Seen
 pub mod Declarations
 pub mod Judging
 pub mod Laws
+pub mod Phrasing

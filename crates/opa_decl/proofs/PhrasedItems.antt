@@ -1,0 +1,271 @@
+-- Items have phrases that are phrases, and sentences that are made of Words and Numbers.
+use Rattle.std.proofs.Common.{◌≡◌, ◌+◌, ◌<◌, ℕ, Bool, true, false, not, cond, ◌&&◌, List, [], ◌∷◌, ◌++◌, length, take, drop, position, Option, Some, None, All, refl, sym, ap, subst, arith}
+use Rattle.std.specs.Prelude.{◌==◌, codes, if◌then◌else◌}
+use Rattle.std.specs.List.{list_all}
+use Rattle.std.specs.Option.{option_map, option_and_then}
+use Rattle.std.proofs.lemmas.Bool.{and_parts, and_from, not-true, eqb-false}
+use Rattle.std.proofs.lemmas.Option.{cond_some}
+use Rattle.std.proofs.lemmas.List.{length-map}
+use Rattle.std.proofs.lemmas.List.Elements.{All-tail, All-take, All-drop, All-append}
+use Rattle.opa_model.specs.declared.things.Verb.{Verb}
+use Rattle.opa_words.specs.declared.kinds.Token.{Token}
+use Rattle.opa_words.specs.declared.kinds.TokenKind.{TokenKind}
+use Rattle.opa_words.specs.declared.kinds.TokenKind.TheVariants as kind
+use Rattle.opa_words.specs.Places.{IsWithin, IsOfKind}
+use Rattle.opa_words.specs.Reserved.{are_phrase, begins_well, ends_badly, is_phrase_kind, is_word_kind, phrase_text}
+use Rattle.opa_pieces.specs.Pieces.{piece, pieces}
+use Rattle.opa_decl.specs.declared.cut.CutBlock.{CutBlock}
+use Rattle.opa_decl.specs.declared.cut.CutLine.{CutLine}
+use Rattle.opa_decl.specs.declared.items.Bounds.{Bounds}
+use Rattle.opa_decl.specs.declared.items.Item.{Item}
+use Rattle.opa_decl.specs.declared.items.Item.TheVariants as item
+use Rattle.opa_decl.specs.declared.items.Name.{Name}
+use Rattle.opa_decl.specs.declared.items.Place.{Place}
+use Rattle.opa_decl.specs.declared.items.Reach.{Reach}
+use Rattle.opa_decl.specs.declared.items.RelationLine.{RelationLine}
+use Rattle.opa_decl.specs.declared.items.Reach.TheVariants as reach
+use Rattle.opa_decl.specs.declared.items.Said.{Said}
+use Rattle.opa_decl.specs.declared.items.Sort.{Sort}
+use Rattle.opa_decl.specs.declared.items.Sort.TheVariants as sort
+use Rattle.opa_decl.specs.declared.limits.Limits.{Limits}
+use Rattle.opa_decl.specs.Cutting.{HasTokens, HaveTokens}
+use Rattle.opa_decl.specs.Declarations.{items_of}
+use Rattle.opa_decl.specs.Limits.{limits, no_limits, bounds_of}
+use Rattle.opa_decl.specs.Lines.{name, verb_line, words_or_none, said_by, bool_line, number_line, target, reference_line, every_line, parent, inside_line}
+use Rattle.opa_decl.specs.Phrasing.{IsPhrase}
+use Rattle.opa_decl.specs.Pieces.{has_text, split_at, phrase, words, are_words}
+use Rattle.opa_decl.specs.Spelling.{place_in, inner, behind_first, behind_head, member_in, headed_verb, headed_phrase, inside_in}
+use Rattle.opa_decl.proofs.MemberLines.{HoldOfLines, in_member, member_tokens}
+use Rattle.opa_decl.proofs.PhraseTexts.{AreOf, IsSaid, IsSaidFully, spoken_tokens, phrase_joined, phrase_again}
+use Rattle.opa_decl.proofs.SpelledItems.{bound, mapped, same_value, Hold, in_all_items}
+
+-- what a bool says
+abbrev pub SaysWell : Sort → Type 0
+SaysWell (sort.Bool said) = IsSaidFully said.subject × IsSaid said.rest
+SaysWell (sort.Number b) = Unit {0}
+SaysWell (sort.Currency b) = Unit {0}
+SaysWell sort.Words = Unit {0}
+SaysWell sort.Date = Unit {0}
+
+abbrev pub IsPhrased : Item → Type 0
+IsPhrased (item.Verb v) = IsSaidFully v.verb.negative
+IsPhrased (item.Entity e) = IsPhrase e.inside.text
+IsPhrased (item.Attribute a) = IsPhrase a.phrase.text × SaysWell a.sort
+IsPhrased (item.Relation r) = IsPhrase r.phrase.text
+IsPhrased (item.Goal g) = Unit {0}
+IsPhrased (item.Screen s) = Unit {0}
+IsPhrased (item.File f) = Unit {0}
+
+-- ---- tokens of a line
+
+module _ (bytes : List ℕ) where
+  front_of : (n : ℕ) (ts : List Token) → AreOf bytes ts → AreOf bytes (take n ts)
+  front_of n ts are = record { utf8 = are.utf8; within = All-take (IsWithin bytes) n ts are.within; kinds = All-take (IsOfKind bytes) n ts are.kinds }
+
+  back_of : (n : ℕ) (ts : List Token) → AreOf bytes ts → AreOf bytes (drop n ts)
+  back_of n ts are = record { utf8 = are.utf8; within = All-drop (IsWithin bytes) n ts are.within; kinds = All-drop (IsOfKind bytes) n ts are.kinds }
+
+  rest_of : (t : Token) (ts : List Token) → AreOf bytes (t ∷ ts) → AreOf bytes ts
+  rest_of t ts are = record { utf8 = are.utf8; within = All-tail (IsWithin bytes) t ts are.within; kinds = All-tail (IsOfKind bytes) t ts are.kinds }
+
+  both_of : (ts us : List Token) → AreOf bytes ts → AreOf bytes us → AreOf bytes (ts ++ us)
+  both_of ts us a b = record { utf8 = a.utf8; within = All-append (IsWithin bytes) ts us a.within b.within; kinds = All-append (IsOfKind bytes) ts us a.kinds b.kinds }
+
+  abbrev BothAreOf : List Token × List Token → Type 0
+  BothAreOf x = AreOf bytes x.0 × AreOf bytes x.1
+
+  split_of : (mark : List ℕ) (ts : List Token) (x : List Token × List Token) → AreOf bytes ts → split_at bytes mark ts ≡ Some x → BothAreOf x
+  unfolding split_at
+  split_of mark ts x are h =
+      let i = mapped (λ (i : ℕ). let y : List Token × List Token = (take i ts, drop (i + 1) ts) in y) (position (has_text bytes mark) ts) x h in
+      subst BothAreOf i.2 (front_of i.0 ts are, back_of (i.0 + 1) ts are)
+
+  -- ---- phrases and words
+
+  phrase_of : (ts : List Token) (text : List ℕ) → AreOf bytes ts → phrase bytes ts ≡ Some text → IsPhrase text
+  unfolding phrase
+  phrase_of ts text are h = let p = cond_some (are_phrase bytes ts) (phrase_text bytes ts) text h in subst IsPhrase p.1 (phrase_again bytes ts are p.0)
+
+  said_of : (ts : List Token) → AreOf bytes ts → list_all (λ t. is_phrase_kind t.kind) ts ≡ true → IsSaid (phrase_text bytes ts)
+  said_of ts are h = record { pieces = pieces bytes ts; spoken = spoken_tokens bytes ts are h; text_is = phrase_joined bytes ts }
+
+  fully_of : (ts : List Token) → AreOf bytes ts → list_all (λ t. is_phrase_kind t.kind) ts ≡ true → (length ts == 0) ≡ false → IsSaidFully (phrase_text bytes ts)
+  unfolding said_of
+  fully_of ts are h some = record { said = said_of ts are h; some = grind (arith, length-map ts (piece bytes), some) }
+
+  word_kind : (k : TokenKind) → is_word_kind k ≡ true → is_phrase_kind k ≡ true
+  word_kind kind.Word h = refl
+  word_kind kind.Number h = refl
+  word_kind kind.Date h = absurd (cc h)
+  word_kind kind.Text h = absurd (cc h)
+  word_kind kind.Symbol h = absurd (cc h)
+
+  word_kinds : (ts : List Token) → list_all (λ t. is_word_kind t.kind) ts ≡ true → list_all (λ t. is_phrase_kind t.kind) ts ≡ true
+  word_kinds [] h = refl
+  word_kinds (t ∷ ts) h =
+      let p = and_parts (is_word_kind t.kind) (list_all (λ (u : Token). is_word_kind u.kind) ts) h in
+      and_from (is_phrase_kind t.kind) (list_all (λ (u : Token). is_phrase_kind u.kind) ts) (word_kind t.kind p.0) (word_kinds ts p.1)
+
+  words_of : (ts : List Token) (text : List ℕ) → AreOf bytes ts → words bytes ts ≡ Some text → IsSaidFully text
+  unfolding words
+  words_of ts text are h =
+      let w = cond_some (are_words ts) (phrase_text bytes ts) text h in
+      let p = and_parts (not (length ts == 0)) (list_all (λ (t : Token). is_word_kind t.kind) ts) w.0 in
+      subst IsSaidFully w.1 (fully_of ts are (word_kinds ts p.1) (not-true (length ts == 0) p.0))
+
+  kinds_parts : (ts us : List Token) → list_all (λ t. is_phrase_kind t.kind) (ts ++ us) ≡ true → (list_all (λ t. is_phrase_kind t.kind) ts ≡ true) × (list_all (λ t. is_phrase_kind t.kind) us ≡ true)
+  kinds_parts [] us h = (refl, h)
+  kinds_parts (t ∷ ts) us h =
+      let p = and_parts (is_phrase_kind t.kind) (list_all (λ (u : Token). is_phrase_kind u.kind) (ts ++ us)) h in
+      let q = kinds_parts ts us p.1 in (and_from (is_phrase_kind t.kind) (list_all (λ (u : Token). is_phrase_kind u.kind) ts) p.0 q.0, q.1)
+
+  phrase_kinds : (ts : List Token) (text : List ℕ) → phrase bytes ts ≡ Some text → list_all (λ t. is_phrase_kind t.kind) ts ≡ true
+  unfolding phrase
+  phrase_kinds ts text h =
+      let p = cond_some (are_phrase bytes ts) (phrase_text bytes ts) text h in
+      let most = and_parts (begins_well bytes ts && list_all (λ (t : Token). is_phrase_kind t.kind) ts) (not (ends_badly bytes ts)) p.0 in
+      (and_parts (begins_well bytes ts) (list_all (λ (t : Token). is_phrase_kind t.kind) ts) most.0).1
+
+  -- ---- lines
+
+  abbrev IsBoolSaid : List ℕ × Said → Type 0
+  IsBoolSaid x = IsPhrase x.0 × (IsSaidFully x.1.subject × IsSaid x.1.rest)
+
+  said_by_of : (subject positive rest : List Token) (x : List ℕ × Said) → AreOf bytes subject → AreOf bytes positive → AreOf bytes rest → said_by bytes subject positive rest ≡ Some x → IsBoolSaid x
+  said_by_of subject positive rest x s p r h =
+      let make : List ℕ → List ℕ → Option (List ℕ × Said) = λ whole pos. cond (length subject == 0) None (Some (whole, record { subject = phrase_text bytes subject; positive = pos; rest = phrase_text bytes rest })) in
+      let whole = bound (λ (whole : List ℕ). option_and_then (make whole) (words bytes positive)) (phrase bytes (subject ++ (positive ++ rest))) x h in
+      let pos = bound (make whole.0) (words bytes positive) x whole.2 in
+      let kinds = kinds_parts subject (positive ++ rest) (phrase_kinds (subject ++ (positive ++ rest)) whole.0 whole.1) in
+      by whole.0 pos.0 (phrase_of (subject ++ (positive ++ rest)) whole.0 (both_of subject (positive ++ rest) s (both_of positive rest p r)) whole.1) kinds.0 (kinds_parts positive rest kinds.1).1 (length subject == 0) refl pos.2
+    where
+      by : (whole pos : List ℕ) → IsPhrase whole → list_all (λ t. is_phrase_kind t.kind) subject ≡ true → list_all (λ t. is_phrase_kind t.kind) rest ≡ true → (b : Bool) → (length subject == 0) ≡ b
+          → cond b None (Some (whole, record { subject = phrase_text bytes subject; positive = pos; rest = phrase_text bytes rest })) ≡ Some x → IsBoolSaid x
+      by whole pos is a b true e k = absurd (cc k)
+      by whole pos is a b false e k = subst IsBoolSaid (same_value k) (is, (fully_of subject s a e, said_of rest r b))
+
+  bool_of : (ts : List Token) (x : List ℕ × Said) → AreOf bytes ts → bool_line bytes ts ≡ Some x → IsBoolSaid x
+  unfolding bool_line
+  bool_of ts x are h =
+      let subject = bound (λ (subject : List Token × List Token). option_and_then (λ (positive : List Token × List Token). said_by bytes subject.0 positive.0 positive.1) (split_at bytes (codes "]") subject.1)) (split_at bytes (codes "[") ts) x h in
+      let positive = bound (λ (positive : List Token × List Token). said_by bytes subject.0.0 positive.0 positive.1) (split_at bytes (codes "]") subject.0.1) x subject.2 in
+      let s = split_of (codes "[") ts subject.0 are subject.1 in
+      let p = split_of (codes "]") subject.0.1 positive.0 s.1 positive.1 in
+      said_by_of subject.0.0 positive.0.0 positive.0.1 x s.0 p.0 p.1 positive.2
+
+  number_of : (most : ℕ) (ts : List Token) (x : List ℕ × Bounds) → AreOf bytes ts → number_line bytes most ts ≡ Some x → IsPhrase x.0
+  unfolding number_line
+  number_of most ts x are h = go (are_phrase bytes ts) refl h
+    where
+      go : (b : Bool) → are_phrase bytes ts ≡ b → cond b (Some (phrase_text bytes ts, bounds_of most no_limits)) (option_and_then (λ (parts : List Token × List Token). option_and_then (λ (text : List ℕ). option_and_then (λ (found : Limits). Some (text, bounds_of most found)) (limits bytes 3 most no_limits parts.1)) (phrase bytes parts.0)) (split_at bytes (codes ":") ts)) ≡ Some x
+          → IsPhrase x.0
+      go true e k = subst (λ (y : List ℕ × Bounds). IsPhrase y.0) (same_value k) (phrase_again bytes ts are e)
+      go false e k =
+          let parts = bound (λ (parts : List Token × List Token). option_and_then (λ (text : List ℕ). option_and_then (λ (found : Limits). Some (text, bounds_of most found)) (limits bytes 3 most no_limits parts.1)) (phrase bytes parts.0)) (split_at bytes (codes ":") ts) x k in
+          let text = bound (λ (text : List ℕ). option_and_then (λ (found : Limits). Some (text, bounds_of most found)) (limits bytes 3 most no_limits parts.0.1)) (phrase bytes parts.0.0) x parts.2 in
+          let found = bound (λ (found : Limits). Some (text.0, bounds_of most found)) (limits bytes 3 most no_limits parts.0.1) x text.2 in
+          subst (λ (y : List ℕ × Bounds). IsPhrase y.0) (same_value found.2) (phrase_of parts.0.0 text.0 (split_of (codes ":") ts parts.0 are parts.1).0 text.1)
+
+  reference_of : (at : Place) (of_global : Bool) (ts : List Token) (x : RelationLine) → AreOf bytes ts → reference_line bytes at of_global ts ≡ Some x → IsPhrase x.phrase.text
+  unfolding reference_line
+  reference_of at of_global ts x are h =
+      let make : List ℕ → Reach × List ℕ → RelationLine = λ text entity. record { of_global = of_global; phrase = name at text; target = name at entity.1; reach = entity.0 } in
+      let parts = bound (λ (parts : List Token × List Token). option_and_then (λ (text : List ℕ). option_and_then (λ (entity : Reach × List ℕ). Some (make text entity)) (target bytes parts.1)) (phrase bytes parts.0)) (split_at bytes (codes ":") ts) x h in
+      let text = bound (λ (text : List ℕ). option_and_then (λ (entity : Reach × List ℕ). Some (make text entity)) (target bytes parts.0.1)) (phrase bytes parts.0.0) x parts.2 in
+      let entity = bound (λ (entity : Reach × List ℕ). Some (make text.0 entity)) (target bytes parts.0.1) x text.2 in
+      subst (λ (y : RelationLine). IsPhrase y.phrase.text) (same_value entity.2) (phrase_of parts.0.0 text.0 (split_of (codes ":") ts parts.0 are parts.1).0 text.1)
+
+  every_of : (at : Place) (of_global : Bool) (ts : List Token) (x : RelationLine) → AreOf bytes ts → every_line bytes at of_global ts ≡ Some x → IsPhrase x.phrase.text
+  unfolding every_line
+  every_of at of_global ts x are h =
+      let make : List ℕ → List ℕ → RelationLine = λ text entity. record { of_global = of_global; phrase = name at text; target = name at entity; reach = reach.Every } in
+      let parts = bound (λ (parts : List Token × List Token). option_and_then (λ (text : List ℕ). option_and_then (λ (entity : List ℕ). cond of_global (Some (make text entity)) None) (phrase bytes parts.1)) (phrase bytes parts.0)) (split_at bytes (codes ":") ts) x h in
+      let text = bound (λ (text : List ℕ). option_and_then (λ (entity : List ℕ). cond of_global (Some (make text entity)) None) (phrase bytes parts.0.1)) (phrase bytes parts.0.0) x parts.2 in
+      let entity = bound (λ (entity : List ℕ). cond of_global (Some (make text.0 entity)) None) (phrase bytes parts.0.1) x text.2 in
+      subst (λ (y : RelationLine). IsPhrase y.phrase.text) (cond_some of_global (make text.0 entity.0) x entity.2).1 (phrase_of parts.0.0 text.0 (split_of (codes ":") ts parts.0 are parts.1).0 text.1)
+
+  inside_of : (at : Place) (ts : List Token) (x : Option Name × Name) → AreOf bytes ts → inside_line bytes at ts ≡ Some x → IsPhrase x.1.text
+  unfolding inside_line
+  inside_of at [] x are h = absurd (cc h)
+  inside_of at (t ∷ ts) x are h =
+      let make : Option Name → List ℕ → Option Name × Name = λ above text. (above, name at text) in
+      let is_in : Bool = has_text bytes (codes "in") t in
+      let parts = bound (λ (parts : List Token × List Token). option_and_then (λ (above : Option Name). option_and_then (λ (text : List ℕ). cond is_in (Some (make above text)) None) (phrase bytes parts.1)) (parent bytes at parts.0)) (split_at bytes (codes ":") ts) x h in
+      let above = bound (λ (above : Option Name). option_and_then (λ (text : List ℕ). cond is_in (Some (make above text)) None) (phrase bytes parts.0.1)) (parent bytes at parts.0.0) x parts.2 in
+      let text = bound (λ (text : List ℕ). cond is_in (Some (make above.0 text)) None) (phrase bytes parts.0.1) x above.2 in
+      subst (λ (y : Option Name × Name). IsPhrase y.1.text) (cond_some is_in (make above.0 text.0) x text.2).1 (phrase_of parts.0.1 text.0 (split_of (codes ":") ts parts.0 (rest_of t ts are) parts.1).1 text.1)
+
+  verb_of : (ts : List Token) (v : Verb) → AreOf bytes ts → verb_line bytes ts ≡ Some v → IsSaidFully v.negative
+  unfolding verb_line
+  verb_of ts v are h =
+      let make : List ℕ → List ℕ → List ℕ → List ℕ → Verb = λ pos neg asked rest. record { positive = pos; negative = neg; ask = asked; rest = rest } in
+      let p = bound (λ (p : List Token × List Token). option_and_then (λ (n : List Token × List Token). option_and_then (λ (a : List Token × List Token). option_and_then (λ (pos : List ℕ). option_and_then (λ (neg : List ℕ). option_and_then (λ (asked : List ℕ). option_and_then (λ (rest : List ℕ). Some (make pos neg asked rest)) (words_or_none bytes a.1)) (words bytes a.0)) (words bytes n.0)) (words bytes p.0)) (split_at bytes (codes "/") n.1)) (split_at bytes (codes "/") p.1)) (split_at bytes (codes "/") ts) v h in
+      let n = bound (λ (n : List Token × List Token). option_and_then (λ (a : List Token × List Token). option_and_then (λ (pos : List ℕ). option_and_then (λ (neg : List ℕ). option_and_then (λ (asked : List ℕ). option_and_then (λ (rest : List ℕ). Some (make pos neg asked rest)) (words_or_none bytes a.1)) (words bytes a.0)) (words bytes n.0)) (words bytes p.0.0)) (split_at bytes (codes "/") n.1)) (split_at bytes (codes "/") p.0.1) v p.2 in
+      let a = bound (λ (a : List Token × List Token). option_and_then (λ (pos : List ℕ). option_and_then (λ (neg : List ℕ). option_and_then (λ (asked : List ℕ). option_and_then (λ (rest : List ℕ). Some (make pos neg asked rest)) (words_or_none bytes a.1)) (words bytes a.0)) (words bytes n.0.0)) (words bytes p.0.0)) (split_at bytes (codes "/") n.0.1) v n.2 in
+      let pos = bound (λ (pos : List ℕ). option_and_then (λ (neg : List ℕ). option_and_then (λ (asked : List ℕ). option_and_then (λ (rest : List ℕ). Some (make pos neg asked rest)) (words_or_none bytes a.0.1)) (words bytes a.0.0)) (words bytes n.0.0)) (words bytes p.0.0) v a.2 in
+      let neg = bound (λ (neg : List ℕ). option_and_then (λ (asked : List ℕ). option_and_then (λ (rest : List ℕ). Some (make pos.0 neg asked rest)) (words_or_none bytes a.0.1)) (words bytes a.0.0)) (words bytes n.0.0) v pos.2 in
+      let asked = bound (λ (asked : List ℕ). option_and_then (λ (rest : List ℕ). Some (make pos.0 neg.0 asked rest)) (words_or_none bytes a.0.1)) (words bytes a.0.0) v neg.2 in
+      let rest = bound (λ (rest : List ℕ). Some (make pos.0 neg.0 asked.0 rest)) (words_or_none bytes a.0.1) v asked.2 in
+      let sp = split_of (codes "/") ts p.0 are p.1 in
+      let sn = split_of (codes "/") p.0.1 n.0 sp.1 n.1 in
+      subst (λ (w : Verb). IsSaidFully w.negative) (same_value rest.2) (words_of n.0.0 neg.0 sn.0 neg.1)
+
+  lines_phrased : (at : Place) (of_global : Bool) (ts : List Token) → AreOf bytes ts → HoldOfLines IsPhrased bytes at of_global ts
+  lines_phrased at of_global ts are = record {
+    of_bool = λ x h. bool_of ts x are h;
+    of_number = λ x h. (number_of 4 ts x are h, tt);
+    of_currency = λ x h. (number_of 2 ts x are h, tt);
+    of_words = λ x h. (phrase_of ts x are h, tt);
+    of_date = λ x h. (phrase_of ts x are h, tt);
+    of_reference = λ x h. reference_of at of_global ts x are h;
+    of_every = λ x h. every_of at of_global ts x are h;
+  }
+
+-- ---- blocks
+
+abbrev IsCutLine : CutLine → Type 0
+IsCutLine line = HasTokens line.text line.tokens
+
+has_tokens : (text : List ℕ) (o : Option (List Token)) (ts : List Token) → HasTokens text o → o ≡ Some ts → AreOf text ts
+has_tokens text None ts h e = absurd (cc e)
+has_tokens text (Some us) ts h e = subst (λ (vs : List Token). AreOf text vs) (same_value e) (record { utf8 = h.utf8; within = h.within; kinds = h.kinds })
+
+inner_tokens : (line : CutLine) (ts : List Token) → IsCutLine line → inner line ≡ Some ts → AreOf line.text ts
+inner_tokens line ts h e = go (line.level == 1) e
+  where
+    go : (b : Bool) → cond b line.tokens None ≡ Some ts → AreOf line.text ts
+    go true k = has_tokens line.text line.tokens ts h k
+    go false k = absurd (cc k)
+
+behind_tokens : (line : CutLine) (ts : List Token) → IsCutLine line → behind_head line ≡ Some ts → AreOf line.text ts
+behind_tokens line ts h e = let us = bound behind_first line.tokens ts e in go us.0 (has_tokens line.text line.tokens us.0 h us.1) us.2
+  where
+    go : (us : List Token) → AreOf line.text us → behind_first us ≡ Some ts → AreOf line.text ts
+    go [] are k = absurd (cc k)
+    go (u ∷ us) are k = subst (λ (vs : List Token). AreOf line.text vs) (same_value k) (rest_of line.text u us are)
+
+member_phrased : (file : ℕ) (of_global : Bool) (line : CutLine) (i : Item) → IsCutLine line → member_in file of_global line ≡ Some i → IsPhrased i
+member_phrased file of_global line i cut h =
+    let ts = member_tokens file of_global line i h in
+    let are = inner_tokens line ts.0 cut ts.1 in
+    in_member IsPhrased line.text (place_in file line) of_global ts.0 i (λ t more is. lines_phrased line.text (place_in file line) of_global more (rest_of line.text t more (subst (λ (us : List Token). AreOf line.text us) is are))) ts.2
+
+verb_phrased : (line : CutLine) (v : Verb) → IsCutLine line → headed_verb line ≡ Some v → IsSaidFully v.negative
+unfolding headed_verb
+verb_phrased line v cut h = let ts = bound (verb_line line.text) (behind_head line) v h in verb_of line.text ts.0 v (behind_tokens line ts.0 cut ts.1) ts.2
+
+inside_phrased : (file : ℕ) (line : CutLine) (x : Option Name × Name) → IsCutLine line → inside_in file line ≡ Some x → IsPhrase x.1.text
+unfolding inside_in
+inside_phrased file line x cut h = let ts = bound (inside_line line.text (place_in file line)) (inner line) x h in inside_of line.text (place_in file line) ts.0 x (inner_tokens line ts.0 cut ts.1) ts.2
+
+pub items_phrased : (blocks : List CutBlock) → All HaveTokens blocks → All IsPhrased (items_of blocks)
+items_phrased blocks cut =
+    let holds : Hold IsPhrased IsCutLine = record {
+      of_member = member_phrased;
+      of_verb = λ file line v is h. verb_phrased line v is h;
+      of_entity = λ file first second phrase above one two h k. inside_phrased file second above two k;
+      of_goal = λ goal. tt;
+      of_screen = λ screen. tt;
+      of_file = λ named. tt;
+    } in
+    in_all_items IsPhrased IsCutLine holds blocks cut
