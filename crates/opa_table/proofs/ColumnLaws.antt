@@ -1,0 +1,25 @@
+-- What columns conclude.
+use Rattle.std.proofs.Common.{◌≡◌, ℕ, List, [], ◌∷◌, ◌++◌, length, ◌==◌, Bool, true, false, refl, sym, ap, ◌∙◌, append_assoc, arith}
+use Rattle.std.proofs.lemmas.List.{append-nil}
+use Rattle.opa_sentence.specs.declared.reading.Reading.{Reading}
+use Rattle.opa_sentence.specs.Measures.{bounded}
+use Rattle.opa_sentence.specs.Readings as says
+use Rattle.opa_parse.specs.declared.group.Mark.{Mark}
+use Rattle.opa_table.specs.declared.cells.Test.{Test}
+use Rattle.opa_table.specs.Columns.{compared, comparisons, all_of}
+
+pub nothing_more : (xs : List Reading) → xs ++ [] ≡ xs
+nothing_more xs = append-nil xs
+
+-- several parts
+pub all_of_several : (parts rest : List Reading) (last : Reading) → parts ≡ rest ++ last ∷ [] → (length rest == 0) ≡ false → all_of parts ≡ says.all bounded (says.lines bounded parts)
+all_of_several [] [] last e k = absurd (cc k)
+all_of_several [] (y ∷ rest) last e k = absurd (cc e)
+all_of_several (x ∷ []) [] last e k = absurd (cc k)
+all_of_several (x ∷ []) (y ∷ []) last e k = absurd (cc e)
+all_of_several (x ∷ []) (y ∷ z ∷ rest) last e k = absurd (cc e)
+all_of_several (x ∷ y ∷ parts) rest last e k = refl
+
+pub all_of_one : (parts rest : List Reading) (last : Reading) → parts ≡ rest ++ last ∷ [] → (length rest == 0) ≡ true → last ≡ all_of parts
+all_of_one parts [] last e k = sym (ap all_of e)
+all_of_one parts (y ∷ rest) last e k = absurd (let q : (length (y ∷ rest) == 0) ≡ false = grind arith in let r : true ≡ false = sym k ∙ q in cc r)
