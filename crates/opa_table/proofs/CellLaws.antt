@@ -1,6 +1,7 @@
 -- A cell says one thing at most.
-use Rattle.std.proofs.Common.{◌≡◌, ℕ, List, [], ◌∷◌, ◌++◌, length, Bool, true, false, ◌&&◌, Option, Some, None, option_map, MatchOption, refl, sym, ap, subst, ◌∙◌}
+use Rattle.std.proofs.Common.{◌≡◌, ◌↔◌, IsTrue, ◌==◌, arith, ℕ, List, [], ◌∷◌, ◌++◌, length, Bool, true, false, ◌&&◌, Option, Some, None, option_map, MatchOption, refl, sym, ap, subst, ◌∙◌}
 use Rattle.std.specs.Str.{chars}
+use Rattle.std.proofs.lemmas.Str.{chars-nil}
 use Rattle.opa_model.specs.declared.lists.Lists.{Lists}
 use Rattle.opa_tree.specs.declared.kinds.OpKind.{OpKind}
 use Rattle.opa_tree.specs.declared.kinds.OpKind.TheVariants as op
@@ -97,6 +98,10 @@ one_head_cell m ns = one_of_cell (SpellsHead m ns) (one_head m ns)
 
 -- ---- comparisons
 
+pub literal_so : (ns : Names) (ws : List Lexeme) (o : Option Reading) → are_literal ws ≡ true → Says (IsOperand ns ws) o → Says (IsLiteral ns ws) o
+literal_so ns ws None e none = λ x h. none x h.1
+literal_so ns ws (Some x) e h = (e, h)
+
 -- a literal begins with no sign
 literal_unsigned : (t : Lexeme) (ws : List Lexeme) (k : OpKind) → are_literal (t ∷ ws) ≡ true → sign_of t.class ≡ Some k → ⊥
 literal_unsigned t [] k a s = by t.class a s
@@ -155,7 +160,7 @@ one_test ns ws s t (c.SpellsTest.compares {t = w} {ws = vs} {x = x} k e l) h = l
 
 -- a cell without bytes has no words
 no_bytes : (ws : List Lexeme) → IsCell [] ws → ws ≡ []
-no_bytes ws h = h.words_are ∙ ap (lexemes []) (one_cut_holds 0 (chars []) h.tokens [] h.cut w.Cuts.ends)
+no_bytes ws h = h.words_are ∙ ap (lexemes []) (one_cut_holds 0 (chars []) h.tokens [] h.cut (subst (λ cs. w.Cuts 0 cs []) (sym chars-nil) w.Cuts.ends))
 
 no_filled : (ns : Names) (ws : List Lexeme) (t : Test) → IsCell [] ws → SpellsTest ns ws t → ⊥
 no_filled ns ws t is s = no_test ns t (subst (λ v. SpellsTest ns v t) (no_bytes ws is) s)
@@ -187,3 +192,19 @@ one_line ns ws x y a b = one_spelling ns LINE ws x y a.1 b.1
 
 pub one_value_cell : (ns : Names) (cell : List ℕ) (x y : Reading) → IsValueCell ns cell x → IsValueCell ns cell y → x ≡ y
 one_value_cell ns = one_of_cell (IsLine ns) (one_line ns)
+
+-- ---- empty cells, and the word of the last record
+
+pub empty_cell : (ns : Names) (cell : List ℕ) → (length cell == 0) ≡ true → IsConditionCell ns cell test.Nothing
+empty_cell ns [] e = c.IsConditionCell.empty
+empty_cell ns (b ∷ bs) e = absurd (let q : (length (b ∷ bs) == 0) ≡ false = grind arith in let r : true ≡ false = sym e ∙ q in cc r)
+
+pub some_bytes : (cell : List ℕ) → (length cell == 0) ≡ false → cell ≡ [] → ⊥
+some_bytes [] e p = let q : true ≡ false = e in absurd (cc q)
+some_bytes (b ∷ bs) e p = absurd (cc p)
+
+pub otherwise_by : (cell : List ℕ) (ws : List Lexeme) (b : Bool) → IsCell cell ws → b ≡ is_otherwise ws → IsTrue b ↔ IsOtherwiseCell cell
+otherwise_by cell ws b is e = (λ t. (ws, is, sym e ∙ t), λ k. e ∙ ap is_otherwise (one_cell cell ws k.0 is k.1) ∙ k.2)
+
+pub otherwise_none : (cell : List ℕ) → ((ws : List Lexeme) → IsCell cell ws → ⊥) → IsTrue false ↔ IsOtherwiseCell cell
+otherwise_none cell none = (λ t. absurd (let q : false ≡ true = t in cc q), λ k. absurd (none k.0 k.1))

@@ -146,12 +146,12 @@ module _ (m : Lists) (ns : Names) (members : MembersForm bounded ns.members) whe
   HasHeads h (found.Unspelled n) = Unit {0}
 
   below_sound : (h : Heads) {xs : List (List (List ℕ))} {f : Found} → IsBelow ns h xs f → SoundBelow f × HasHeads h f
-  below_sound h (t.IsBelow.values {cells = cells} {x = x} e s is) = ((tt, last_sound h 2 cells x is), refl)
-  below_sound h (t.IsBelow.no_values e s none) = (tt, tt)
-  below_sound h (t.IsBelow.too_many e s is) = (tt, tt)
-  below_sound h (t.IsBelow.cases {middle = middle} {cells = cells} {cs = cs} {x = x} e s are is) = ((cases_sound h 2 middle cs are, last_sound h (length middle + 2) cells x is), refl)
-  below_sound h (t.IsBelow.no_case e s odd) = (tt, tt)
-  below_sound h (t.IsBelow.no_last e s are none) = (tt, tt)
+  below_sound h (t.IsBelow.values {x = x} cells e s is) = ((tt, last_sound h 2 cells x is), refl)
+  below_sound h (t.IsBelow.no_values _ _ e s none) = (tt, tt)
+  below_sound h (t.IsBelow.too_many _ _ _ _ e s is) = (tt, tt)
+  below_sound h (t.IsBelow.cases {cs = cs} {x = x} middle cells e s are is) = ((cases_sound h 2 middle cs are, last_sound h (length middle + 2) cells x is), refl)
+  below_sound h (t.IsBelow.no_case _ _ e s odd) = (tt, tt)
+  below_sound h (t.IsBelow.no_last _ _ _ e s are none) = (tt, tt)
 
   abbrev SoundTable : Table → Type 0
   SoundTable d = Sounds d.heads.conditions × SoundCases d.cases × Sounds d.last.values
@@ -161,13 +161,13 @@ module _ (m : Lists) (ns : Names) (members : MembersForm bounded ns.members) whe
   SoundFound (found.Unspelled n) = Unit {0}
 
   with_heads : (h : Heads) (f : Found) → Sounds h.conditions → SoundBelow f × HasHeads h f → SoundFound f
-  with_heads h (found.Table d) hs b = (subst (λ (z : Heads). Sounds z.conditions) (sym b.1) hs, b.0)
+  with_heads h (found.Table d) hs b = (subst (λ (z : Heads). Sounds z.conditions) (sym b.1) hs, b.0.0, b.0.1)
   with_heads h (found.Unspelled n) hs b = tt
 
   found_sound : {xs : List (List (List ℕ))} {f : Found} → IsFound m ns xs f → SoundFound f
   found_sound (t.IsFound.too_few e) = tt
-  found_sound (t.IsFound.no_heads e none) = tt
-  found_sound (t.IsFound.headed {cells = first} {h = h} {f = f} e some are b) = with_heads h f (heads_sound first h.conditions h.conclusions are.cells_say) (below_sound h b)
+  found_sound (t.IsFound.no_heads _ _ e none) = tt
+  found_sound (t.IsFound.headed {f = f} _ first h e some are b) = with_heads h f (heads_sound first h.conditions h.conclusions are.cells_say) (below_sound h b)
 
 -- ---- conditions
 
@@ -321,12 +321,12 @@ module _ (m : Lists) where
     HeadsOf h (found.Unspelled n) = Unit {0}
 
     heads_below : (h : Heads) {xs : List (List (List ℕ))} {f : Found} → IsBelow ns h xs f → HeadsOf h f
-    heads_below h (t.IsBelow.values e s is) = refl
-    heads_below h (t.IsBelow.no_values e s none) = tt
-    heads_below h (t.IsBelow.too_many e s is) = tt
-    heads_below h (t.IsBelow.cases e s are is) = refl
-    heads_below h (t.IsBelow.no_case e s odd) = tt
-    heads_below h (t.IsBelow.no_last e s are none) = tt
+    heads_below h (t.IsBelow.values _ e s is) = refl
+    heads_below h (t.IsBelow.no_values _ _ e s none) = tt
+    heads_below h (t.IsBelow.too_many _ _ _ _ e s is) = tt
+    heads_below h (t.IsBelow.cases _ _ e s are is) = refl
+    heads_below h (t.IsBelow.no_case _ _ e s odd) = tt
+    heads_below h (t.IsBelow.no_last _ _ _ e s are none) = tt
 
     as_declared : (h : Heads) (f : Found) → AllDeclared h.conclusions → HeadsOf h f → DeclaredFound f
     as_declared h (found.Table d) k e = subst (λ (z : Heads). AllDeclared z.conclusions) (sym e) k
@@ -334,8 +334,8 @@ module _ (m : Lists) where
 
     found_declared : {xs : List (List (List ℕ))} {f : Found} → IsFound m ns xs f → DeclaredFound f
     found_declared (t.IsFound.too_few e) = tt
-    found_declared (t.IsFound.no_heads e none) = tt
-    found_declared (t.IsFound.headed {cells = first} {h = h} {f = f} e some are b) = as_declared h f (heads_declared first h.conditions h.conclusions are.cells_say) (heads_below h b)
+    found_declared (t.IsFound.no_heads _ _ e none) = tt
+    found_declared (t.IsFound.headed {f = f} _ first h e some are b) = as_declared h f (heads_declared first h.conditions h.conclusions are.cells_say) (heads_below h b)
 
 -- ---- all rules of a table
 

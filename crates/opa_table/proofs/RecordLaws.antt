@@ -121,4 +121,5 @@ unfolding field_at
 cell_next [] zero cell e = absurd (cc e)
 cell_next [] (suc n) cell e = absurd (cc e)
 cell_next (c ∷ cells) zero cell e = ap (λ x. x ∷ []) (let q : c ≡ cell = cc e in q)
-cell_next (c ∷ cells) (suc n) cell e = ap (λ x. c ∷ x) (cell_next cells n cell e)
+cell_next (c ∷ cells) (suc n) cell e =
+    ap (λ k. take k (c ∷ cells)) (let p : suc n + 1 ≡ suc (n + 1) = omega arith in p) ∙ ap (λ x. c ∷ x) (cell_next cells n cell e)

@@ -1,6 +1,7 @@
 -- The records after the first.
-use Rattle.std.proofs.Common.{◌≡◌, ◌≢◌, ◌≤◌, ◌<◌, ◌+◌, ◌-◌, ◌==◌, ◌&&◌, ◌^◌, nat_le, ℕ, List, [], ◌∷◌, ◌++◌, length, map, take, drop, Bool, true, false, Option, Some, None, refl, sym, ap, ap₂, subst, ◌∙◌, append_assoc, length-append, arith}
-use Rattle.std.proofs.lemmas.List.{append-nil}
+use Rattle.std.proofs.Common.{◌≡◌, ◌≢◌, ◌↔◌, IsTrue, ◌≤◌, ◌<◌, ◌+◌, ◌-◌, ◌==◌, ◌&&◌, ◌^◌, nat_le, ℕ, List, [], ◌∷◌, ◌++◌, length, map, take, drop, Bool, true, false, Option, Some, None, refl, sym, ap, ap₂, subst, ◌∙◌, append_assoc, length-append, arith}
+use Rattle.std.specs.List.{list_all}
+use Rattle.std.proofs.lemmas.List.{append-nil, map-append, length-map}
 use Rattle.opa_model.specs.declared.lists.Lists.{Lists}
 use Rattle.opa_sentence.specs.declared.names.Names.{Names}
 use Rattle.opa_sentence.specs.declared.reading.Reading.{Reading}
@@ -10,9 +11,9 @@ use Rattle.opa_table.specs.declared.cells.Found.TheVariants as found
 use Rattle.opa_table.specs.declared.cells.Heads.{Heads}
 use Rattle.opa_table.specs.declared.cells.Last.{Last}
 use Rattle.opa_table.specs.declared.cells.Test.{Test}
-use Rattle.opa_table.specs.Cells.{Says, IsConditionCell, IsValueCell}
+use Rattle.opa_table.specs.Cells.{Says, IsConditionCell, IsValueCell, IsOtherwiseCell}
 use Rattle.opa_table.specs.Tables as t
-use Rattle.opa_table.specs.Tables.{Each, width, condition_cells, value_cells, IsCase, IsLast, AreOtherwise, AreCases, IsFirstOdd, table, IsEnd, IsBelow, AreHeads, IsFound}
+use Rattle.opa_table.specs.Tables.{Each, width, condition_cells, value_cells, IsCase, IsLast, is_empty, AreOtherwise, AreCases, IsFirstOdd, table, IsEnd, IsBelow, AreHeads, IsFound}
 use Rattle.opa_table.proofs.CellLaws.{one_condition_cell, one_value_cell}
 use Rattle.opa_table.proofs.EachLaws.{each_same}
 
@@ -114,6 +115,46 @@ module _ (ns : Names) (h : Heads) where
 module _ (ns : Names) (h : Heads) where
   pub ends_below : (records middle : List (List (List ℕ))) (cells : List (List ℕ)) (cs : List Case) (n : ℕ) (f : Found) → h.conditions ≢ [] → records ≡ middle ++ cells ∷ [] → AreCases ns h 2 middle cs → n ≡ length middle + 2 → IsEnd ns h cs n cells f → IsBelow ns h records f
   ends_below records middle cells cs n (found.Table d) some e are k end =
-      subst (λ z. IsBelow ns h records (found.Table z)) (sym end.2) (t.IsBelow.cases some e are (subst (λ j. IsLast ns h j cells end.0) k end.1))
+      subst (λ z. IsBelow ns h records (found.Table z)) (sym end.2) (t.IsBelow.cases middle cells some e are (subst (λ j. IsLast ns h j cells end.0) k end.1))
   ends_below records middle cells cs n (found.Unspelled j) some e are k end =
-      subst (λ z. IsBelow ns h records (found.Unspelled z)) (sym (end.0 ∙ k)) (t.IsBelow.no_last some e are (λ x is. end.1 x (subst (λ z. IsLast ns h z cells x) (sym k) is)))
+      subst (λ z. IsBelow ns h records (found.Unspelled z)) (sym (end.0 ∙ k)) (t.IsBelow.no_last middle cells cs some e are (λ x is. end.1 x (subst (λ z. IsLast ns h z cells x) (sym k) is)))
+
+-- ---- without conditions
+
+pub otherwise_first : (cells rest : List (List ℕ)) (cell : List ℕ) (b : Bool) → cells ≡ cell ∷ rest → list_all is_empty rest ≡ true → IsTrue b ↔ IsOtherwiseCell cell → IsTrue b ↔ AreOtherwise cells
+otherwise_first cells rest cell b e none is =
+    (λ x. subst AreOtherwise (sym e) (is.0 x, none), λ k. let h : AreOtherwise (cell ∷ rest) = subst AreOtherwise e k in is.1 h.0)
+
+module _ {A : Type 0} (f : A → List (List ℕ)) where
+  none_left : (xs : List A) → (length xs == 0) ≡ true → xs ≡ []
+  none_left [] e = refl
+  none_left (x ∷ xs) e = absurd (let q : (length (x ∷ xs) == 0) ≡ false = grind arith in let r : true ≡ false = sym e ∙ q in cc r)
+
+  some_left : (xs : List A) → (length xs == 0) ≡ false → (x : A) × (rest : List A) × (xs ≡ x ∷ rest)
+  some_left [] e = let q : true ≡ false = e in absurd (cc q)
+  some_left (x ∷ xs) e = (x, xs, refl)
+
+  pub not_none : (xs : List A) → (length xs == 0) ≡ false → xs ≡ [] → ⊥
+  not_none xs e p = let s = some_left xs e in let q : s.0 ∷ s.1 ≡ [] = sym s.2 ∙ p in absurd (cc q)
+
+  pub some_mapped : (xs : List A) → (length xs == 0) ≡ false → map f xs ≡ [] → ⊥
+  some_mapped xs e p = let s = some_left xs e in let q : f s.0 ∷ map f s.1 ≡ [] = sym (ap (map f) s.2) ∙ p in absurd (cc q)
+
+  pub few_none : (xs : List A) → xs ≡ [] → length (map f xs) ≤ 1
+  few_none xs e = let q : length (map f xs) ≡ 0 = ap (λ ys. length (map f ys)) e in omega (arith, q)
+
+  pub few_one : (xs others : List A) (x : A) → xs ≡ x ∷ others → (length others == 0) ≡ true → length (map f xs) ≤ 1
+  few_one xs others x e none =
+      let q : length (map f xs) ≡ length (f x ∷ []) = ap (λ ys. length (map f ys)) (e ∙ ap (λ ys. x ∷ ys) (none_left others none)) in
+      omega (arith, q)
+
+  module _ (ns : Names) (h : Heads) where
+    pub alone_is : (others : List A) (cells : List (List ℕ)) (cs : List Case) (x : Last) → h.conditions ≡ [] → (length others == 0) ≡ true → cs ≡ [] → IsLast ns h 2 cells x → IsBelow ns h (cells ∷ map f others) (found.Table (table h cs x))
+    alone_is others cells cs x e none p is =
+        subst (λ ds. IsBelow ns h (cells ∷ map f others) (found.Table (table h ds x))) (sym p) (t.IsBelow.values cells e (ap (λ ys. cells ∷ map f ys) (none_left others none)) is)
+
+    pub alone_more : (others : List A) (cells : List (List ℕ)) (x : Last) → h.conditions ≡ [] → (length others == 0) ≡ false → IsLast ns h 2 cells x → IsBelow ns h (cells ∷ map f others) (found.Unspelled 3)
+    alone_more others cells x e some is = let s = some_left others some in t.IsBelow.too_many (map f s.1) cells (f s.0) x e (ap (λ ys. cells ∷ map f ys) s.2) is
+
+    pub last_split : (records middle : List A) (last : A) → records ≡ middle ++ last ∷ [] → map f records ≡ map f middle ++ f last ∷ []
+    last_split records middle last e = ap (map f) e ∙ map-append f middle (last ∷ [])

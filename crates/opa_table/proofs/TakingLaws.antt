@@ -39,7 +39,7 @@ module _ (file : ℕ) (d : Table) (attrs : List (Option AttrId)) (t : Taken) whe
     pub counted : place + length rest ≡ length attrs
 
   pub columns_start : AreTaken 0 attrs t
-  columns_start = record { blocks = []; split = refl; takes = takes_none t; counted = refl }
+  columns_start = record { blocks = []; split = refl; takes = takes_none t; counted = omega arith }
 
   pub columns_more : (place next : ℕ) (rest later : List (Option AttrId)) (a : Option AttrId) (b : RuleBlock) (u v : Taken) → rest ≡ a ∷ later → AreTaken place rest u → b ≡ column_block file d place a → Takes b u v → next ≡ place + 1 → AreTaken next later v
   columns_more place next rest later a b u v e h is k n = record {

@@ -102,17 +102,17 @@ IsEnd ns h cs n cells (found.Unspelled k) = (k ≡ n) × ((x : Last) → IsLast 
 
 -- What the records after the first are: with conditions, cases and the last record; without, one record alone. Where they aren't, the first record that isn't spelled so is told.
 pub data IsBelow (ns : Names) (h : Heads) : List (List (List ℕ)) → Found → Type 0 where
-  values : {records : List (List (List ℕ))} {cells : List (List ℕ)} {x : Last} → h.conditions ≡ [] → records ≡ cells ∷ [] → IsLast ns h 2 cells x → IsBelow ns h records (found.Table (table h [] x))
-  no_values : {records more : List (List (List ℕ))} {cells : List (List ℕ)} → h.conditions ≡ [] → records ≡ cells ∷ more → ((x : Last) → IsLast ns h 2 cells x → ⊥) → IsBelow ns h records (found.Unspelled 2)
-  too_many : {records more : List (List (List ℕ))} {cells others : List (List ℕ)} {x : Last} → h.conditions ≡ [] → records ≡ cells ∷ others ∷ more → IsLast ns h 2 cells x → IsBelow ns h records (found.Unspelled 3)
-  cases : {records middle : List (List (List ℕ))} {cells : List (List ℕ)} {cs : List Case} {x : Last}
+  values : {records : List (List (List ℕ))} {x : Last} (cells : List (List ℕ)) → h.conditions ≡ [] → records ≡ cells ∷ [] → IsLast ns h 2 cells x → IsBelow ns h records (found.Table (table h [] x))
+  no_values : {records : List (List (List ℕ))} (more : List (List (List ℕ))) (cells : List (List ℕ)) → h.conditions ≡ [] → records ≡ cells ∷ more → ((x : Last) → IsLast ns h 2 cells x → ⊥) → IsBelow ns h records (found.Unspelled 2)
+  too_many : {records : List (List (List ℕ))} (more : List (List (List ℕ))) (cells others : List (List ℕ)) (x : Last) → h.conditions ≡ [] → records ≡ cells ∷ others ∷ more → IsLast ns h 2 cells x → IsBelow ns h records (found.Unspelled 3)
+  cases : {records : List (List (List ℕ))} {cs : List Case} {x : Last} (middle : List (List (List ℕ))) (cells : List (List ℕ))
       → h.conditions ≢ [] → records ≡ middle ++ cells ∷ [] → AreCases ns h 2 middle cs → IsLast ns h (length middle + 2) cells x → IsBelow ns h records (found.Table (table h cs x))
-  no_case : {records middle : List (List (List ℕ))} {cells : List (List ℕ)} {n : ℕ} → h.conditions ≢ [] → records ≡ middle ++ cells ∷ [] → IsFirstOdd ns h middle n → IsBelow ns h records (found.Unspelled n)
-  no_last : {records middle : List (List (List ℕ))} {cells : List (List ℕ)} {cs : List Case}
+  no_case : {records : List (List (List ℕ))} {n : ℕ} (middle : List (List (List ℕ))) (cells : List (List ℕ)) → h.conditions ≢ [] → records ≡ middle ++ cells ∷ [] → IsFirstOdd ns h middle n → IsBelow ns h records (found.Unspelled n)
+  no_last : {records : List (List (List ℕ))} (middle : List (List (List ℕ))) (cells : List (List ℕ)) (cs : List Case)
       → h.conditions ≢ [] → records ≡ middle ++ cells ∷ [] → AreCases ns h 2 middle cs → ((x : Last) → IsLast ns h (length middle + 2) cells x → ⊥) → IsBelow ns h records (found.Unspelled (length middle + 2))
 
 -- What the records spell: a table, or the number of the first record that isn't spelled. There are two records at least.
 pub data IsFound (m : Lists) (ns : Names) : List (List (List ℕ)) → Found → Type 0 where
   too_few : {records : List (List (List ℕ))} → length records ≤ 1 → IsFound m ns records (found.Unspelled 1)
-  no_heads : {records more : List (List (List ℕ))} {cells : List (List ℕ)} → records ≡ cells ∷ more → ((h : Heads) → AreHeads m ns cells h → ⊥) → IsFound m ns records (found.Unspelled 1)
-  headed : {records more : List (List (List ℕ))} {cells : List (List ℕ)} {h : Heads} {f : Found} → records ≡ cells ∷ more → more ≢ [] → AreHeads m ns cells h → IsBelow ns h more f → IsFound m ns records f
+  no_heads : {records : List (List (List ℕ))} (more : List (List (List ℕ))) (cells : List (List ℕ)) → records ≡ cells ∷ more → ((h : Heads) → AreHeads m ns cells h → ⊥) → IsFound m ns records (found.Unspelled 1)
+  headed : {records : List (List (List ℕ))} {f : Found} (more : List (List (List ℕ))) (cells : List (List ℕ)) (h : Heads) → records ≡ cells ∷ more → more ≢ [] → AreHeads m ns cells h → IsBelow ns h more f → IsFound m ns records f

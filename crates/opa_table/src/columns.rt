@@ -197,5 +197,6 @@ pub fn column(alloc: Global, table: &Table, place: usize) -> Result<Said, NoMemo
     }
     let none = no_cases(alloc, heads)?;
     let cases = with_cases(alloc, heads, place, none, table.cases.as_slice())?;
-    cases.table(alloc, last)
+    let said = cases.table(alloc, last)?;
+    Ok(said)
 }

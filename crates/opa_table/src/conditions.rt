@@ -1,5 +1,5 @@
 // Condition cells.
-ghost use Rattle.std.specs.Prelude.{◌≡◌, map, IfOk};
+ghost use Rattle.std.specs.Prelude.{◌≡◌, IfOk};
 ghost use Rattle.std.specs.Option.{option_map};
 ghost use Rattle.opa_sentence.specs.Cursors.{seen};
 ghost use Rattle.opa_table.specs.declared.cells.Test.TheVariants as test;
@@ -61,7 +61,8 @@ fn literal_of(alloc: Global, names: &Names, words: Cursor<'_>) -> Result<Option<
     ensures { IfOk result (Says (IsLiteral names.now (seen words.entry))) }
 {
     if are_literal(words) {
-        operand_of(alloc, names, words)
+        let literal = operand_of(alloc, names, words)?;
+        Ok(literal)
     } else {
         Ok(None)
     }
@@ -108,7 +109,10 @@ fn condition_cell(alloc: Global, names: &Names, cell: &[u8]) -> Result<Option<Te
     }
     match words_of(alloc, cell)? {
         None => Ok(None),
-        Some(words) => test_of(alloc, names, words.cursor()),
+        Some(words) => {
+            let test = test_of(alloc, names, words.cursor())?;
+            Ok(test)
+        }
     }
 }
 
@@ -116,14 +120,14 @@ fn condition_cell(alloc: Global, names: &Names, cell: &[u8]) -> Result<Option<Te
 pub fn tests_of(
     alloc: Global,
     names: &Names,
-    cells: &[&[u8]],
+    cells: &[List<u8>],
 ) -> Result<Option<List<Test>>, NoMemory>
-    ensures { IfOk result (Says (Each (IsConditionCell names.now) (map (λ c. c.now) cells.now))) }
+    ensures { IfOk result (Says (Each (IsConditionCell names.now) cells.now)) }
 {
     let mut tests = List::new(alloc);
     let mut rest = cells;
     while let Some((cell, later)) = front(rest) {
-        match condition_cell(alloc, names, *cell)? {
+        match condition_cell(alloc, names, cell.as_slice())? {
             None => return Ok(None),
             Some(test) => {
                 tests.push(test)?;

@@ -1,5 +1,5 @@
 // The first record of a table.
-ghost use Rattle.std.specs.Prelude.{◌≡◌, ◌≢◌, [], ◌∷◌, ◌++◌, false, true, map, IfOk, MatchOption};
+ghost use Rattle.std.specs.Prelude.{◌≡◌, ◌≢◌, [], ◌∷◌, ◌++◌, false, true, IfOk, MatchOption};
 ghost use Rattle.opa_sentence.specs.Cursors.{seen};
 ghost use Rattle.opa_sentence.specs.Lexemes.{Lexeme};
 ghost use Rattle.opa_sentence.specs.declared.reading.Reading.{Reading as ReadingView};
@@ -59,7 +59,6 @@ fn conclusion_of(
 }
 
 /// What words say as an operand.
-#[tactic(auto, using(crate::proofs::CellLaws::says_spelled))]
 pub fn operand_of(
     alloc: Global,
     names: &Names,
@@ -67,7 +66,8 @@ pub fn operand_of(
 ) -> Result<Option<Reading>, NoMemory>
     ensures { IfOk result (Says (IsOperand names.now (seen words.entry))) }
 {
-    opa_sentence::operand_of(alloc, names, words.text, words.tokens)
+    let reading = opa_sentence::operand_of(alloc, names, words.text, words.tokens)?;
+    Ok(reading)
 }
 
 fn condition_of(
@@ -78,7 +78,10 @@ fn condition_of(
     ensures { IfOk result (Says (IsCondition names.now (seen words.entry))) }
 {
     match ending_of(words) {
-        Ending::Nothing => operand_of(alloc, names, words),
+        Ending::Nothing => {
+            let reading = operand_of(alloc, names, words)?;
+            Ok(reading)
+        }
         Ending::And | Ending::Or | Ending::If | Ending::Otherwise => Ok(None),
     }
 }
@@ -102,7 +105,10 @@ fn head_of(
     ensures { IfOk result (Says (SpellsHead model.now names.now (seen words.entry))) }
 {
     match past_equals(words) {
-        Some(rest) => conclusion_of(alloc, model, rest),
+        Some(rest) => {
+            let conclusion = conclusion_of(alloc, model, rest)?;
+            Ok(conclusion)
+        }
         None => Ok(as_condition(condition_of(alloc, names, words)?)),
     }
 }
@@ -118,7 +124,10 @@ fn head_cell(
 {
     match words_of(alloc, cell)? {
         None => Ok(None),
-        Some(words) => head_of(alloc, model, names, words.cursor()),
+        Some(words) => {
+            let heading = head_of(alloc, model, names, words.cursor())?;
+            Ok(heading)
+        }
     }
 }
 
@@ -164,14 +173,14 @@ pub fn heads_of(
     alloc: Global,
     model: &Model,
     names: &Names,
-    cells: &[&[u8]],
+    cells: &[List<u8>],
 ) -> Result<Option<Heads>, NoMemory>
-    ensures { IfOk result (Says (AreHeads model.now names.now (map (λ c. c.now) cells.now))) }
+    ensures { IfOk result (Says (AreHeads model.now names.now cells.now)) }
 {
     let mut heads = Heads::none(alloc);
     let mut rest = cells;
     while let Some((cell, later)) = front(rest) {
-        match head_cell(alloc, model, names, *cell)? {
+        match head_cell(alloc, model, names, cell.as_slice())? {
             None => return Ok(None),
             Some(heading) => match heads.with(heading)? {
                 None => return Ok(None),

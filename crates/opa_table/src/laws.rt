@@ -2,7 +2,6 @@
 ghost use Rattle.opa_table.specs.Laws.{OneTable};
 
 /// The bytes of a table give one list of rules at most, or of faults.
-#[tactic(auto, using(crate::proofs::LawsHold::laws))]
 pub fn one_table()
     ensures { OneTable }
 {}

@@ -7,7 +7,7 @@ ghost use Rattle.opa_layout.specs.Lines.{without_mark as without_mark_of};
 ghost use Rattle.opa_table.specs.Records.{csv_records, table_records};
 
 use csv::{ByteRecord, Error, ReaderBuilder};
-use opa_io::NoMemory;
+use opa_io::{List, NoMemory};
 use std::alloc::Global;
 
 fn all_records(alloc: Global, bytes: &[u8]) -> Result<Vec<ByteRecord>, Error>
@@ -54,14 +54,14 @@ pub fn records_of(alloc: Global, bytes: &[u8]) -> Result<Vec<ByteRecord>, NoMemo
 }
 
 /// The cells of a record.
-pub fn cells_of<'t>(alloc: Global, row: &'t ByteRecord) -> Result<Vec<&'t [u8]>, NoMemory>
-    ensures { IfOk result (λ v. map (λ c. c.now) v.items ≡ fields_of row.now) }
+pub fn cells_of(alloc: Global, row: &ByteRecord) -> Result<List<List<u8>>, NoMemory>
+    ensures { IfOk result (λ cells. cells ≡ fields_of row.now) }
 {
-    let mut cells = Vec::new(alloc);
+    let mut cells = List::new(alloc);
     for place in 0..row.len() {
         match row.get(place) {
             None => return Ok(cells),
-            Some(cell) => cells.push(cell)?,
+            Some(cell) => cells.push(List::from_vec(cell.to_vec(alloc)?))?,
         }
     }
     Ok(cells)

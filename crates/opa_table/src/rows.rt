@@ -29,9 +29,9 @@ fn case_of(
     names: &Names,
     heads: &Heads,
     number: u32,
-    cells: &[&[u8]],
+    cells: &[List<u8>],
 ) -> Result<Option<Case>, NoMemory>
-    ensures { IfOk result (Says (IsCase names.now heads.now number (map (λ c. c.now) cells.now))) }
+    ensures { IfOk result (Says (IsCase names.now heads.now number cells.now)) }
 {
     if !has_width(heads, cells.len()) {
         return Ok(None);
@@ -69,9 +69,9 @@ fn last_of(
     names: &Names,
     heads: &Heads,
     number: u32,
-    cells: &[&[u8]],
+    cells: &[List<u8>],
 ) -> Result<Option<Last>, NoMemory>
-    ensures { IfOk result (Says (IsLast names.now heads.now number (map (λ c. c.now) cells.now))) }
+    ensures { IfOk result (Says (IsLast names.now heads.now number cells.now)) }
 {
     if !has_width(heads, cells.len()) {
         return Ok(None);
@@ -198,7 +198,8 @@ fn with_cases(
             Cased::Unspelled(number) => Ok(Found::Unspelled(number)),
             Cased::Cases(cases) => {
                 let number = middle.len() as u32 + 2;
-                with_last(alloc, names, heads, cases, number, last)
+                let said = with_last(alloc, names, heads, cases, number, last)?;
+                Ok(said)
             }
         },
     }
@@ -241,7 +242,10 @@ pub fn found(
             }
             match heads_in(alloc, model, names, first)? {
                 None => Ok(Found::Unspelled(1)),
-                Some(heads) => below(alloc, names, heads, others),
+                Some(heads) => {
+                    let said = below(alloc, names, heads, others)?;
+                    Ok(said)
+                }
             }
         }
     }

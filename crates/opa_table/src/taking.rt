@@ -90,8 +90,9 @@ pub fn take_table(
     if records.len() >= 4_294_967_290 {
         return Err(NoMemory);
     }
-    let found = found(alloc, model, names, records.as_slice())?;
-    take_found(alloc, file, found, taken)
+    let said = found(alloc, model, names, records.as_slice())?;
+    let next = take_found(alloc, file, said, taken)?;
+    Ok(next)
 }
 
 /// The rules of a table alone: one for each conclusion column, in their order.

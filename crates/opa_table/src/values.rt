@@ -1,5 +1,5 @@
 // Value cells, and the word of the last record.
-ghost use Rattle.std.specs.Prelude.{◌≡◌, ◌↔◌, map, true, IfOk, IsTrue};
+ghost use Rattle.std.specs.Prelude.{◌≡◌, ◌↔◌, true, IfOk, IsTrue};
 ghost use Rattle.std.specs.List.{list_all};
 ghost use Rattle.opa_sentence.specs.Cursors.{seen};
 ghost use Rattle.opa_table.specs.Cells.{Says, IsLine, IsValueCell, is_otherwise as is_otherwise_of, IsOtherwiseCell};
@@ -28,7 +28,10 @@ fn value_cell(alloc: Global, names: &Names, cell: &[u8]) -> Result<Option<Readin
 {
     match words_of(alloc, cell)? {
         None => Ok(None),
-        Some(words) => line_of(alloc, names, words.cursor()),
+        Some(words) => {
+            let value = line_of(alloc, names, words.cursor())?;
+            Ok(value)
+        }
     }
 }
 
@@ -36,14 +39,14 @@ fn value_cell(alloc: Global, names: &Names, cell: &[u8]) -> Result<Option<Readin
 pub fn values_of(
     alloc: Global,
     names: &Names,
-    cells: &[&[u8]],
+    cells: &[List<u8>],
 ) -> Result<Option<List<Reading>>, NoMemory>
-    ensures { IfOk result (Says (Each (IsValueCell names.now) (map (λ c. c.now) cells.now))) }
+    ensures { IfOk result (Says (Each (IsValueCell names.now) cells.now)) }
 {
     let mut values = List::new(alloc);
     let mut rest = cells;
     while let Some((cell, later)) = front(rest) {
-        match value_cell(alloc, names, *cell)? {
+        match value_cell(alloc, names, cell.as_slice())? {
             None => return Ok(None),
             Some(value) => {
                 values.push(value)?;
@@ -78,12 +81,12 @@ fn otherwise_cell(alloc: Global, cell: &[u8]) -> Result<bool, NoMemory>
     }
 }
 
-fn are_empty(cells: &[&[u8]]) -> bool
-    ensures { result ≡ list_all is_empty (map (λ c. c.now) cells.now) }
+fn are_empty(cells: &[List<u8>]) -> bool
+    ensures { result ≡ list_all is_empty cells.now }
 {
     let mut rest = cells;
     while let Some((cell, later)) = front(rest) {
-        if !cell.is_empty() {
+        if cell.len() > 0 {
             return false;
         }
         rest = later;
@@ -92,14 +95,15 @@ fn are_empty(cells: &[&[u8]]) -> bool
 }
 
 /// Whether the condition cells are those of the last record.
-pub fn are_otherwise(alloc: Global, cells: &[&[u8]]) -> Result<bool, NoMemory>
-    ensures { IfOk result (λ b. IsTrue b ↔ AreOtherwise (map (λ c. c.now) cells.now)) }
+pub fn are_otherwise(alloc: Global, cells: &[List<u8>]) -> Result<bool, NoMemory>
+    ensures { IfOk result (λ b. IsTrue b ↔ AreOtherwise cells.now) }
 {
     match front(cells) {
         None => Ok(true),
         Some((cell, rest)) => {
             if are_empty(rest) {
-                otherwise_cell(alloc, *cell)
+                let is_last = otherwise_cell(alloc, cell.as_slice())?;
+                Ok(is_last)
             } else {
                 Ok(false)
             }
