@@ -23,7 +23,7 @@ use Rattle.opa_sentence.specs.Measured.{Tells}
 use Rattle.opa_sentence.specs.Measures.{beside, above, fits, capped, unbounded, bounded}
 use Rattle.opa_sentence.specs.Readings as says
 use Rattle.opa_sentence.specs.Readings.{with_tree}
-use Rattle.opa_sentence.specs.Grammar.{LINE}
+use Rattle.opa_sentence.specs.Grammar.{Part, LINE}
 use Rattle.opa_sentence.specs.Spelling.{IsSpelling}
 use Rattle.opa_sentence.proofs.MeasureLaws.{is_measured_holds}
 use Rattle.opa_parse.specs.declared.group.Cases.{Cases}
@@ -53,7 +53,7 @@ and_left false b h = absurd (cc h)
 within : (m k : ℕ) → nat_le m k ≡ true → m ≤ k
 within m k h = grind (arith, h)
 
-fits_deep : (m : Measure) → fits m ≡ true → m.depth ≤ 64
+pub fits_deep : (m : Measure) → fits m ≡ true → m.depth ≤ 64
 fits_deep m h =
     let r = and_right (m.named && m.short) (nat_le m.depth MOST_DEPTH && (nat_le m.nodes MOST_NODES && nat_le m.nesting MOST_NESTING)) h in
     within m.depth MOST_DEPTH (and_left (nat_le m.depth MOST_DEPTH) (nat_le m.nodes MOST_NODES && nat_le m.nesting MOST_NESTING) r)
@@ -67,7 +67,7 @@ SoundAt m (Some e) = ((top : Bool) → has_form e top ≡ true) × (depth e ≤ 
 abbrev pub Sound : Reading → Type 0
 Sound r = SoundAt r.measure r.tree
 
-abbrev SoundAll : ℕ → Measure → Option (List Expr) → Type 0
+abbrev pub SoundAll : ℕ → Measure → Option (List Expr) → Type 0
 SoundAll n m None = Unit {0}
 SoundAll n m (Some es) = (length es ≡ n) × (formed es ≡ true) × (highest (map depth es) ≤ m.depth)
 
@@ -77,18 +77,21 @@ deepest_last (x ∷ es) e = omega (arith, deepest_last es e)
 
 -- ---- lines
 
-bound_sound : (m : Measure) (t : Option Expr) (k : Bool) → fits (capped m) ≡ k → Form t → Tells m t → SoundAt (capped m) (if k then t else None)
+pub bound_sound : (m : Measure) (t : Option Expr) (k : Bool) → fits (capped m) ≡ k → Form t → Tells m t → SoundAt (capped m) (if k then t else None)
 bound_sound m t false h f d = tt
 bound_sound m None true h f d = tt
 bound_sound m (Some e) true h f d =
     let fit = fits_deep (capped m) h in
     (f, omega (arith, fit, d.1), fit)
 
-pub line_sound : (ns : Names) (ts : List Lexeme) (r : Reading) → MembersForm unbounded ns.members → AreReal ts → IsSpelling ns LINE ts (Some r) → Sound r
-line_sound ns ts r members real h =
+pub part_sound : (ns : Names) (p : Part) (ts : List Lexeme) (r : Reading) → MembersForm unbounded ns.members → AreReal ts → IsSpelling ns p ts (Some r) → Sound r
+part_sound ns p ts r members real h =
     let f = form_of unbounded ns members h.1 real in
-    let t = is_measured_holds ns LINE ts h.0 [] h.1 in
+    let t = is_measured_holds ns p ts h.0 [] h.1 in
     subst Sound (sym h.2) (bound_sound h.0.measure h.0.tree (fits (capped h.0.measure)) refl f.0 t)
+
+pub line_sound : (ns : Names) (ts : List Lexeme) (r : Reading) → MembersForm unbounded ns.members → AreReal ts → IsSpelling ns LINE ts (Some r) → Sound r
+line_sound ns ts r members real h = part_sound ns LINE ts r members real h
 
 -- ---- groups
 
@@ -100,16 +103,16 @@ with_sound n pm xm (Some es) (Some e) true h s u =
     let fit = fits_deep (capped (beside pm xm)) h in
     (length_last es e ∙ ap (λ x. x + 1) s.0, formed_last es e s.1 (u.0 false), omega (arith, fit, deepest_last es e, s.2, u.1))
 
-with_part_sound : (n : ℕ) (p : Parts) (r : Reading) → SoundAll n p.measure p.trees → Sound r → SoundAll (n + 1) (says.with_part bounded p r).measure (says.with_part bounded p r).trees
+pub with_part_sound : (n : ℕ) (p : Parts) (r : Reading) → SoundAll n p.measure p.trees → Sound r → SoundAll (n + 1) (says.with_part bounded p r).measure (says.with_part bounded p r).trees
 with_part_sound n p r s u = with_sound n p.measure r.measure p.trees r.tree (fits (capped (beside p.measure r.measure))) refl s u
 
-none_sound : SoundAll 0 (says.no_parts bounded).measure (says.no_parts bounded).trees
+pub none_sound : SoundAll 0 (says.no_parts bounded).measure (says.no_parts bounded).trees
 none_sound = (refl, refl, omega arith)
 
-one_part_sound : (r : Reading) → Sound r → SoundAll 1 (says.one_part bounded r).measure (says.one_part bounded r).trees
+pub one_part_sound : (r : Reading) → Sound r → SoundAll 1 (says.one_part bounded r).measure (says.one_part bounded r).trees
 one_part_sound r u = with_part_sound 0 (says.no_parts bounded) r none_sound u
 
-two_parts_sound : (q r : Reading) → Sound q → Sound r → SoundAll 2 (says.two_parts bounded q r).measure (says.two_parts bounded q r).trees
+pub two_parts_sound : (q r : Reading) → Sound q → Sound r → SoundAll 2 (says.two_parts bounded q r).measure (says.two_parts bounded q r).trees
 two_parts_sound q r s u = with_part_sound 1 (says.one_part bounded q) r (one_part_sound q s) u
 
 abbrev Deepens : (List Expr → Expr) → Type 0
@@ -122,10 +125,10 @@ raised_sound n f m (Some es) true h of deep s =
     let fit = fits_deep (capped (above m)) h in
     (of es s.0 s.1, omega (arith, fit, deep es, s.2), fit)
 
-over_sound : (n : ℕ) (f : List Expr → Expr) (p : Parts) → OfForm n f → Deepens f → SoundAll n p.measure p.trees → Sound (says.over bounded f p)
+pub over_sound : (n : ℕ) (f : List Expr → Expr) (p : Parts) → OfForm n f → Deepens f → SoundAll n p.measure p.trees → Sound (says.over bounded f p)
 over_sound n f p of deep s = raised_sound n f p.measure p.trees (fits (capped (above p.measure))) refl of deep s
 
-all_sound : (n : ℕ) (p : Parts) → 2 ≤ n → SoundAll n p.measure p.trees → Sound (says.all bounded p)
+pub all_sound : (n : ℕ) (p : Parts) → 2 ≤ n → SoundAll n p.measure p.trees → Sound (says.all bounded p)
 all_sound n p h s = over_sound n (λ es. expr.All es) p (all_form n h) depth-All s
 
 any_sound : (n : ℕ) (p : Parts) → 2 ≤ n → SoundAll n p.measure p.trees → Sound (says.any bounded p)
@@ -144,7 +147,7 @@ mapped_sound f m (Some e) true h keeps deep s =
 denial_sound : (r : Reading) → Sound r → Sound (says.denial bounded r)
 denial_sound r s = mapped_sound (λ e. expr.Not e) r.measure r.tree (fits (capped (above r.measure))) refl not_form depth-Not s
 
-kept_sound : (m : Measure) (e : Expr) (k : Bool) → fits m ≡ k → ((top : Bool) → has_form e top ≡ true) → (m.depth ≤ 64 → depth e ≤ m.depth) → SoundAt m (if k then Some e else None)
+pub kept_sound : (m : Measure) (e : Expr) (k : Bool) → fits m ≡ k → ((top : Bool) → has_form e top ≡ true) → (m.depth ≤ 64 → depth e ≤ m.depth) → SoundAt m (if k then Some e else None)
 kept_sound m e false h f d = tt
 kept_sound m e true h f d = let fit = fits_deep m h in (f, d fit, fit)
 
@@ -205,7 +208,7 @@ at_top m (Some e) s = (s.0 true, omega (arith, s.1, s.2))
 abbrev rows_formed : List Row → Bool
 rows_formed rows = parts_have_form (map row_has_form rows)
 
-abbrev SoundRows : Measure → Option (List Row) → Type 0
+abbrev pub SoundRows : Measure → Option (List Row) → Type 0
 SoundRows m None = Unit {0}
 SoundRows m (Some rows) = (rows_formed rows ≡ true) × (highest (map row_depth rows) ≤ m.depth)
 
@@ -230,7 +233,7 @@ case_sound sm cm vm (Some rows) (Some c) (Some v) true h s p q =
     let fit = fits_deep (capped (beside sm (row_measure cm vm))) h in
     (rows_last rows (row_of c v) s.0 (row_form c v (p.0 false) (q.0 false)), omega (arith, fit, deepest_row rows (row_of c v), s.1, p.1, q.1))
 
-with_case_sound : (cs : Cases) (v c : Said) → SoundRows cs.measure cs.rows → Sound v.reading → Sound c.reading → SoundRows (with_case cs v c).measure (with_case cs v c).rows
+pub with_case_sound : (cs : Cases) (v c : Said) → SoundRows cs.measure cs.rows → Sound v.reading → Sound c.reading → SoundRows (with_case cs v c).measure (with_case cs v c).rows
 with_case_sound cs v c s q p = case_sound cs.measure c.reading.measure v.reading.measure cs.rows c.reading.tree v.reading.tree (fits (cases_measure cs c.reading.measure v.reading.measure)) refl s p q
 
 table_sound : (sm vm : Measure) (rows : Option (List Row)) (v : Option Expr) (k : Bool) → fits (capped (above (capped (beside sm vm)))) ≡ k → SoundRows sm rows → SoundAt vm v → SoundTop (capped (above (capped (beside sm vm)))) (if k then table_of rows v else None)
@@ -244,7 +247,7 @@ table_sound sm vm (Some rows) (Some v) true h s q =
 abbrev pub SoundSaid : Said → Type 0
 SoundSaid s = SoundTop s.reading.measure s.reading.tree
 
-tabled_sound : (cs : Cases) (v : Said) → SoundRows cs.measure cs.rows → Sound v.reading → SoundSaid (tabled cs v)
+pub tabled_sound : (cs : Cases) (v : Said) → SoundRows cs.measure cs.rows → Sound v.reading → SoundSaid (tabled cs v)
 tabled_sound cs v s q = table_sound cs.measure v.reading.measure cs.rows v.reading.tree (fits (table_measure cs v.reading.measure)) refl s q
 
 -- ---- the grammar of groups

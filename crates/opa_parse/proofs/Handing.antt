@@ -57,44 +57,44 @@ use Rattle.opa_parse.proofs.GroupForms.{Sound, SoundTop, SoundSaid, at_top, Line
 
 -- ---- tests, and what holds of each
 
-is_true : (t : Bool) → t ≡ true → IsTrue t
+pub is_true : (t : Bool) → t ≡ true → IsTrue t
 is_true t e = e
 
 true_is : (t : Bool) → IsTrue t → t ≡ true
 true_is t h = h
 
 module _ {X : Type 0} (P : X → Type 0) where
-  abbrev Each : List X → Type 0
+  abbrev pub Each : List X → Type 0
   Each [] = Unit {0}
   Each (x ∷ xs) = P x × Each xs
 
-  all_of : (xs : List X) → Each xs → All P xs
+  pub all_of : (xs : List X) → Each xs → All P xs
   all_of [] h = All-nil P
   all_of (x ∷ xs) h = All-cons P x xs h.0 (all_of xs h.1)
 
-  each_of : (xs : List X) → All P xs → Each xs
+  pub each_of : (xs : List X) → All P xs → Each xs
   each_of [] h = tt
   each_of (x ∷ xs) h = (All-head P x xs h, each_of xs (All-tail P x xs h))
 
-  each_append : (xs ys : List X) → Each xs → Each ys → Each (xs ++ ys)
+  pub each_append : (xs ys : List X) → Each xs → Each ys → Each (xs ++ ys)
   each_append [] ys h k = k
   each_append (x ∷ xs) ys h k = (h.0, each_append xs ys h.1 k)
 
 module _ {X : Type 0} (P Q : X → Type 0) where
-  each_left : (xs : List X) → Each (λ x. P x × Q x) xs → Each P xs
+  pub each_left : (xs : List X) → Each (λ x. P x × Q x) xs → Each P xs
   each_left [] h = tt
   each_left (x ∷ xs) h = (h.0.0, each_left xs h.1)
 
-  each_right : (xs : List X) → Each (λ x. P x × Q x) xs → Each Q xs
+  pub each_right : (xs : List X) → Each (λ x. P x × Q x) xs → Each Q xs
   each_right [] h = tt
   each_right (x ∷ xs) h = (h.0.1, each_right xs h.1)
 
 -- ---- members
 
-abbrev Formed : Inferred → Type 0
+abbrev pub Formed : Inferred → Type 0
 Formed i = IsFormed i.expr
 
-members_form : (inferences : List Inferred) → Each Formed inferences → MembersForm bounded (map member_of inferences)
+pub members_form : (inferences : List Inferred) → Each Formed inferences → MembersForm bounded (map member_of inferences)
 members_form [] h n x e = absurd (cc e)
 members_form (i ∷ more) h zero x e = λ top. let f : member_of i ≡ x = cc e in subst (λ (y : Member). has_form y.expr top ≡ true) f (true_is (has_form i.expr top) (h.0 top))
 members_form (i ∷ more) h (suc n) x e = members_form more h.1 n x e
@@ -152,10 +152,10 @@ named_has md phrase a e = at (position (bytes_eq phrase) (attribute_phrases md))
         let f : n ≡ a.0 = ap (λ (y : AttrId). y.0) q in
         omega (arith, within, f, length-map md.attributes (λ x. x.phrase))
 
-abbrev IsDeclared : Lists → Option AttrId → Type 0
+abbrev pub IsDeclared : Lists → Option AttrId → Type 0
 IsDeclared md a = (x : AttrId) → a ≡ Some x → HasAttribute md x
 
-concluded_declared : (md : Lists) (ts : List Lexeme) → IsDeclared md (concluded md ts)
+pub concluded_declared : (md : Lists) (ts : List Lexeme) → IsDeclared md (concluded md ts)
 concluded_declared md ts x e = named_has md (joined (map (λ (t : Lexeme). t.text) ts)) x e
 
 abbrev Opens : Lists → Opening → Type 0
@@ -199,7 +199,7 @@ made x a e s = record { attr = a; expr = e; file = x.file; line = x.line; by_if 
 
 -- what holds of what each block makes holds of each rule
 module _ (P : Rule → Type 0) where
-  abbrev Of : RuleBlock → Type 0
+  abbrev pub Of : RuleBlock → Type 0
   Of x = (a : AttrId) (e : Expr) (s : Statement) → x.statement ≡ Some s → s.attr ≡ Some a → s.said.reading.tree ≡ Some e → P (made x a e s)
 
   from_each : (x : RuleBlock) (s : Statement) (a : Option AttrId) (t : Option Expr) → x.statement ≡ Some s → s.attr ≡ a → s.said.reading.tree ≡ t → Of x → Each P (rule_from x.file x.line a t s.by_if)
@@ -211,7 +211,7 @@ module _ (P : Rule → Type 0) where
   by_each x None e h = tt
   by_each x (Some s) e h = from_each x s s.attr s.said.reading.tree e refl refl h
 
-  rules_each : (xs : List RuleBlock) → Each Of xs → Each P (rules_in xs)
+  pub rules_each : (xs : List RuleBlock) → Each Of xs → Each P (rules_in xs)
   rules_each [] h = tt
   rules_each (x ∷ xs) h = each_append P (rule_in x) (rules_in xs) (by_each x x.statement refl h.0) (rules_each xs h.1)
 
@@ -242,7 +242,7 @@ module _ (md : Lists) (ns : Names) where
   spelled_by : (y : Block) (x : RuleBlock) (s : Statement) → IsRuleBlock md ns y x → x.statement ≡ Some s → SpellsRule md ns y.lines s
   spelled_by y x s is e = let h : IsStatement md ns y.lines (Some s) = subst (IsStatement md ns y.lines) e is.says in h
 
-  tree_sound : (mm : Measure) (t : Option Expr) (e : Expr) → t ≡ Some e → SoundTop mm t → (has_form e true ≡ true) × (depth e ≤ 64)
+  pub tree_sound : (mm : Measure) (t : Option Expr) (e : Expr) → t ≡ Some e → SoundTop mm t → (has_form e true ≡ true) × (depth e ≤ 64)
   tree_sound mm t e h s = let k : SoundTop mm (Some e) = subst (SoundTop mm) h s in k
 
   fine_of : MembersForm bounded ns.members → (y : Block) (x : RuleBlock) → IsRuleBlock md ns y x → Of Fine x
@@ -303,7 +303,7 @@ room_by : (c n file line : ℕ) (o : Option Statement) → spelled_faults c n fi
 room_by c n file line None e k = absurd (cc e)
 room_by c n file line (Some s) e k = more_room c (when_none (c == MOST_RULES) (fault_at file line kind.Limit) (left_none _ _ (left_none _ _ e))) k
 
-room : (c n : ℕ) (xs : List RuleBlock) → faults_from c n xs ≡ [] → c ≤ MOST_RULES → c + length xs ≤ MOST_RULES
+pub room : (c n : ℕ) (xs : List RuleBlock) → faults_from c n xs ≡ [] → c ≤ MOST_RULES → c + length xs ≤ MOST_RULES
 room c n [] e k = omega (arith, k)
 room c n (x ∷ xs) e k =
     let now = room_by c n x.file x.line x.statement (left_none (block_faults c n x) (faults_from (c + 1) (n + statement_nodes x.statement) xs) e) k in
@@ -319,7 +319,7 @@ one_by : (file line : ℕ) (o : Option Statement) → length (rule_by file line 
 one_by file line None = omega arith
 one_by file line (Some s) = one_from file line s.attr s.said.reading.tree s.by_if
 
-fewer : (xs : List RuleBlock) → length (rules_in xs) ≤ length xs
+pub fewer : (xs : List RuleBlock) → length (rules_in xs) ≤ length xs
 fewer [] = omega arith
 fewer (x ∷ xs) = omega (arith, one_by x.file x.line x.statement, fewer xs, length-append (rule_in x) (rules_in xs))
 

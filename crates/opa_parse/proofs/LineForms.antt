@@ -107,7 +107,7 @@ all_form n h es e k top = below top _ _ (form-All es) (both (nat_le 2 (length (m
 pub any_form : (n : ℕ) → 2 ≤ n → OfForm n (λ es. expr.Any es)
 any_form n h es e k top = below top _ _ (form-Any es) (both (nat_le 2 (length (map has_form es))) (formed es) (ap (nat_le 2) (length-map es has_form ∙ e) ∙ many n h) k)
 
-op_form : (o : OpKind) → OfForm (op_arity o) (λ es. expr.Op o es)
+pub op_form : (o : OpKind) → OfForm (op_arity o) (λ es. expr.Op o es)
 op_form o es e k top = below top _ _ (form-Op o es) (both (length (map has_form es) == op_arity o) (formed es) (eq-eqb (length (map has_form es)) (op_arity o) (length-map es has_form ∙ e)) k)
 
 pub listed_form : (q : Quant) (r : RelId) → OfForm (quant_arity q) (λ es. expr.Over q r es)

@@ -28,10 +28,13 @@ pub use line::{Ending, Head, Line};
 pub use lines::Lines;
 pub use members::{Gathered, read_inferences};
 pub use names::names_of;
+pub use openings::{begins_with_word, concluded};
 pub use reader::read;
-pub use rules::{Taken, read_rules};
+pub use rules::{Taken, inferred_nodes, read_rules, take_blocks};
+pub use sayings::{and_then, line_marks};
 pub use table::Step;
 pub use texts::Texts;
+pub use words::{back, ending_of};
 
 #[cfg(test)]
 mod tests;

@@ -68,7 +68,8 @@ fn sort_of_text(alloc: Global, text: &str) -> Result<BlockSort, NoMemory>
     }
 }
 
-fn begins_with_word(words: Cursor<'_>) -> bool
+/// Whether the first token is a Word.
+pub fn begins_with_word(words: Cursor<'_>) -> bool
     ensures { result ≡ begins_with_word_of (seen words.entry) }
 {
     match words.first() {
@@ -95,7 +96,11 @@ fn first_words(words: Cursor<'_>, count: usize) -> Cursor<'_>
 }
 
 /// The attribute whose phrase these words are.
-fn concluded(alloc: Global, model: &Model, words: Cursor<'_>) -> Result<Option<AttrId>, NoMemory>
+pub fn concluded(
+    alloc: Global,
+    model: &Model,
+    words: Cursor<'_>,
+) -> Result<Option<AttrId>, NoMemory>
     ensures { IfOk result (λ attr. attr ≡ concluded_of model.now (seen words.entry)) }
 {
     let phrase = phrase_text(alloc, words.text, words.tokens)?;

@@ -118,7 +118,8 @@ fn statement_nodes(statement: &Option<Statement>) -> u32
 }
 
 impl Taken {
-    fn none(alloc: Global, nodes: u32) -> Taken
+    /// No rule yet, where so many nodes stand before, or one more than the most.
+    pub fn none(alloc: Global, nodes: u32) -> Taken
         ensures { (start : ℕ) → nodes ≡ min start (MOST_NODES_OF + 1) → IsTaken start [] result }
     {
         Taken {
@@ -130,7 +131,7 @@ impl Taken {
     }
 
     /// One more rule.
-    fn take(self, alloc: Global, block: RuleBlock) -> Result<Taken, NoMemory>
+    pub fn take(self, alloc: Global, block: RuleBlock) -> Result<Taken, NoMemory>
         ensures { IfOk result (Takes block self) }
     {
         let Taken {
@@ -199,7 +200,7 @@ fn take_block(
 }
 
 /// Takes the rules among blocks.
-fn take_blocks(
+pub fn take_blocks(
     alloc: Global,
     model: &Model,
     names: &Names,
@@ -219,7 +220,7 @@ fn take_blocks(
 }
 
 /// The nodes of the members' trees as they are written, or one more than the most.
-fn inferred_nodes(members: &[Member]) -> u32
+pub fn inferred_nodes(members: &[Member]) -> u32
     ensures { result ≡ min (total (map (λ m. nodes_of m.expr) members.now)) (MOST_NODES_OF + 1) }
 {
     let mut nodes = 0;

@@ -32,7 +32,8 @@ pub fn and_then(marks: List<Mark>, more: List<Mark>) -> Result<List<Mark>, NoMem
     Ok(all)
 }
 
-fn line_marks(alloc: Global, number: u32, measure: Measure) -> Result<List<Mark>, NoMemory>
+/// The faults that a line has by itself.
+pub fn line_marks(alloc: Global, number: u32, measure: Measure) -> Result<List<Mark>, NoMemory>
     ensures { IfOk result (λ marks. marks ≡ line_marks_of number measure) }
 {
     let is_over = !measure.short || measure.nesting > MOST_NESTING;

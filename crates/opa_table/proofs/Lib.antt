@@ -1,0 +1,9 @@
+pub mod RecordLaws
+pub mod EachLaws
+pub mod CellLaws
+pub mod HeadLaws
+pub mod RowLaws
+pub mod ColumnLaws
+pub mod TakingLaws
+pub mod Handing
+pub mod LawsHold

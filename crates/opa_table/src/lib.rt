@@ -1,0 +1,22 @@
+//! Tables: the records of a file of comma-separated values, and the rules that they spell.
+#![tactic(auto)]
+
+mod cells;
+mod columns;
+mod conditions;
+mod copies;
+mod heads;
+mod laws;
+mod records;
+mod rows;
+mod taking;
+mod values;
+mod words;
+
+pub use cells::{Case, Cased, Found, Heading, Heads, Last, Table, Test};
+pub use laws::one_table;
+pub use taking::{read_table, take_table};
+pub use words::Words;
+
+#[cfg(test)]
+mod tests;
