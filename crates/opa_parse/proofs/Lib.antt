@@ -12,4 +12,3 @@ pub mod LineForms
 pub mod GroupForms
 pub mod Handing
 pub mod LawsHold
-pub mod ShortLaws

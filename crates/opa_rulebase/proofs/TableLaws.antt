@@ -1,5 +1,5 @@
 -- The rules of tables are taken after those of rule blocks.
-use Rattle.std.proofs.Common.{◌≡◌, ℕ, ◌+◌, ◌<◌, List, [], ◌∷◌, ◌++◌, length, map, min, Bool, true, false, Option, Some, None, All, refl, sym, ap, ◌∙◌, append_assoc, append-nil, subst, arith}
+use Rattle.std.proofs.Common.{◌≡◌, ℕ, ◌+◌, ◌<◌, ◌≤◌, List, [], ◌∷◌, ◌++◌, length, map, min, Bool, true, false, Option, Some, None, All, refl, sym, ap, ◌∙◌, append_assoc, append-nil, subst, arith}
 use Rattle.opa_model.specs.declared.lists.Lists.{Lists}
 use Rattle.opa_model.specs.Models.{HasAttribute}
 use Rattle.opa_layout.specs.declared.block.Block.{Block}
@@ -17,6 +17,13 @@ use Rattle.opa_parse.specs.Naming.{names_in}
 use Rattle.opa_parse.specs.Rules.{AreRuleBlocks, inferred_nodes, rule_faults, rules_in}
 use Rattle.opa_parse.specs.Runs.{IsTaken, TakesAll}
 use Rattle.opa_parse.proofs.RuleLaws.{no_faults}
+use Rattle.opa_parse.proofs.Handing as hand
+use Rattle.opa_parse.proofs.Handing.{Of, Fine, Filed, Stands, Formed, all_of, each_of, each_append, each_left, each_right, members_form, rules_each, found_each, fine_of, declared_of, found_filed}
+use Rattle.opa_table.specs.declared.cells.Found.{Found}
+use Rattle.opa_table.specs.Columns.{blocks_of}
+use Rattle.opa_table.specs.Records.{table_records}
+use Rattle.opa_table.specs.Tables.{IsFound}
+use Rattle.opa_table.proofs.Handing.{In, found_in, found_sound, found_fine, found_concludes, found_declared}
 use Rattle.opa_table.specs.Reading.{AreTableBlocks, TakesBlocks}
 use Rattle.opa_files.specs.declared.source.SourceFile.{SourceFile}
 use Rattle.opa_rulebase.specs.Tables.{AreTableOf, AreTabled, AreGiven, AreAllRules, IsFirstRuleFault, TakesFile, TakesTables}
@@ -84,3 +91,54 @@ module _ (m : Lists) (inferences : List Inferred) (blocks : List Block) (files :
 
   pub all_refused : (fault : RbFault) → taken.first ≡ Some fault → IsFirstRuleFault m inferences blocks files fault
   all_refused fault p = record { given = run.0; are_given = run.1; first = sym run.2.first_is ∙ p }
+
+-- ---- what is handed on
+
+module _ (m : Lists) (ns : Names) where
+  table_each : (Q : RuleBlock → Type 0) (n : ℕ) (f : SourceFile) (bs : List RuleBlock) (t : Bool) → f.is_table ≡ t → ((found : Found) → IsFound m ns (table_records f.text) found → hand.Each Q (blocks_of n found)) → AreTableOf m ns n f bs → hand.Each Q bs
+  table_each Q n f bs true e h k = let b = k.of_table e in subst (hand.Each Q) (sym b.blocks_are) (h b.found b.is_found)
+  table_each Q n f bs false e h k = subst (hand.Each Q) (sym (k.of_rules e)) tt
+
+  tabled_each : (Q : RuleBlock → Type 0) → ((n : ℕ) (bytes : List ℕ) (found : Found) → IsFound m ns (table_records bytes) found → hand.Each Q (blocks_of n found)) → {n : ℕ} {fs : List SourceFile} {bs : List RuleBlock} → AreTabled m ns n fs bs → hand.Each Q bs
+  tabled_each Q h AreTabled.none = tt
+  tabled_each Q h (AreTabled.file {n = n} {f = f} {bs = bs} {more = more} k d) = each_append Q bs more (table_each Q n f bs f.is_table refl (h n f.text) k) (tabled_each Q h d)
+
+  In_Filed : (total n : ℕ) → n < total → (xs : List RuleBlock) → hand.Each (Of (In n)) xs → hand.Each (Of (Filed total)) xs
+  In_Filed total n h [] k = tt
+  In_Filed total n h (x ∷ xs) k = (λ a e s p q r. let i = k.0 a e s p q r in omega (arith, h, i), In_Filed total n h xs k.1)
+
+  tabled_filed : (total : ℕ) → {n : ℕ} {fs : List SourceFile} {bs : List RuleBlock} → AreTabled m ns n fs bs → n + length fs ≤ total → hand.Each (Of (Filed total)) bs
+  tabled_filed total AreTabled.none = λ h. tt
+  tabled_filed total (AreTabled.file {n = n} {f = f} {fs = fs} {bs = bs} {more = more} k d) = λ h.
+      let less : n < total = omega (arith, h) in
+      each_append (Of (Filed total)) bs more (table_each (Of (Filed total)) n f bs f.is_table refl (λ found is. In_Filed total n less (blocks_of n found) (found_in n found)) k) (tabled_filed total d (omega (arith, h)))
+
+module _ (m : Lists) (inferences : List Inferred) (blocks : List Block) (files : List SourceFile) (rules : List Rule) (h : AreAllRules m inferences blocks files rules) where
+  all_each : (P : Rule → Type 0) → hand.Each (Of P) h.are_given.found → hand.Each (Of P) h.are_given.tabled → hand.Each P rules
+  all_each P k l = subst (hand.Each P) (sym h.rules_are) (rules_each P h.given (subst (hand.Each (Of P)) (sym h.are_given.given_is) (each_append (Of P) h.are_given.found h.are_given.tabled k l)))
+
+  fine_hold : AreFormed inferences → hand.Each Fine rules
+  fine_hold formed =
+      let ns = names_in m inferences in
+      let members = members_form inferences (each_of Formed inferences formed) in
+      all_each Fine (found_each m ns (Of Fine) (fine_of m ns members) h.are_given.are_found)
+      (tabled_each m ns (Of Fine) (λ n bytes found is. found_fine m ns members n found (found_sound m ns members is)) h.are_given.are_tabled)
+
+  pub all_formed : AreFormed inferences → HaveForm rules
+  all_formed formed = all_of (λ (r : Rule). HasForm r.expr) rules (each_left (λ (r : Rule). HasForm r.expr) (λ (r : Rule). IsShallow r.expr) rules (fine_hold formed))
+
+  pub all_shallow : AreFormed inferences → AreShallow rules
+  all_shallow formed = all_of (λ (r : Rule). IsShallow r.expr) rules (each_right (λ (r : Rule). HasForm r.expr) (λ (r : Rule). IsShallow r.expr) rules (fine_hold formed))
+
+  pub all_declared : AreDeclared m rules
+  all_declared =
+      let ns = names_in m inferences in
+      all_of (λ (r : Rule). HasAttribute m r.attr) rules
+      (all_each (λ (r : Rule). HasAttribute m r.attr) (found_each m ns (Of (λ (r : Rule). HasAttribute m r.attr)) (declared_of m ns) h.are_given.are_found)
+      (tabled_each m ns (Of (λ (r : Rule). HasAttribute m r.attr)) (λ n bytes found is. found_concludes m n found (found_declared m ns is)) h.are_given.are_tabled))
+
+  pub all_filed : All (λ (b : Block). b.file < length files) blocks → AreFiled (length files) rules
+  all_filed placed =
+      let ns = names_in m inferences in
+      let total = length files in
+      all_of (Filed total) rules (all_each (Filed total) (found_filed m ns total h.are_given.are_found (each_of (Stands total) blocks placed)) (tabled_filed m ns total h.are_given.are_tabled (omega arith)))

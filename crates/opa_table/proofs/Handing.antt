@@ -156,7 +156,7 @@ module _ (m : Lists) (ns : Names) (members : MembersForm bounded ns.members) whe
   abbrev SoundTable : Table → Type 0
   SoundTable d = Sounds d.heads.conditions × SoundCases d.cases × Sounds d.last.values
 
-  abbrev SoundFound : Found → Type 0
+  abbrev pub SoundFound : Found → Type 0
   SoundFound (found.Table d) = SoundTable d
   SoundFound (found.Unspelled n) = Unit {0}
 
@@ -164,7 +164,7 @@ module _ (m : Lists) (ns : Names) (members : MembersForm bounded ns.members) whe
   with_heads h (found.Table d) hs b = (subst (λ (z : Heads). Sounds z.conditions) (sym b.1) hs, b.0.0, b.0.1)
   with_heads h (found.Unspelled n) hs b = tt
 
-  found_sound : {xs : List (List (List ℕ))} {f : Found} → IsFound m ns xs f → SoundFound f
+  pub found_sound : {xs : List (List (List ℕ))} {f : Found} → IsFound m ns xs f → SoundFound f
   found_sound (t.IsFound.too_few e) = tt
   found_sound (t.IsFound.no_heads _ _ e none) = tt
   found_sound (t.IsFound.headed {f = f} _ first h e some are b) = with_heads h f (heads_sound first h.conditions h.conclusions are.cells_say) (below_sound h b)
@@ -252,20 +252,20 @@ module _ (m : Lists) (ns : Names) (members : MembersForm bounded ns.members) whe
   blocks_fine file d place [] h = tt
   blocks_fine file d place (a ∷ attrs) h = (block_fine file d place a h, blocks_fine file d (place + 1) attrs h)
 
-  found_fine : (file : ℕ) (f : Found) → SoundFound m ns members f → hand.Each (Of Fine) (blocks_of file f)
+  pub found_fine : (file : ℕ) (f : Found) → SoundFound m ns members f → hand.Each (Of Fine) (blocks_of file f)
   found_fine file (found.Table d) h = blocks_fine file d 0 d.heads.conclusions h
   found_fine file (found.Unspelled n) h = (λ a e s p q r. absurd (cc p), tt)
 
 -- ---- files
 
-abbrev In : ℕ → Rule → Type 0
+abbrev pub In : ℕ → Rule → Type 0
 In file r = r.file ≡ file
 
 blocks_in : (file : ℕ) (d : Table) (place : ℕ) (attrs : List (Option AttrId)) → hand.Each (Of (In file)) (blocks_from file d place attrs)
 blocks_in file d place [] = tt
 blocks_in file d place (a ∷ attrs) = (λ b e s p q r. refl, blocks_in file d (place + 1) attrs)
 
-found_in : (file : ℕ) (f : Found) → hand.Each (Of (In file)) (blocks_of file f)
+pub found_in : (file : ℕ) (f : Found) → hand.Each (Of (In file)) (blocks_of file f)
 found_in file (found.Table d) = blocks_in file d 0 d.heads.conclusions
 found_in file (found.Unspelled n) = (λ b e s p q r. refl, tt)
 
@@ -280,10 +280,10 @@ module _ (m : Lists) where
   AllDeclared [] = Unit {0}
   AllDeclared (a ∷ attrs) = IsDeclared m a × AllDeclared attrs
 
-  abbrev Concludes : Rule → Type 0
+  abbrev pub Concludes : Rule → Type 0
   Concludes r = HasAttribute m r.attr
 
-  abbrev DeclaredFound : Found → Type 0
+  abbrev pub DeclaredFound : Found → Type 0
   DeclaredFound (found.Table d) = AllDeclared d.heads.conclusions
   DeclaredFound (found.Unspelled n) = Unit {0}
 
@@ -297,7 +297,7 @@ module _ (m : Lists) where
   blocks_conclude file d place [] h = tt
   blocks_conclude file d place (a ∷ attrs) h = (block_concludes file d place a h.0, blocks_conclude file d (place + 1) attrs h.1)
 
-  found_concludes : (file : ℕ) (f : Found) → DeclaredFound f → hand.Each (Of Concludes) (blocks_of file f)
+  pub found_concludes : (file : ℕ) (f : Found) → DeclaredFound f → hand.Each (Of Concludes) (blocks_of file f)
   found_concludes file (found.Table d) h = blocks_conclude file d 0 d.heads.conclusions h
   found_concludes file (found.Unspelled n) h = (λ a e s p q r. absurd (cc p), tt)
 
@@ -332,7 +332,7 @@ module _ (m : Lists) where
     as_declared h (found.Table d) k e = subst (λ (z : Heads). AllDeclared z.conclusions) (sym e) k
     as_declared h (found.Unspelled n) k e = tt
 
-    found_declared : {xs : List (List (List ℕ))} {f : Found} → IsFound m ns xs f → DeclaredFound f
+    pub found_declared : {xs : List (List (List ℕ))} {f : Found} → IsFound m ns xs f → DeclaredFound f
     found_declared (t.IsFound.too_few e) = tt
     found_declared (t.IsFound.no_heads _ _ e none) = tt
     found_declared (t.IsFound.headed {f = f} _ first h e some are b) = as_declared h f (heads_declared first h.conditions h.conclusions are.cells_say) (heads_below h b)
