@@ -1,19 +1,16 @@
 -- What attributes say, and how many decimals their answers have.
-use Rattle.std.proofs.Common.{◌≡◌, ◌↔◌, ◌≤◌, ◌<◌, ◌+◌, ◌^◌, ℕ, List, [], ◌∷◌, length, Option, Some, None, All, Contains, IsSome, refl, sym, ap, subst, arith}
-use Rattle.std.specs.Prelude.{flat_map}
-use Rattle.std.proofs.lemmas.List.Elements.{All-nil, All-cons, All-contains, All-weaker}
-use Rattle.opa_model.specs.declared.lists.Lists.{Lists}
+use Rattle.std.proofs.Common.{◌≡◌, ◌↔◌, ◌≤◌, ℕ, List, [], All, IsSome, refl, arith}
+use Rattle.std.proofs.lemmas.List.Elements.{All-nil, All-cons, All-weaker}
 use Rattle.opa_model.specs.declared.things.Attribute.{Attribute}
-use Rattle.opa_model.specs.declared.things.Kind.{Kind}
 use Rattle.opa_model.specs.declared.things.Kind.TheVariants as kind
-use Rattle.opa_model.specs.Models.{HasDecimals, IsModel}
+use Rattle.opa_model.specs.Models.{HasDecimals}
 use Rattle.opa_decl.specs.declared.items.Item.{Item}
 use Rattle.opa_decl.specs.declared.items.Item.TheVariants as item
 use Rattle.opa_decl.specs.declared.items.Sort.{Sort}
 use Rattle.opa_decl.specs.declared.items.Sort.TheVariants as sort
 use Rattle.opa_decl.specs.declared.numbered.Numbered.{Numbered}
-use Rattle.opa_decl.specs.Lists.{kind_of, bounds_in, sentence_in, attribute_by, attribute_in, lists_of}
-use Rattle.opa_decl.specs.Names.{Tables, tables_of}
+use Rattle.opa_decl.specs.Lists.{kind_of, bounds_in, sentence_in, attribute_by, attribute_in}
+use Rattle.opa_decl.specs.Names.{Tables}
 use Rattle.opa_decl.specs.Numbering.{numbered, no_counts}
 use Rattle.opa_decl.proofs.MadeLists.{attributes, all_numbered}
 use Rattle.opa_decl.proofs.NumberedLaws.{each_of, all_flat}

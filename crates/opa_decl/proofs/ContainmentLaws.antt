@@ -1,6 +1,5 @@
 -- Each entity lies in an earlier one, by the relation of its own block.
-use Rattle.std.proofs.Common.{◌≡◌, ◌≢◌, ◌∙◌, ◌+◌, ◌<◌, ◌≤◌, ℕ, zero, suc, Bool, true, false, List, [], ◌∷◌, length, Some, IsTrue, slice_get, All, Contains, refl, sym, ap, subst, arith}
-use Rattle.std.specs.Prelude.{flat_map}
+use Rattle.std.proofs.Common.{◌≡◌, ◌∙◌, ◌<◌, ℕ, zero, suc, Bool, true, false, List, [], ◌∷◌, Some, IsTrue, slice_get, All, Contains, refl, sym, ap, subst, arith}
 use Rattle.std.proofs.lemmas.List.Elements.{All-nil, All-cons}
 use Rattle.opa_model.specs.declared.things.Entity.{Entity}
 use Rattle.opa_model.specs.declared.things.Relation.{Relation}

@@ -1,24 +1,16 @@
 -- Lines give answers at most four decimals, and those of a currency two.
-use Rattle.std.proofs.Common.{◌≡◌, ◌∙◌, ◌≤◌, ℕ, zero, suc, ℤ, pos, negsuc, Bool, true, false, cond, List, [], ◌∷◌, Option, Some, None, IfSome, All, refl, sym, ap, subst, arith}
+use Rattle.std.proofs.Common.{◌≡◌, ◌≤◌, ℕ, zero, suc, ℤ, pos, negsuc, Bool, true, false, cond, List, [], ◌∷◌, Option, Some, None, IfSome, All, subst, arith}
 use Rattle.std.specs.Prelude.{◌/◌, ◌%◌, ◌&&◌, ◌==◌, nat_le, is_some, unwrap_or, codes}
 use Rattle.std.specs.Option.{option_map, option_and_then}
 use Rattle.std.proofs.lemmas.Bool.{leb-true, and_parts}
-use Rattle.std.proofs.lemmas.List.Elements.{All-nil}
 use Rattle.std.proofs.lemmas.Option.{cond_some}
 use Rattle.opa_words.specs.declared.kinds.Token.{Token}
 use Rattle.opa_words.specs.Reserved.{are_phrase, phrase_text}
-use Rattle.opa_model.specs.declared.things.Verb.{Verb}
 use Rattle.opa_decl.specs.declared.cut.CutBlock.{CutBlock}
 use Rattle.opa_decl.specs.declared.cut.CutLine.{CutLine}
 use Rattle.opa_decl.specs.declared.items.Bounds.{Bounds}
 use Rattle.opa_decl.specs.declared.items.Item.{Item}
-use Rattle.opa_decl.specs.declared.items.Item.TheVariants as item
-use Rattle.opa_decl.specs.declared.items.Item.TheVariants.{Attribute, Relation}
 use Rattle.opa_decl.specs.declared.items.Place.{Place}
-use Rattle.opa_decl.specs.declared.items.RelationLine.{RelationLine}
-use Rattle.opa_decl.specs.declared.items.Said.{Said}
-use Rattle.opa_decl.specs.declared.items.Sort.{Sort}
-use Rattle.opa_decl.specs.declared.items.Sort.TheVariants as sort
 use Rattle.opa_decl.specs.declared.limits.Limits.{Limits}
 use Rattle.opa_decl.specs.Declarations.{items_of}
 use Rattle.opa_decl.specs.Limits.{whole_up_to, no_limits, bounds_of, with_least, with_most, with_decimals, number_at, signed, whole, limit, ends_or, limits}
@@ -27,7 +19,7 @@ use Rattle.opa_decl.specs.Pieces.{has_text, split_at, phrase}
 use Rattle.opa_decl.specs.Spelling.{place_in, member_in}
 use Rattle.opa_decl.proofs.AttributeLaws.{DeclaresFew}
 use Rattle.opa_decl.proofs.MemberLines.{HoldOfLines, in_member, member_tokens}
-use Rattle.opa_decl.proofs.SpelledItems.{bound, mapped, Hold, in_all_items}
+use Rattle.opa_decl.proofs.SpelledItems.{bound, mapped, carried, given, Hold, in_all_items}
 
 -- ---- bounds
 
@@ -95,18 +87,26 @@ module _ (bytes : List ℕ) where
       go None h = omega arith
       go (Some k) h = h
 
-  number_few : (most : ℕ) (ts : List Token) (x : List ℕ × Bounds) → number_line bytes most ts ≡ Some x → x.1.decimals ≤ most
+  abbrev IsBounded : ℕ → List ℕ × Bounds → Type 0
+  IsBounded most x = x.1.decimals ≤ most
+
+  abbrev with_bounds : ℕ → List Token → List ℕ → Option (List ℕ × Bounds)
+  with_bounds most ts text = option_and_then (λ (found : Limits). Some (text, bounds_of most found)) (limits bytes 3 most no_limits ts)
+
+  bounded_few : (most : ℕ) (ts : List Token) (x : List ℕ × Bounds) → option_and_then (λ (parts : List Token × List Token). option_and_then (with_bounds most parts.1) (phrase bytes parts.0)) (split_at bytes (codes ":") ts) ≡ Some x → IsBounded most x
+  bounded_few most ts =
+      carried (IsBounded most) (λ (parts : List Token × List Token). option_and_then (with_bounds most parts.1) (phrase bytes parts.0)) (split_at bytes (codes ":") ts) (λ parts _.
+      carried (IsBounded most) (with_bounds most parts.1) (phrase bytes parts.0) (λ text _.
+      carried (IsBounded most) (λ (found : Limits). Some (text, bounds_of most found)) (limits bytes 3 most no_limits parts.1) (λ found is x.
+      given (IsBounded most) (text, bounds_of most found) x (bounds_few most found (limits_few 3 most no_limits parts.1 found tt is)))))
+
+  number_few : (most : ℕ) (ts : List Token) (x : List ℕ × Bounds) → number_line bytes most ts ≡ Some x → IsBounded most x
   unfolding number_line
-  number_few most ts x h = go (are_phrase bytes ts) h
+  number_few most ts x = go (are_phrase bytes ts)
     where
-      go : (b : Bool) → cond b (Some (phrase_text bytes ts, bounds_of most no_limits)) (option_and_then (λ (parts : List Token × List Token). option_and_then (λ (text : List ℕ). option_and_then (λ (found : Limits). Some (text, bounds_of most found)) (limits bytes 3 most no_limits parts.1)) (phrase bytes parts.0)) (split_at bytes (codes ":") ts)) ≡ Some x
-          → x.1.decimals ≤ most
-      go true k = subst (λ (y : List ℕ × Bounds). y.1.decimals ≤ most) (let same : (phrase_text bytes ts, bounds_of most no_limits) ≡ x = cc k in same) (bounds_few most no_limits tt)
-      go false k =
-          let parts = bound (λ (parts : List Token × List Token). option_and_then (λ (text : List ℕ). option_and_then (λ (found : Limits). Some (text, bounds_of most found)) (limits bytes 3 most no_limits parts.1)) (phrase bytes parts.0)) (split_at bytes (codes ":") ts) x k in
-          let text = bound (λ (text : List ℕ). option_and_then (λ (found : Limits). Some (text, bounds_of most found)) (limits bytes 3 most no_limits parts.0.1)) (phrase bytes parts.0.0) x parts.2 in
-          let found = bound (λ (found : Limits). Some (text.0, bounds_of most found)) (limits bytes 3 most no_limits parts.0.1) x text.2 in
-          subst (λ (y : List ℕ × Bounds). y.1.decimals ≤ most) (let same : (text.0, bounds_of most found.0) ≡ x = cc found.2 in same) (bounds_few most found.0 (limits_few 3 most no_limits parts.0.1 found.0 tt found.1))
+      go : (b : Bool) → cond b (Some (phrase_text bytes ts, bounds_of most no_limits)) (option_and_then (λ (parts : List Token × List Token). option_and_then (with_bounds most parts.1) (phrase bytes parts.0)) (split_at bytes (codes ":") ts)) ≡ Some x → IsBounded most x
+      go true = given (IsBounded most) (phrase_text bytes ts, bounds_of most no_limits) x (bounds_few most no_limits tt)
+      go false = bounded_few most ts x
 
 -- ---- lines
 

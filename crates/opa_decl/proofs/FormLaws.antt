@@ -1,10 +1,10 @@
 -- The texts by which rules know things all differ, and so do the items of screens.
-use Rattle.std.proofs.Common.{◌≡◌, ◌≢◌, ◌∙◌, ◌+◌, ◌<◌, ◌≤◌, ℕ, Bool, true, false, not, cond, ◌||◌, List, [], ◌∷◌, ◌++◌, length, map, Option, Some, None, slice_get, All, AllPairs, Contains, refl, sym, ap, ap₂, subst, append-nil, arith}
+use Rattle.std.proofs.Common.{◌≡◌, ◌≢◌, ◌∙◌, ◌+◌, ◌≤◌, ℕ, Bool, true, false, not, cond, ◌||◌, List, [], ◌∷◌, ◌++◌, map, Option, Some, slice_get, All, AllPairs, refl, sym, ap, ap₂, subst, append-nil, arith}
 use Rattle.std.specs.Prelude.{flat_map}
 use Rattle.std.proofs.lemmas.Bool.{not-false}
 use Rattle.std.proofs.lemmas.List.{map-append}
 use Rattle.std.proofs.lemmas.List.Concat.{flat_map-append}
-use Rattle.std.proofs.lemmas.List.Elements.{All-nil, All-cons, All-head, All-tail, All-map, All-same}
+use Rattle.std.proofs.lemmas.List.Elements.{All-nil, All-cons, All-head, All-tail, All-same}
 use Rattle.std.proofs.lemmas.List.Kept.{AllPairs-cons}
 use Rattle.opa_model.specs.declared.things.Item.{Item as Shown}
 use Rattle.opa_model.specs.declared.things.Item.TheVariants.{Attr, Members}
@@ -17,7 +17,7 @@ use Rattle.opa_decl.specs.declared.items.Item.TheVariants as item
 use Rattle.opa_decl.specs.declared.items.Name.{Name}
 use Rattle.opa_decl.specs.declared.numbered.Counts.{Counts}
 use Rattle.opa_decl.specs.declared.numbered.Numbered.{Numbered}
-use Rattle.opa_decl.specs.Faults.{unknown_item, unknown_names, repeated}
+use Rattle.opa_decl.specs.Faults.{unknown_item, unknown_names}
 use Rattle.opa_decl.specs.Lists.{screen_by, shown}
 use Rattle.opa_decl.specs.Names.{Tables, texts, place, is_declared, attribute_name, relation_name, screen_name, verb_in, negative, forms}
 use Rattle.opa_decl.specs.Numbering.{numbered, no_counts}

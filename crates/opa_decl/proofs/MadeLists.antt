@@ -1,5 +1,5 @@
 -- The lists that are made of items, and what is known of items without a fault.
-use Rattle.std.proofs.Common.{◌≡◌, ◌∙◌, ◌+◌, ◌<◌, ◌≤◌, ℕ, Bool, true, false, not, List, [], ◌∷◌, ◌++◌, length, map, Option, Some, None, nat_lt, All, refl, ap, arith}
+use Rattle.std.proofs.Common.{◌≡◌, ◌<◌, ℕ, Bool, true, false, not, List, [], ◌∷◌, map, nat_lt, All, refl}
 use Rattle.std.specs.Prelude.{flat_map}
 use Rattle.std.proofs.lemmas.Bool.{ltb-true, not-false}
 use Rattle.std.proofs.lemmas.List.Elements.{All-nil, All-cons, All-head, All-tail}
@@ -11,13 +11,12 @@ use Rattle.opa_model.specs.declared.things.Relation.{Relation}
 use Rattle.opa_tree.specs.declared.faults.RbKind.{RbKind}
 use Rattle.opa_tree.specs.declared.faults.RbKind.TheVariants.{Name as Unnamed}
 use Rattle.opa_decl.specs.declared.items.Item.{Item}
-use Rattle.opa_decl.specs.declared.items.Name.{Name}
 use Rattle.opa_decl.specs.declared.items.Place.{Place}
 use Rattle.opa_decl.specs.declared.numbered.Counts.{Counts}
 use Rattle.opa_decl.specs.declared.numbered.Numbered.{Numbered}
 use Rattle.opa_decl.specs.Faults.{when, faults_by, twice_faults, limit_faults, name_faults, scope_faults, repeated}
 use Rattle.opa_decl.specs.Lists.{global_entity, entity_in, attribute_in, relation_in, screen_by, goal_by}
-use Rattle.opa_decl.specs.Names.{Tables, tables_of, texts, verb_name, entity_name, attribute_name, relation_name, goal_name, screen_name, file_name, verb_in, forms}
+use Rattle.opa_decl.specs.Names.{Tables, tables_of, texts, verb_name, entity_name, attribute_name, relation_name, goal_name, screen_name, verb_in, forms}
 use Rattle.opa_decl.specs.Numbering.{numbered, no_counts, counts_after}
 use Rattle.opa_decl.proofs.NumberedLaws.{no_parts, nothing}
 

@@ -10,7 +10,6 @@ use Rattle.opa_decl.specs.declared.items.Item.TheVariants.{Relation}
 use Rattle.opa_decl.specs.declared.items.Place.{Place}
 use Rattle.opa_decl.specs.declared.items.RelationLine.{RelationLine}
 use Rattle.opa_decl.specs.declared.items.Said.{Said}
-use Rattle.opa_decl.specs.declared.items.Sort.{Sort}
 use Rattle.opa_decl.specs.declared.items.Sort.TheVariants as sort
 use Rattle.opa_decl.specs.Lines.{bool_line, number_line, bool_attribute, number_attribute, attribute, reference_line, every_line, member_of, member}
 use Rattle.opa_decl.specs.Pieces.{has_text, phrase}

@@ -1,6 +1,5 @@
 -- Texts that are made of tokens are cut into them again.
-use Rattle.std.proofs.Common.{◌≡◌, ◌∙◌, ◌-◌, ◌+◌, ◌<◌, ◌≤◌, ℕ, Bool, true, false, not, ◌&&◌, List, [], ◌∷◌, ◌++◌, length, map, take, drop, ◌≢◌, All, refl, sym, ap, ap₂, subst, append-nil, append_assoc, arith}
-use Rattle.std.specs.Prelude.{Option, Some, None}
+use Rattle.std.proofs.Common.{◌≡◌, ◌∙◌, ◌<◌, ℕ, Bool, true, false, not, ◌&&◌, List, [], ◌∷◌, ◌++◌, length, map, ◌≢◌, All, refl, sym, ap, ap₂, subst, append-nil, append_assoc, arith}
 use Rattle.std.specs.List.{list_all}
 use Rattle.std.specs.Str.{chars, IsUtf8}
 use Rattle.std.proofs.lemmas.Bool.{and_parts, and_from}
@@ -9,10 +8,6 @@ use Rattle.std.proofs.lemmas.List.Elements.{All-nil, All-cons, All-head, All-tai
 use Rattle.std.proofs.lemmas.Str.{IsUtf8-between, chars-nil}
 use Rattle.opa_verbs.specs.Forms.{beside}
 use Rattle.opa_words.specs.declared.kinds.Token.{Token}
-use Rattle.opa_words.specs.declared.kinds.TokenKind.{TokenKind}
-use Rattle.opa_words.specs.declared.kinds.TokenKind.TheVariants as kind
-use Rattle.opa_words.specs.Cuts.{Cuts}
-use Rattle.opa_words.specs.Kinds.{IsToken}
 use Rattle.opa_words.specs.Places.{token_text, IsWithin, IsOfKind}
 use Rattle.opa_words.specs.Reserved.{joined, phrase_text, are_phrase, begins_well, ends_badly, is_phrase_kind, is_word_kind, is_reserved, is_ending}
 use Rattle.opa_pieces.specs.Pieces.{Piece, IsPiece, IsCutInto, piece, pieces}

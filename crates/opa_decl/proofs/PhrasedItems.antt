@@ -1,9 +1,9 @@
 -- Items have phrases that are phrases, and sentences that are made of Words and Numbers.
-use Rattle.std.proofs.Common.{◌≡◌, ◌+◌, ◌<◌, ℕ, Bool, true, false, not, cond, ◌&&◌, List, [], ◌∷◌, ◌++◌, length, take, drop, position, Option, Some, None, All, refl, sym, ap, subst, arith}
+use Rattle.std.proofs.Common.{◌≡◌, ◌+◌, ℕ, Bool, true, false, not, cond, ◌&&◌, List, [], ◌∷◌, ◌++◌, length, take, drop, position, Option, Some, None, All, refl, subst, arith}
 use Rattle.std.specs.Prelude.{◌==◌, codes, if◌then◌else◌}
 use Rattle.std.specs.List.{list_all}
-use Rattle.std.specs.Option.{option_map, option_and_then}
-use Rattle.std.proofs.lemmas.Bool.{and_parts, and_from, not-true, eqb-false}
+use Rattle.std.specs.Option.{option_and_then}
+use Rattle.std.proofs.lemmas.Bool.{and_parts, and_from, not-true}
 use Rattle.std.proofs.lemmas.Option.{cond_some}
 use Rattle.std.proofs.lemmas.List.{length-map}
 use Rattle.std.proofs.lemmas.List.Elements.{All-tail, All-take, All-drop, All-append}
@@ -34,10 +34,11 @@ use Rattle.opa_decl.specs.Limits.{limits, no_limits, bounds_of}
 use Rattle.opa_decl.specs.Lines.{name, verb_line, words_or_none, said_by, bool_line, number_line, target, reference_line, every_line, parent, inside_line}
 use Rattle.opa_decl.specs.Phrasing.{IsPhrase}
 use Rattle.opa_decl.specs.Pieces.{has_text, split_at, phrase, words, are_words}
-use Rattle.opa_decl.specs.Spelling.{place_in, inner, behind_first, behind_head, member_in, headed_verb, headed_phrase, inside_in}
+use Rattle.opa_decl.specs.Steps.{◌>>=◌}
+use Rattle.opa_decl.specs.Spelling.{place_in, inner, behind_first, behind_head, member_in, headed_verb, inside_in}
 use Rattle.opa_decl.proofs.MemberLines.{HoldOfLines, in_member, member_tokens}
 use Rattle.opa_decl.proofs.PhraseTexts.{AreOf, IsSaid, IsSaidFully, spoken_tokens, phrase_joined, phrase_again}
-use Rattle.opa_decl.proofs.SpelledItems.{bound, mapped, same_value, Hold, in_all_items}
+use Rattle.opa_decl.proofs.SpelledItems.{bound, mapped, carried, given, given_if, same_value, Hold, in_all_items}
 
 -- what a bool says
 abbrev pub SaysWell : Sort → Type 0
@@ -131,94 +132,122 @@ module _ (bytes : List ℕ) where
   abbrev IsBoolSaid : List ℕ × Said → Type 0
   IsBoolSaid x = IsPhrase x.0 × (IsSaidFully x.1.subject × IsSaid x.1.rest)
 
-  said_by_of : (subject positive rest : List Token) (x : List ℕ × Said) → AreOf bytes subject → AreOf bytes positive → AreOf bytes rest → said_by bytes subject positive rest ≡ Some x → IsBoolSaid x
-  said_by_of subject positive rest x s p r h =
-      let make : List ℕ → List ℕ → Option (List ℕ × Said) = λ whole pos. cond (length subject == 0) None (Some (whole, record { subject = phrase_text bytes subject; positive = pos; rest = phrase_text bytes rest })) in
-      let whole = bound (λ (whole : List ℕ). option_and_then (make whole) (words bytes positive)) (phrase bytes (subject ++ (positive ++ rest))) x h in
-      let pos = bound (make whole.0) (words bytes positive) x whole.2 in
-      let kinds = kinds_parts subject (positive ++ rest) (phrase_kinds (subject ++ (positive ++ rest)) whole.0 whole.1) in
-      by whole.0 pos.0 (phrase_of (subject ++ (positive ++ rest)) whole.0 (both_of subject (positive ++ rest) s (both_of positive rest p r)) whole.1) kinds.0 (kinds_parts positive rest kinds.1).1 (length subject == 0) refl pos.2
-    where
-      by : (whole pos : List ℕ) → IsPhrase whole → list_all (λ t. is_phrase_kind t.kind) subject ≡ true → list_all (λ t. is_phrase_kind t.kind) rest ≡ true → (b : Bool) → (length subject == 0) ≡ b
-          → cond b None (Some (whole, record { subject = phrase_text bytes subject; positive = pos; rest = phrase_text bytes rest })) ≡ Some x → IsBoolSaid x
-      by whole pos is a b true e k = absurd (cc k)
-      by whole pos is a b false e k = subst IsBoolSaid (same_value k) (is, (fully_of subject s a e, said_of rest r b))
+  said_if : (subject rest : List Token) (whole pos : List ℕ) → AreOf bytes subject → AreOf bytes rest → IsPhrase whole → list_all (λ t. is_phrase_kind t.kind) subject ≡ true → list_all (λ t. is_phrase_kind t.kind) rest ≡ true
+      → (b : Bool) → (length subject == 0) ≡ b → (x : List ℕ × Said) → cond b None (Some (whole, record { subject = phrase_text bytes subject; positive = pos; rest = phrase_text bytes rest })) ≡ Some x → IsBoolSaid x
+  said_if subject rest whole pos s r is a b true e x k = absurd (cc k)
+  said_if subject rest whole pos s r is a b false e x k = subst IsBoolSaid (same_value k) (is, (fully_of subject s a e, said_of rest r b))
 
-  bool_of : (ts : List Token) (x : List ℕ × Said) → AreOf bytes ts → bool_line bytes ts ≡ Some x → IsBoolSaid x
+  said_by_of : (subject positive rest : List Token) → AreOf bytes subject → AreOf bytes positive → AreOf bytes rest → (x : List ℕ × Said) → said_by bytes subject positive rest ≡ Some x → IsBoolSaid x
+  said_by_of subject positive rest s p r =
+      let all = subject ++ (positive ++ rest) in
+      let make : List ℕ → List ℕ → Option (List ℕ × Said) = λ whole pos. if length subject == 0 then None else Some (whole, record { subject = phrase_text bytes subject; positive = pos; rest = phrase_text bytes rest }) in
+      carried IsBoolSaid (λ (whole : List ℕ). option_and_then (make whole) (words bytes positive)) (phrase bytes all) (λ whole is.
+      carried IsBoolSaid (make whole) (words bytes positive) (λ pos _.
+      let kinds = kinds_parts subject (positive ++ rest) (phrase_kinds all whole is) in
+      said_if subject rest whole pos s r (phrase_of all whole (both_of subject (positive ++ rest) s (both_of positive rest p r)) is) kinds.0 (kinds_parts positive rest kinds.1).1 (length subject == 0) refl))
+
+  bool_of : (ts : List Token) → AreOf bytes ts → (x : List ℕ × Said) → bool_line bytes ts ≡ Some x → IsBoolSaid x
   unfolding bool_line
-  bool_of ts x are h =
-      let subject = bound (λ (subject : List Token × List Token). option_and_then (λ (positive : List Token × List Token). said_by bytes subject.0 positive.0 positive.1) (split_at bytes (codes "]") subject.1)) (split_at bytes (codes "[") ts) x h in
-      let positive = bound (λ (positive : List Token × List Token). said_by bytes subject.0.0 positive.0 positive.1) (split_at bytes (codes "]") subject.0.1) x subject.2 in
-      let s = split_of (codes "[") ts subject.0 are subject.1 in
-      let p = split_of (codes "]") subject.0.1 positive.0 s.1 positive.1 in
-      said_by_of subject.0.0 positive.0.0 positive.0.1 x s.0 p.0 p.1 positive.2
+  bool_of ts are =
+      carried IsBoolSaid (λ (subject : List Token × List Token). option_and_then (λ (positive : List Token × List Token). said_by bytes subject.0 positive.0 positive.1) (split_at bytes (codes "]") subject.1)) (split_at bytes (codes "[") ts) (λ subject first.
+      carried IsBoolSaid (λ (positive : List Token × List Token). said_by bytes subject.0 positive.0 positive.1) (split_at bytes (codes "]") subject.1) (λ positive second.
+      let s = split_of (codes "[") ts subject are first in
+      let p = split_of (codes "]") subject.1 positive s.1 second in
+      said_by_of subject.0 positive.0 positive.1 s.0 p.0 p.1))
 
-  number_of : (most : ℕ) (ts : List Token) (x : List ℕ × Bounds) → AreOf bytes ts → number_line bytes most ts ≡ Some x → IsPhrase x.0
+  abbrev IsNumberPhrased : List ℕ × Bounds → Type 0
+  IsNumberPhrased x = IsPhrase x.0
+
+  abbrev with_bounds : ℕ → List Token → List ℕ → Option (List ℕ × Bounds)
+  with_bounds most ts text = option_and_then (λ (found : Limits). Some (text, bounds_of most found)) (limits bytes 3 most no_limits ts)
+
+  bounded_of : (most : ℕ) (ts : List Token) → AreOf bytes ts → (x : List ℕ × Bounds) → option_and_then (λ (parts : List Token × List Token). option_and_then (with_bounds most parts.1) (phrase bytes parts.0)) (split_at bytes (codes ":") ts) ≡ Some x → IsNumberPhrased x
+  bounded_of most ts are =
+      carried IsNumberPhrased (λ (parts : List Token × List Token). option_and_then (with_bounds most parts.1) (phrase bytes parts.0)) (split_at bytes (codes ":") ts) (λ parts split.
+      carried IsNumberPhrased (with_bounds most parts.1) (phrase bytes parts.0) (λ text is.
+      carried IsNumberPhrased (λ (found : Limits). Some (text, bounds_of most found)) (limits bytes 3 most no_limits parts.1) (λ found _ x.
+      given IsNumberPhrased (text, bounds_of most found) x (phrase_of parts.0 text (split_of (codes ":") ts parts are split).0 is))))
+
+  number_of : (most : ℕ) (ts : List Token) → AreOf bytes ts → (x : List ℕ × Bounds) → number_line bytes most ts ≡ Some x → IsNumberPhrased x
   unfolding number_line
-  number_of most ts x are h = go (are_phrase bytes ts) refl h
+  number_of most ts are x = go (are_phrase bytes ts) refl
     where
-      go : (b : Bool) → are_phrase bytes ts ≡ b → cond b (Some (phrase_text bytes ts, bounds_of most no_limits)) (option_and_then (λ (parts : List Token × List Token). option_and_then (λ (text : List ℕ). option_and_then (λ (found : Limits). Some (text, bounds_of most found)) (limits bytes 3 most no_limits parts.1)) (phrase bytes parts.0)) (split_at bytes (codes ":") ts)) ≡ Some x
-          → IsPhrase x.0
-      go true e k = subst (λ (y : List ℕ × Bounds). IsPhrase y.0) (same_value k) (phrase_again bytes ts are e)
-      go false e k =
-          let parts = bound (λ (parts : List Token × List Token). option_and_then (λ (text : List ℕ). option_and_then (λ (found : Limits). Some (text, bounds_of most found)) (limits bytes 3 most no_limits parts.1)) (phrase bytes parts.0)) (split_at bytes (codes ":") ts) x k in
-          let text = bound (λ (text : List ℕ). option_and_then (λ (found : Limits). Some (text, bounds_of most found)) (limits bytes 3 most no_limits parts.0.1)) (phrase bytes parts.0.0) x parts.2 in
-          let found = bound (λ (found : Limits). Some (text.0, bounds_of most found)) (limits bytes 3 most no_limits parts.0.1) x text.2 in
-          subst (λ (y : List ℕ × Bounds). IsPhrase y.0) (same_value found.2) (phrase_of parts.0.0 text.0 (split_of (codes ":") ts parts.0 are parts.1).0 text.1)
+      go : (b : Bool) → are_phrase bytes ts ≡ b → cond b (Some (phrase_text bytes ts, bounds_of most no_limits)) (option_and_then (λ (parts : List Token × List Token). option_and_then (with_bounds most parts.1) (phrase bytes parts.0)) (split_at bytes (codes ":") ts)) ≡ Some x → IsNumberPhrased x
+      go true e = given IsNumberPhrased (phrase_text bytes ts, bounds_of most no_limits) x (phrase_again bytes ts are e)
+      go false e = bounded_of most ts are x
 
-  reference_of : (at : Place) (of_global : Bool) (ts : List Token) (x : RelationLine) → AreOf bytes ts → reference_line bytes at of_global ts ≡ Some x → IsPhrase x.phrase.text
+  abbrev IsRelated : RelationLine → Type 0
+  IsRelated r = IsPhrase r.phrase.text
+
+  reference_of : (at : Place) (of_global : Bool) (ts : List Token) → AreOf bytes ts → (x : RelationLine) → reference_line bytes at of_global ts ≡ Some x → IsRelated x
   unfolding reference_line
-  reference_of at of_global ts x are h =
+  reference_of at of_global ts are =
       let make : List ℕ → Reach × List ℕ → RelationLine = λ text entity. record { of_global = of_global; phrase = name at text; target = name at entity.1; reach = entity.0 } in
-      let parts = bound (λ (parts : List Token × List Token). option_and_then (λ (text : List ℕ). option_and_then (λ (entity : Reach × List ℕ). Some (make text entity)) (target bytes parts.1)) (phrase bytes parts.0)) (split_at bytes (codes ":") ts) x h in
-      let text = bound (λ (text : List ℕ). option_and_then (λ (entity : Reach × List ℕ). Some (make text entity)) (target bytes parts.0.1)) (phrase bytes parts.0.0) x parts.2 in
-      let entity = bound (λ (entity : Reach × List ℕ). Some (make text.0 entity)) (target bytes parts.0.1) x text.2 in
-      subst (λ (y : RelationLine). IsPhrase y.phrase.text) (same_value entity.2) (phrase_of parts.0.0 text.0 (split_of (codes ":") ts parts.0 are parts.1).0 text.1)
+      carried IsRelated (λ (parts : List Token × List Token). option_and_then (λ (text : List ℕ). option_and_then (λ (entity : Reach × List ℕ). Some (make text entity)) (target bytes parts.1)) (phrase bytes parts.0)) (split_at bytes (codes ":") ts) (λ parts split.
+      carried IsRelated (λ (text : List ℕ). option_and_then (λ (entity : Reach × List ℕ). Some (make text entity)) (target bytes parts.1)) (phrase bytes parts.0) (λ text is.
+      carried IsRelated (λ (entity : Reach × List ℕ). Some (make text entity)) (target bytes parts.1) (λ entity _ x.
+      given IsRelated (make text entity) x (phrase_of parts.0 text (split_of (codes ":") ts parts are split).0 is))))
 
-  every_of : (at : Place) (of_global : Bool) (ts : List Token) (x : RelationLine) → AreOf bytes ts → every_line bytes at of_global ts ≡ Some x → IsPhrase x.phrase.text
+  every_of : (at : Place) (of_global : Bool) (ts : List Token) → AreOf bytes ts → (x : RelationLine) → every_line bytes at of_global ts ≡ Some x → IsRelated x
   unfolding every_line
-  every_of at of_global ts x are h =
+  every_of at of_global ts are =
       let make : List ℕ → List ℕ → RelationLine = λ text entity. record { of_global = of_global; phrase = name at text; target = name at entity; reach = reach.Every } in
-      let parts = bound (λ (parts : List Token × List Token). option_and_then (λ (text : List ℕ). option_and_then (λ (entity : List ℕ). cond of_global (Some (make text entity)) None) (phrase bytes parts.1)) (phrase bytes parts.0)) (split_at bytes (codes ":") ts) x h in
-      let text = bound (λ (text : List ℕ). option_and_then (λ (entity : List ℕ). cond of_global (Some (make text entity)) None) (phrase bytes parts.0.1)) (phrase bytes parts.0.0) x parts.2 in
-      let entity = bound (λ (entity : List ℕ). cond of_global (Some (make text.0 entity)) None) (phrase bytes parts.0.1) x text.2 in
-      subst (λ (y : RelationLine). IsPhrase y.phrase.text) (cond_some of_global (make text.0 entity.0) x entity.2).1 (phrase_of parts.0.0 text.0 (split_of (codes ":") ts parts.0 are parts.1).0 text.1)
+      carried IsRelated (λ (parts : List Token × List Token). option_and_then (λ (text : List ℕ). option_and_then (λ (entity : List ℕ). if of_global then Some (make text entity) else None) (phrase bytes parts.1)) (phrase bytes parts.0)) (split_at bytes (codes ":") ts) (λ parts split.
+      carried IsRelated (λ (text : List ℕ). option_and_then (λ (entity : List ℕ). if of_global then Some (make text entity) else None) (phrase bytes parts.1)) (phrase bytes parts.0) (λ text is.
+      carried IsRelated (λ (entity : List ℕ). if of_global then Some (make text entity) else None) (phrase bytes parts.1) (λ entity _ x.
+      given_if IsRelated of_global (make text entity) x (phrase_of parts.0 text (split_of (codes ":") ts parts are split).0 is))))
 
-  inside_of : (at : Place) (ts : List Token) (x : Option Name × Name) → AreOf bytes ts → inside_line bytes at ts ≡ Some x → IsPhrase x.1.text
+  abbrev IsInside : Option Name × Name → Type 0
+  IsInside x = IsPhrase x.1.text
+
+  inside_of : (at : Place) (ts : List Token) → AreOf bytes ts → (x : Option Name × Name) → inside_line bytes at ts ≡ Some x → IsInside x
   unfolding inside_line
-  inside_of at [] x are h = absurd (cc h)
-  inside_of at (t ∷ ts) x are h =
-      let make : Option Name → List ℕ → Option Name × Name = λ above text. (above, name at text) in
-      let is_in : Bool = has_text bytes (codes "in") t in
-      let parts = bound (λ (parts : List Token × List Token). option_and_then (λ (above : Option Name). option_and_then (λ (text : List ℕ). cond is_in (Some (make above text)) None) (phrase bytes parts.1)) (parent bytes at parts.0)) (split_at bytes (codes ":") ts) x h in
-      let above = bound (λ (above : Option Name). option_and_then (λ (text : List ℕ). cond is_in (Some (make above text)) None) (phrase bytes parts.0.1)) (parent bytes at parts.0.0) x parts.2 in
-      let text = bound (λ (text : List ℕ). cond is_in (Some (make above.0 text)) None) (phrase bytes parts.0.1) x above.2 in
-      subst (λ (y : Option Name × Name). IsPhrase y.1.text) (cond_some is_in (make above.0 text.0) x text.2).1 (phrase_of parts.0.1 text.0 (split_of (codes ":") ts parts.0 (rest_of t ts are) parts.1).1 text.1)
+  inside_of at [] are x h = absurd (cc h)
+  inside_of at (t ∷ ts) are x h =
+      let make : Option Name → List ℕ → Option (Option Name × Name) = λ above text. if has_text bytes (codes "in") t then Some (above, name at text) else None in
+      carried IsInside (λ (parts : List Token × List Token). option_and_then (λ (above : Option Name). option_and_then (make above) (phrase bytes parts.1)) (parent bytes at parts.0)) (split_at bytes (codes ":") ts) (λ parts split.
+      carried IsInside (λ (above : Option Name). option_and_then (make above) (phrase bytes parts.1)) (parent bytes at parts.0) (λ above _.
+      carried IsInside (make above) (phrase bytes parts.1) (λ text is y.
+      given_if IsInside (has_text bytes (codes "in") t) (above, name at text) y (phrase_of parts.1 text (split_of (codes ":") ts parts (rest_of t ts are) split).1 is)))) x h
 
-  verb_of : (ts : List Token) (v : Verb) → AreOf bytes ts → verb_line bytes ts ≡ Some v → IsSaidFully v.negative
+  abbrev IsDenying : Verb → Type 0
+  IsDenying v = IsSaidFully v.negative
+
+  -- the steps of a verb's line, from the last to the first
+  abbrev verb_with : List Token → List Token → List Token → List Token → Option Verb
+  verb_with positive negative ask rest = do
+    pos ← words bytes positive
+    neg ← words bytes negative
+    asked ← words bytes ask
+    more ← words_or_none bytes rest
+    Some (record { positive = pos; negative = neg; ask = asked; rest = more })
+
+  denying : (positive negative ask rest : List Token) → AreOf bytes negative → (v : Verb) → verb_with positive negative ask rest ≡ Some v → IsDenying v
+  denying positive negative ask rest are =
+      let make : List ℕ → List ℕ → List ℕ → List ℕ → Option Verb = λ pos neg asked more. Some (record { positive = pos; negative = neg; ask = asked; rest = more }) in
+      carried IsDenying (λ (pos : List ℕ). option_and_then (λ (neg : List ℕ). option_and_then (λ (asked : List ℕ). option_and_then (make pos neg asked) (words_or_none bytes rest)) (words bytes ask)) (words bytes negative)) (words bytes positive) (λ pos _.
+      carried IsDenying (λ (neg : List ℕ). option_and_then (λ (asked : List ℕ). option_and_then (make pos neg asked) (words_or_none bytes rest)) (words bytes ask)) (words bytes negative) (λ neg is.
+      carried IsDenying (λ (asked : List ℕ). option_and_then (make pos neg asked) (words_or_none bytes rest)) (words bytes ask) (λ asked _.
+      carried IsDenying (make pos neg asked) (words_or_none bytes rest) (λ more _ v.
+      given IsDenying (record { positive = pos; negative = neg; ask = asked; rest = more }) v (words_of negative neg are is)))))
+
+  verb_of : (ts : List Token) → AreOf bytes ts → (v : Verb) → verb_line bytes ts ≡ Some v → IsDenying v
   unfolding verb_line
-  verb_of ts v are h =
-      let make : List ℕ → List ℕ → List ℕ → List ℕ → Verb = λ pos neg asked rest. record { positive = pos; negative = neg; ask = asked; rest = rest } in
-      let p = bound (λ (p : List Token × List Token). option_and_then (λ (n : List Token × List Token). option_and_then (λ (a : List Token × List Token). option_and_then (λ (pos : List ℕ). option_and_then (λ (neg : List ℕ). option_and_then (λ (asked : List ℕ). option_and_then (λ (rest : List ℕ). Some (make pos neg asked rest)) (words_or_none bytes a.1)) (words bytes a.0)) (words bytes n.0)) (words bytes p.0)) (split_at bytes (codes "/") n.1)) (split_at bytes (codes "/") p.1)) (split_at bytes (codes "/") ts) v h in
-      let n = bound (λ (n : List Token × List Token). option_and_then (λ (a : List Token × List Token). option_and_then (λ (pos : List ℕ). option_and_then (λ (neg : List ℕ). option_and_then (λ (asked : List ℕ). option_and_then (λ (rest : List ℕ). Some (make pos neg asked rest)) (words_or_none bytes a.1)) (words bytes a.0)) (words bytes n.0)) (words bytes p.0.0)) (split_at bytes (codes "/") n.1)) (split_at bytes (codes "/") p.0.1) v p.2 in
-      let a = bound (λ (a : List Token × List Token). option_and_then (λ (pos : List ℕ). option_and_then (λ (neg : List ℕ). option_and_then (λ (asked : List ℕ). option_and_then (λ (rest : List ℕ). Some (make pos neg asked rest)) (words_or_none bytes a.1)) (words bytes a.0)) (words bytes n.0.0)) (words bytes p.0.0)) (split_at bytes (codes "/") n.0.1) v n.2 in
-      let pos = bound (λ (pos : List ℕ). option_and_then (λ (neg : List ℕ). option_and_then (λ (asked : List ℕ). option_and_then (λ (rest : List ℕ). Some (make pos neg asked rest)) (words_or_none bytes a.0.1)) (words bytes a.0.0)) (words bytes n.0.0)) (words bytes p.0.0) v a.2 in
-      let neg = bound (λ (neg : List ℕ). option_and_then (λ (asked : List ℕ). option_and_then (λ (rest : List ℕ). Some (make pos.0 neg asked rest)) (words_or_none bytes a.0.1)) (words bytes a.0.0)) (words bytes n.0.0) v pos.2 in
-      let asked = bound (λ (asked : List ℕ). option_and_then (λ (rest : List ℕ). Some (make pos.0 neg.0 asked rest)) (words_or_none bytes a.0.1)) (words bytes a.0.0) v neg.2 in
-      let rest = bound (λ (rest : List ℕ). Some (make pos.0 neg.0 asked.0 rest)) (words_or_none bytes a.0.1) v asked.2 in
-      let sp = split_of (codes "/") ts p.0 are p.1 in
-      let sn = split_of (codes "/") p.0.1 n.0 sp.1 n.1 in
-      subst (λ (w : Verb). IsSaidFully w.negative) (same_value rest.2) (words_of n.0.0 neg.0 sn.0 neg.1)
+  verb_of ts are =
+      carried IsDenying (λ (p : List Token × List Token). option_and_then (λ (n : List Token × List Token). option_and_then (λ (a : List Token × List Token). verb_with p.0 n.0 a.0 a.1) (split_at bytes (codes "/") n.1)) (split_at bytes (codes "/") p.1)) (split_at bytes (codes "/") ts) (λ p first.
+      carried IsDenying (λ (n : List Token × List Token). option_and_then (λ (a : List Token × List Token). verb_with p.0 n.0 a.0 a.1) (split_at bytes (codes "/") n.1)) (split_at bytes (codes "/") p.1) (λ n second.
+      carried IsDenying (λ (a : List Token × List Token). verb_with p.0 n.0 a.0 a.1) (split_at bytes (codes "/") n.1) (λ a _.
+      denying p.0 n.0 a.0 a.1 (split_of (codes "/") p.1 n (split_of (codes "/") ts p are first).1 second).0)))
 
   lines_phrased : (at : Place) (of_global : Bool) (ts : List Token) → AreOf bytes ts → HoldOfLines IsPhrased bytes at of_global ts
   lines_phrased at of_global ts are = record {
-    of_bool = λ x h. bool_of ts x are h;
-    of_number = λ x h. (number_of 4 ts x are h, tt);
-    of_currency = λ x h. (number_of 2 ts x are h, tt);
+    of_bool = bool_of ts are;
+    of_number = λ x h. (number_of 4 ts are x h, tt);
+    of_currency = λ x h. (number_of 2 ts are x h, tt);
     of_words = λ x h. (phrase_of ts x are h, tt);
     of_date = λ x h. (phrase_of ts x are h, tt);
-    of_reference = λ x h. reference_of at of_global ts x are h;
-    of_every = λ x h. every_of at of_global ts x are h;
+    of_reference = reference_of at of_global ts are;
+    of_every = every_of at of_global ts are;
   }
 
 -- ---- blocks
@@ -252,11 +281,11 @@ member_phrased file of_global line i cut h =
 
 verb_phrased : (line : CutLine) (v : Verb) → IsCutLine line → headed_verb line ≡ Some v → IsSaidFully v.negative
 unfolding headed_verb
-verb_phrased line v cut h = let ts = bound (verb_line line.text) (behind_head line) v h in verb_of line.text ts.0 v (behind_tokens line ts.0 cut ts.1) ts.2
+verb_phrased line v cut h = let ts = bound (verb_line line.text) (behind_head line) v h in verb_of line.text ts.0 (behind_tokens line ts.0 cut ts.1) v ts.2
 
 inside_phrased : (file : ℕ) (line : CutLine) (x : Option Name × Name) → IsCutLine line → inside_in file line ≡ Some x → IsPhrase x.1.text
 unfolding inside_in
-inside_phrased file line x cut h = let ts = bound (inside_line line.text (place_in file line)) (inner line) x h in inside_of line.text (place_in file line) ts.0 x (inner_tokens line ts.0 cut ts.1) ts.2
+inside_phrased file line x cut h = let ts = bound (inside_line line.text (place_in file line)) (inner line) x h in inside_of line.text (place_in file line) ts.0 (inner_tokens line ts.0 cut ts.1) x ts.2
 
 pub items_phrased : (blocks : List CutBlock) → All HaveTokens blocks → All IsPhrased (items_of blocks)
 items_phrased blocks cut =

@@ -1,5 +1,5 @@
 -- Ids of what items declare are in range.
-use Rattle.std.proofs.Common.{◌≡◌, ◌∙◌, ◌+◌, ◌-◌, ◌<◌, ◌≤◌, ◌^◌, ℕ, Bool, true, false, not, cond, ◌||◌, List, [], ◌∷◌, ◌++◌, length, map, Option, Some, None, nat_lt, slice_get, All, Contains, IfSome, refl, sym, ap, subst, arith}
+use Rattle.std.proofs.Common.{◌≡◌, ◌∙◌, ◌+◌, ◌<◌, ◌≤◌, ◌^◌, ℕ, Bool, true, false, not, cond, ◌||◌, List, [], length, Option, Some, None, slice_get, All, Contains, IfSome, refl, sym, ap, subst, arith}
 use Rattle.std.specs.Prelude.{flat_map}
 use Rattle.std.proofs.lemmas.Bool.{ltb-true, not-false, eqb-true}
 use Rattle.std.proofs.lemmas.List.{length-map}
@@ -9,8 +9,6 @@ use Rattle.opa_model.specs.declared.things.Attribute.{Attribute}
 use Rattle.opa_model.specs.declared.things.Entity.{Entity}
 use Rattle.opa_model.specs.declared.things.Relation.{Relation}
 use Rattle.opa_model.specs.declared.things.Screen.{Screen}
-use Rattle.opa_model.specs.declared.things.Sentence.{Sentence}
-use Rattle.opa_model.specs.declared.things.Item.{Item as Shown}
 use Rattle.opa_model.specs.declared.things.Item.TheVariants.{Attr, Members}
 use Rattle.opa_model.specs.Lookups.{attribute_at}
 use Rattle.opa_model.specs.Models.{HasEntity, HasAttribute, HasVerb, HasItem, AreFew, AreInRange}
@@ -23,7 +21,7 @@ use Rattle.opa_decl.specs.declared.items.Sort.{Sort}
 use Rattle.opa_decl.specs.declared.items.Sort.TheVariants as sort
 use Rattle.opa_decl.specs.declared.numbered.Counts.{Counts}
 use Rattle.opa_decl.specs.declared.numbered.Numbered.{Numbered}
-use Rattle.opa_decl.specs.Faults.{unknown, unknown_parent, unknown_verb, unknown_item, unknown_names, name_faults, scope_faults, is_of_another}
+use Rattle.opa_decl.specs.Faults.{unknown_parent, unknown_verb, unknown_item, unknown_names, name_faults, scope_faults, is_of_another}
 use Rattle.opa_decl.specs.Lists.{global_entity, owner, source, sentence_in, parent_of, entity_by, entity_in, attribute_by, attribute_in, relation_by, relation_in, screen_by, shown, goal_by}
 use Rattle.opa_decl.specs.Names.{Tables, place, is_declared, goal_name, verb_in}
 use Rattle.opa_decl.specs.Numbering.{numbered, no_counts, is_every}

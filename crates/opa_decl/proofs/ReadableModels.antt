@@ -1,5 +1,5 @@
 -- Rules can read the texts of a model that blocks declare.
-use Rattle.std.proofs.Common.{◌≡◌, ◌≢◌, ◌∙◌, ◌+◌, ◌<◌, ◌≤◌, ℕ, suc, zero, List, [], ◌∷◌, ◌++◌, length, map, Option, Some, None, slice_get, All, AllPairs, refl, sym, ap, ap₂, subst, append-nil, arith}
+use Rattle.std.proofs.Common.{◌≡◌, ◌≢◌, ◌∙◌, ℕ, suc, zero, List, [], ◌∷◌, ◌++◌, Option, Some, None, slice_get, All, AllPairs, refl, sym, ap, subst, append-nil, arith}
 use Rattle.std.specs.Prelude.{flat_map}
 use Rattle.std.specs.Option.{option_map}
 use Rattle.std.proofs.lemmas.List.Concat.{flat_map-append}
@@ -7,31 +7,29 @@ use Rattle.std.proofs.lemmas.List.Elements.{All-nil, All-cons, All-head, All-tai
 use Rattle.opa_model.specs.declared.lists.Lists.{Lists}
 use Rattle.opa_model.specs.declared.things.Attribute.{Attribute}
 use Rattle.opa_model.specs.declared.things.Relation.{Relation}
-use Rattle.opa_model.specs.declared.things.Sentence.{Sentence}
 use Rattle.opa_model.specs.declared.things.Verb.{Verb}
-use Rattle.opa_model.specs.Lookups.{attribute_phrases, relation_phrases}
+use Rattle.opa_model.specs.Lookups.{relation_phrases}
 use Rattle.opa_verbs.specs.declared.sentence.Form.TheVariants.{Negative}
 use Rattle.opa_verbs.specs.Forms.{spoken, beside}
 use Rattle.opa_decl.specs.declared.cut.CutBlock.{CutBlock}
 use Rattle.opa_decl.specs.declared.items.Item.{Item}
 use Rattle.opa_decl.specs.declared.items.Item.TheVariants as item
 use Rattle.opa_decl.specs.declared.items.Place.{Place}
-use Rattle.opa_decl.specs.declared.items.Said.{Said}
 use Rattle.opa_decl.specs.declared.items.Sort.{Sort}
 use Rattle.opa_decl.specs.declared.items.Sort.TheVariants as sort
 use Rattle.opa_decl.specs.declared.numbered.Numbered.{Numbered}
 use Rattle.opa_decl.specs.Cutting.{HaveTokens}
 use Rattle.opa_decl.specs.Declarations.{model_of, item_faults, items_of, faults_of, syntax_faults}
 use Rattle.opa_decl.specs.Lists.{lists_of, sentence_in, attribute_by, attribute_in, relation_by, relation_in}
-use Rattle.opa_decl.specs.Names.{Tables, tables_of, texts, place, sentence, attribute_name, relation_name, verb_in, denied, negative}
+use Rattle.opa_decl.specs.Names.{Tables, tables_of, texts, place, sentence, attribute_name, verb_in, denied, negative}
 use Rattle.opa_decl.specs.Numbering.{numbered, no_counts}
 use Rattle.opa_decl.specs.Phrasing.{IsWorded, IsPhrase, IsReadable, listed, denials, denials_by, texts_of, operand_phrases}
-use Rattle.opa_decl.proofs.FormLaws.{denied_by, attribute_texts, denied_texts, relation_texts, forms_differ, relations_texts}
+use Rattle.opa_decl.proofs.FormLaws.{denied_by, relation_texts, forms_differ, relations_texts}
 use Rattle.opa_decl.proofs.MadeLists.{made, attributes, relations, AreFaultless, without_fault, all_numbered}
-use Rattle.opa_decl.proofs.NumberedLaws.{no_parts, each_of, all_flat, flat_map-same, whatever_number}
+use Rattle.opa_decl.proofs.NumberedLaws.{no_parts, all_flat, flat_map-same, whatever_number}
 use Rattle.opa_decl.proofs.Occurrences.{occurs, occurs-append, occurs-parts, differ_once}
 use Rattle.opa_decl.proofs.PhrasedItems.{IsPhrased, SaysWell, items_phrased}
-use Rattle.opa_decl.proofs.PhraseTexts.{IsSaid, IsSaidFully, worded_said, said_beside, fully_beside}
+use Rattle.opa_decl.proofs.PhraseTexts.{IsSaidFully, worded_said, said_beside, fully_beside}
 
 -- what stands at a place is one of all
 all_get : {A : Type 0} (P : A → Type 0) (xs : List A) (k : ℕ) (x : A) → All P xs → slice_get xs k ≡ Some x → P x

@@ -1,6 +1,6 @@
 -- What holds of each item that blocks spell.
-use Rattle.std.proofs.Common.{◌≡◌, ◌∙◌, ℕ, Bool, true, false, cond, List, [], ◌∷◌, length, Option, Some, None, All, refl, sym, ap, subst}
-use Rattle.std.specs.Prelude.{flat_map, ◌==◌, if◌then◌else◌}
+use Rattle.std.proofs.Common.{◌≡◌, ℕ, Bool, true, false, cond, List, [], ◌∷◌, length, Option, Some, None, All, refl, subst}
+use Rattle.std.specs.Prelude.{◌==◌, if◌then◌else◌}
 use Rattle.std.specs.Option.{option_map, option_and_then}
 use Rattle.std.proofs.lemmas.Option.{cond_some, same_Some}
 use Rattle.std.proofs.lemmas.List.Elements.{All-nil, All-cons, All-head, All-tail, All-append}
@@ -28,6 +28,18 @@ bound f (Some x) y h = (x, refl, h)
 pub mapped : {A B : Type 0} (f : A → B) (o : Option A) (y : B) → option_map f o ≡ Some y → (x : A) × (o ≡ Some x) × (f x ≡ y)
 mapped f None y h = absurd (cc h)
 mapped f (Some x) y h = (x, refl, (let e : f x ≡ y = cc h in e))
+
+-- what holds of whatever comes of the next step holds of the end
+pub carried : {A B : Type 0} (P : B → Type 0) (f : A → Option B) (o : Option A) → ((x : A) → o ≡ Some x → (y : B) → f x ≡ Some y → P y) → (y : B) → option_and_then f o ≡ Some y → P y
+carried P f None step y h = absurd (cc h)
+carried P f (Some x) step y h = step x refl y h
+
+pub given : {A : Type 0} (P : A → Type 0) (x y : A) → P x → Some x ≡ Some y → P y
+given P x y has h = subst P (same_Some x y h) has
+
+-- under a test
+pub given_if : {A : Type 0} (P : A → Type 0) (b : Bool) (x y : A) → P x → (if b then Some x else None) ≡ Some y → P y
+given_if P b x y has h = subst P (cond_some b x y h).1 has
 
 module _ {A B : Type 0} (P : B → Type 0) (L : A → Type 0) (f : A → Option B) (has : (x : A) (y : B) → L x → f x ≡ Some y → P y) where
   pub each_has : (xs : List A) (ys : List B) → each f xs ≡ Some ys → All L xs → All P ys

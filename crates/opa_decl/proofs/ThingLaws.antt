@@ -1,5 +1,5 @@
 -- How many entities, attributes, relations and verbs items declare, and under which numbers and names.
-use Rattle.std.proofs.Common.{◌≡◌, ◌∙◌, ◌+◌, ◌≤◌, ℕ, List, [], ◌∷◌, length, map, refl, sym, ap, arith}
+use Rattle.std.proofs.Common.{◌≡◌, ◌∙◌, ◌+◌, ◌≤◌, ℕ, List, length, map, refl, sym, ap, arith}
 use Rattle.std.specs.Prelude.{flat_map}
 use Rattle.std.proofs.lemmas.List.{length-map}
 use Rattle.opa_model.specs.declared.things.Attribute.{Attribute}
@@ -12,7 +12,7 @@ use Rattle.opa_decl.specs.declared.items.Name.{Name}
 use Rattle.opa_decl.specs.declared.numbered.Counts.{Counts}
 use Rattle.opa_decl.specs.declared.numbered.Numbered.{Numbered}
 use Rattle.opa_decl.specs.Lists.{entity_by, entity_in, attribute_by, attribute_in, relation_by, relation_in}
-use Rattle.opa_decl.specs.Names.{Tables, texts, verb_name, entity_name, attribute_name, relation_name, verb_in}
+use Rattle.opa_decl.specs.Names.{Tables, texts, entity_name, attribute_name, relation_name, verb_in}
 use Rattle.opa_decl.specs.Numbering.{numbered, counts_after}
 use Rattle.opa_decl.proofs.NumberedLaws.{map-flat_map, flat_map-same, whatever_number}
 
