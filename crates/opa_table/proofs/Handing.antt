@@ -1,5 +1,5 @@
 -- What is handed on of the rules of a table.
-use Rattle.std.proofs.Common.{◌≡◌, ℕ, zero, suc, ◌+◌, ◌≤◌, List, [], ◌∷◌, ◌++◌, length, map, Bool, true, false, Option, Some, None, slice_get, All, refl, sym, ap, subst, ◌∙◌, arith}
+use Rattle.std.proofs.Common.{◌≡◌, ℕ, zero, suc, ◌+◌, ◌≤◌, List, [], ◌∷◌, ◌++◌, length, map, true, false, Option, Some, slice_get, All, refl, sym, ap, subst, ◌∙◌, arith}
 use Rattle.opa_value.specs.declared.value.Value.TheVariants as value
 use Rattle.opa_model.specs.declared.ids.AttrId.{AttrId}
 use Rattle.opa_model.specs.declared.lists.Lists.{Lists}
@@ -7,7 +7,6 @@ use Rattle.opa_model.specs.Models.{HasAttribute}
 use Rattle.opa_tree.specs.declared.expr.Expr.{Expr}
 use Rattle.opa_tree.specs.declared.expr.Expr.TheVariants as expr
 use Rattle.opa_tree.specs.declared.kinds.OpKind.{OpKind}
-use Rattle.opa_tree.specs.declared.kinds.OpKind.TheVariants as op
 use Rattle.opa_tree.specs.declared.rules.Inferred.{Inferred}
 use Rattle.opa_tree.specs.declared.rules.Rule.{Rule}
 use Rattle.opa_tree.specs.Accepted.{HaveForm, AreShallow}
@@ -22,17 +21,15 @@ use Rattle.opa_sentence.specs.declared.reading.Reading.{Reading}
 use Rattle.opa_sentence.specs.declared.reading.Parts.{Parts}
 use Rattle.opa_sentence.specs.Grammar.{LINE, OPERAND}
 use Rattle.opa_sentence.specs.Lexemes.{Lexeme}
-use Rattle.opa_sentence.specs.Measures.{bounded, fits, of_leaf}
+use Rattle.opa_sentence.specs.Measures.{bounded, fits}
 use Rattle.opa_sentence.specs.Readings as says
-use Rattle.opa_parse.specs.declared.block.RuleBlock.{RuleBlock}
 use Rattle.opa_parse.specs.declared.block.Statement.{Statement}
 use Rattle.opa_parse.specs.declared.block.TheConstants.{MOST_RULES}
 use Rattle.opa_parse.specs.declared.group.Cases.{Cases}
-use Rattle.opa_parse.specs.declared.group.Said.{Said}
 use Rattle.opa_parse.specs.Handed.{AreFormed, AreDeclared}
 use Rattle.opa_parse.specs.Naming.{names_in}
-use Rattle.opa_parse.specs.Rules.{rules_in, rule_faults, inferred_nodes}
-use Rattle.opa_parse.specs.Sayings.{of_line, with_case, tabled}
+use Rattle.opa_parse.specs.Rules.{inferred_nodes}
+use Rattle.opa_parse.specs.Sayings.{with_case}
 use Rattle.opa_parse.proofs.Handing as hand
 use Rattle.opa_parse.proofs.Handing.{Of, Formed, IsDeclared, is_true, all_of, each_of, members_form, rules_each, concluded_declared, room, fewer}
 use Rattle.opa_parse.proofs.LineForms.{MembersForm, IsReal, AreReal, lexemes_real, op_form, below}
