@@ -215,26 +215,26 @@ module _ (P : Rule → Type 0) where
   rules_each [] h = tt
   rules_each (x ∷ xs) h = each_append P (rule_in x) (rules_in xs) (by_each x x.statement refl h.0) (rules_each xs h.1)
 
-abbrev Has : Rule → Type 0
+abbrev pub Has : Rule → Type 0
 Has x = HasForm x.expr
 
-abbrev Flat : Rule → Type 0
+abbrev pub Flat : Rule → Type 0
 Flat x = IsShallow x.expr
 
-abbrev Fine : Rule → Type 0
+abbrev pub Fine : Rule → Type 0
 Fine x = Has x × Flat x
 
-abbrev Filed : ℕ → Rule → Type 0
+abbrev pub Filed : ℕ → Rule → Type 0
 Filed files x = x.file < files
 
-abbrev Concludes : Lists → Rule → Type 0
+abbrev pub Concludes : Lists → Rule → Type 0
 Concludes md x = HasAttribute md x.attr
 
-abbrev Stands : ℕ → Block → Type 0
+abbrev pub Stands : ℕ → Block → Type 0
 Stands files y = y.file < files
 
 module _ (md : Lists) (ns : Names) where
-  found_each : (Q : RuleBlock → Type 0) → ((y : Block) (x : RuleBlock) → IsRuleBlock md ns y x → Q x) → {bs : List Block} {xs : List RuleBlock} → AreRuleBlocks md ns bs xs → Each Q xs
+  pub found_each : (Q : RuleBlock → Type 0) → ((y : Block) (x : RuleBlock) → IsRuleBlock md ns y x → Q x) → {bs : List Block} {xs : List RuleBlock} → AreRuleBlocks md ns bs xs → Each Q xs
   found_each Q h r.AreRuleBlocks.none = tt
   found_each Q h (r.AreRuleBlocks.passed p d) = found_each Q h d
   found_each Q h (r.AreRuleBlocks.rule {b = y} {r = x} is d) = (h y x is, found_each Q h d)
@@ -245,7 +245,7 @@ module _ (md : Lists) (ns : Names) where
   pub tree_sound : (mm : Measure) (t : Option Expr) (e : Expr) → t ≡ Some e → SoundTop mm t → (has_form e true ≡ true) × (depth e ≤ 64)
   tree_sound mm t e h s = let k : SoundTop mm (Some e) = subst (SoundTop mm) h s in k
 
-  fine_of : MembersForm bounded ns.members → (y : Block) (x : RuleBlock) → IsRuleBlock md ns y x → Of Fine x
+  pub fine_of : MembersForm bounded ns.members → (y : Block) (x : RuleBlock) → IsRuleBlock md ns y x → Of Fine x
   fine_of members y x is a e s p q t =
       let k = tree_sound s.said.reading.measure s.said.reading.tree e t (rule_sound ns members md (spelled_by y x s is p)) in
       (is_true (has_form e true) k.0, k.1)
@@ -253,13 +253,13 @@ module _ (md : Lists) (ns : Names) where
   rules_fine : MembersForm bounded ns.members → (bs : List Block) (xs : List RuleBlock) → AreRuleBlocks md ns bs xs → Each Fine (rules_in xs)
   rules_fine members bs xs d = rules_each Fine xs (found_each (Of Fine) (fine_of members) d)
 
-  declared_of : (y : Block) (x : RuleBlock) → IsRuleBlock md ns y x → Of (Concludes md) x
+  pub declared_of : (y : Block) (x : RuleBlock) → IsRuleBlock md ns y x → Of (Concludes md) x
   declared_of y x is a e s p q t = rule_declared md ns (spelled_by y x s is p) a q
 
   rules_declared : (bs : List Block) (xs : List RuleBlock) → AreRuleBlocks md ns bs xs → Each (Concludes md) (rules_in xs)
   rules_declared bs xs d = rules_each (Concludes md) xs (found_each (Of (Concludes md)) declared_of d)
 
-  found_filed : (files : ℕ) → {bs : List Block} {xs : List RuleBlock} → AreRuleBlocks md ns bs xs → Each (Stands files) bs → Each (Of (Filed files)) xs
+  pub found_filed : (files : ℕ) → {bs : List Block} {xs : List RuleBlock} → AreRuleBlocks md ns bs xs → Each (Stands files) bs → Each (Of (Filed files)) xs
   found_filed files r.AreRuleBlocks.none = λ h. tt
   found_filed files (r.AreRuleBlocks.passed p d) = λ h. found_filed files d h.1
   found_filed files (r.AreRuleBlocks.rule is d) = λ h. (λ a e s p q t. subst (λ n. n < files) (sym is.file_is) h.0, found_filed files d h.1)
