@@ -1,5 +1,5 @@
 -- A cell says one thing at most.
-use Rattle.std.proofs.Common.{◌≡◌, ◌↔◌, IsTrue, ◌==◌, arith, ℕ, List, [], ◌∷◌, ◌++◌, length, Bool, true, false, ◌&&◌, Option, Some, None, option_map, MatchOption, refl, sym, ap, subst, ◌∙◌}
+use Rattle.std.proofs.Common.{◌≡◌, ◌↔◌, IsTrue, ◌==◌, arith, ℕ, List, [], ◌∷◌, length, Bool, true, false, ◌&&◌, Option, Some, None, option_map, MatchOption, refl, sym, ap, subst, ◌∙◌}
 use Rattle.std.specs.Str.{chars}
 use Rattle.std.proofs.lemmas.Str.{chars-nil}
 use Rattle.opa_model.specs.declared.lists.Lists.{Lists}
@@ -19,7 +19,7 @@ use Rattle.opa_sentence.specs.Spelling.{IsSpelling}
 use Rattle.opa_sentence.proofs.LawsHold.{one_meaning_holds}
 use Rattle.opa_parse.specs.declared.line.Ending.{Ending}
 use Rattle.opa_parse.specs.declared.line.Ending.TheVariants as ending
-use Rattle.opa_parse.specs.Lines.{ending_of, is_none}
+use Rattle.opa_parse.specs.Lines.{is_none}
 use Rattle.opa_parse.specs.Openings.{concluded}
 use Rattle.opa_table.specs.declared.cells.Heading.{Heading}
 use Rattle.opa_table.specs.declared.cells.Heading.TheVariants as heading

@@ -1,15 +1,13 @@
 -- What columns conclude.
-use Rattle.std.proofs.Common.{◌≡◌, ℕ, List, [], ◌∷◌, ◌++◌, length, ◌==◌, Bool, true, false, refl, sym, ap, ◌∙◌, append_assoc, arith}
+use Rattle.std.proofs.Common.{◌≡◌, ℕ, List, [], ◌∷◌, ◌++◌, length, ◌==◌, true, false, refl, sym, ap, ◌∙◌, arith}
 use Rattle.std.proofs.lemmas.List.{append-nil}
 use Rattle.opa_sentence.specs.declared.reading.Reading.{Reading}
 use Rattle.opa_sentence.specs.Measures.{bounded}
 use Rattle.opa_sentence.specs.Readings as says
-use Rattle.opa_parse.specs.declared.group.Mark.{Mark}
 use Rattle.opa_parse.specs.Sayings.{tabled}
 use Rattle.opa_table.specs.declared.cells.Case.{Case}
 use Rattle.opa_table.specs.declared.cells.Last.{Last}
-use Rattle.opa_table.specs.declared.cells.Test.{Test}
-use Rattle.opa_table.specs.Columns.{compared, comparisons, all_of, value_at, no_cases_below, with_cases, column_by}
+use Rattle.opa_table.specs.Columns.{comparisons, all_of, value_at, no_cases_below, with_cases, column_by}
 
 pub nothing_more : (xs : List Reading) → xs ++ [] ≡ xs
 nothing_more xs = append-nil xs

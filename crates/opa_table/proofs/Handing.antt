@@ -1,5 +1,5 @@
 -- What is handed on of the rules of a table.
-use Rattle.std.proofs.Common.{◌≡◌, ℕ, zero, suc, ◌+◌, ◌≤◌, List, [], ◌∷◌, ◌++◌, length, map, Bool, true, false, Option, Some, None, slice_get, All, refl, sym, ap, subst, ◌∙◌, arith}
+use Rattle.std.proofs.Common.{◌≡◌, ℕ, zero, suc, ◌+◌, ◌≤◌, List, [], ◌∷◌, ◌++◌, length, map, true, false, Option, Some, slice_get, refl, sym, ap, subst, ◌∙◌, arith}
 use Rattle.opa_value.specs.declared.value.Value.TheVariants as value
 use Rattle.opa_model.specs.declared.ids.AttrId.{AttrId}
 use Rattle.opa_model.specs.declared.lists.Lists.{Lists}
@@ -7,7 +7,6 @@ use Rattle.opa_model.specs.Models.{HasAttribute}
 use Rattle.opa_tree.specs.declared.expr.Expr.{Expr}
 use Rattle.opa_tree.specs.declared.expr.Expr.TheVariants as expr
 use Rattle.opa_tree.specs.declared.kinds.OpKind.{OpKind}
-use Rattle.opa_tree.specs.declared.kinds.OpKind.TheVariants as op
 use Rattle.opa_tree.specs.declared.rules.Inferred.{Inferred}
 use Rattle.opa_tree.specs.declared.rules.Rule.{Rule}
 use Rattle.opa_tree.specs.Accepted.{HaveForm, AreShallow}
@@ -22,17 +21,16 @@ use Rattle.opa_sentence.specs.declared.reading.Reading.{Reading}
 use Rattle.opa_sentence.specs.declared.reading.Parts.{Parts}
 use Rattle.opa_sentence.specs.Grammar.{LINE, OPERAND}
 use Rattle.opa_sentence.specs.Lexemes.{Lexeme}
-use Rattle.opa_sentence.specs.Measures.{bounded, fits, of_leaf}
+use Rattle.opa_sentence.specs.Measures.{bounded, fits}
 use Rattle.opa_sentence.specs.Readings as says
 use Rattle.opa_parse.specs.declared.block.RuleBlock.{RuleBlock}
 use Rattle.opa_parse.specs.declared.block.Statement.{Statement}
 use Rattle.opa_parse.specs.declared.block.TheConstants.{MOST_RULES}
 use Rattle.opa_parse.specs.declared.group.Cases.{Cases}
-use Rattle.opa_parse.specs.declared.group.Said.{Said}
 use Rattle.opa_parse.specs.Handed.{AreFormed, AreDeclared}
 use Rattle.opa_parse.specs.Naming.{names_in}
-use Rattle.opa_parse.specs.Rules.{rules_in, rule_faults, inferred_nodes}
-use Rattle.opa_parse.specs.Sayings.{of_line, with_case, tabled}
+use Rattle.opa_parse.specs.Rules.{inferred_nodes}
+use Rattle.opa_parse.specs.Sayings.{with_case}
 use Rattle.opa_parse.proofs.Handing as hand
 use Rattle.opa_parse.proofs.Handing.{Of, Formed, IsDeclared, is_true, all_of, each_of, members_form, rules_each, concluded_declared, room, fewer}
 use Rattle.opa_parse.proofs.LineForms.{MembersForm, IsReal, AreReal, lexemes_real, op_form, below}
@@ -53,7 +51,7 @@ use Rattle.opa_table.specs.Tables as t
 use Rattle.opa_table.specs.Tables.{Each, headings, AreHeads, IsCase, IsLast, AreCases, IsBelow, IsFound}
 use Rattle.opa_table.specs.Columns as col
 use Rattle.opa_table.specs.Columns.{compared, comparisons, condition, or_unnamed, value_at, no_cases_below, with_cases, column_by, column, column_block, blocks_from, blocks_of}
-use Rattle.opa_table.specs.Reading.{AreTableRules, AreIn}
+use Rattle.opa_table.specs.Reading.{AreTableBlocks, AreTableRules, AreIn}
 
 -- ---- cells
 
@@ -337,20 +335,29 @@ module _ (m : Lists) where
     found_declared (t.IsFound.no_heads _ _ e none) = tt
     found_declared (t.IsFound.headed {f = f} _ first h e some are b) = as_declared h f (heads_declared first h.conditions h.conclusions are.cells_say) (heads_below h b)
 
+-- ---- what the bytes of a table give
+
+abbrev FineRule : Rule → Type 0
+FineRule r = HasForm r.expr × IsShallow r.expr
+
+pub table_fine : (m : Lists) (ns : Names) → MembersForm bounded ns.members → (file : ℕ) (bytes : List ℕ) (blocks : List RuleBlock) → AreTableBlocks m ns file bytes blocks → hand.Each (Of FineRule) blocks
+table_fine m ns members file bytes blocks a = subst (hand.Each (Of FineRule)) (sym a.blocks_are) (found_fine m ns members file a.found (found_sound m ns members a.is_found))
+
+pub table_concludes : (m : Lists) (ns : Names) (file : ℕ) (bytes : List ℕ) (blocks : List RuleBlock) → AreTableBlocks m ns file bytes blocks → hand.Each (Of (Concludes m)) blocks
+table_concludes m ns file bytes blocks a = subst (hand.Each (Of (Concludes m))) (sym a.blocks_are) (found_concludes m file a.found (found_declared m ns a.is_found))
+
+pub table_in : (m : Lists) (ns : Names) (file : ℕ) (bytes : List ℕ) (blocks : List RuleBlock) → AreTableBlocks m ns file bytes blocks → hand.Each (Of (In file)) blocks
+table_in m ns file bytes blocks a = subst (hand.Each (Of (In file))) (sym a.blocks_are) (found_in file a.found)
+
 -- ---- all rules of a table
 
 module _ (m : Lists) (inferences : List Inferred) (file : ℕ) (bytes : List ℕ) (rules : List Rule) (h : AreTableRules m inferences file bytes rules) where
   -- what holds of each block's rule holds of the rules
-  of_blocks : (P : Rule → Type 0) → hand.Each (Of P) (blocks_of file h.are_blocks.found) → All P rules
-  of_blocks P k = all_of P rules (subst (hand.Each P) (sym h.rules_are) (rules_each P h.blocks (subst (hand.Each (Of P)) (sym h.are_blocks.blocks_are) k)))
+  of_blocks : (P : Rule → Type 0) → hand.Each (Of P) h.blocks → hand.Each P rules
+  of_blocks P k = subst (hand.Each P) (sym h.rules_are) (rules_each P h.blocks k)
 
-  fine_hold : AreFormed inferences → hand.Each (λ (r : Rule). HasForm r.expr × IsShallow r.expr) rules
-  fine_hold formed =
-      let members = members_form inferences (each_of Formed inferences formed) in
-      let ns = names_in m inferences in
-      subst (hand.Each (λ (r : Rule). HasForm r.expr × IsShallow r.expr)) (sym h.rules_are)
-      (rules_each (λ (r : Rule). HasForm r.expr × IsShallow r.expr) h.blocks
-      (subst (hand.Each (Of (λ (r : Rule). HasForm r.expr × IsShallow r.expr))) (sym h.are_blocks.blocks_are) (found_fine m ns members file h.are_blocks.found (found_sound m ns members h.are_blocks.is_found))))
+  fine_hold : AreFormed inferences → hand.Each FineRule rules
+  fine_hold formed = of_blocks FineRule (table_fine m (names_in m inferences) (members_form inferences (each_of Formed inferences formed)) file bytes h.blocks h.are_blocks)
 
   pub formed_hold : AreFormed inferences → HaveForm rules
   formed_hold formed = all_of (λ (r : Rule). HasForm r.expr) rules (hand.each_left (λ (r : Rule). HasForm r.expr) (λ (r : Rule). IsShallow r.expr) rules (fine_hold formed))
@@ -359,10 +366,10 @@ module _ (m : Lists) (inferences : List Inferred) (file : ℕ) (bytes : List ℕ
   shallow_hold formed = all_of (λ (r : Rule). IsShallow r.expr) rules (hand.each_right (λ (r : Rule). HasForm r.expr) (λ (r : Rule). IsShallow r.expr) rules (fine_hold formed))
 
   pub declared_hold : AreDeclared m rules
-  declared_hold = of_blocks (Concludes m) (found_concludes m file h.are_blocks.found (found_declared m (names_in m inferences) h.are_blocks.is_found))
+  declared_hold = all_of (Concludes m) rules (of_blocks (Concludes m) (table_concludes m (names_in m inferences) file bytes h.blocks h.are_blocks))
 
   pub filed_hold : AreIn file rules
-  filed_hold = of_blocks (In file) (found_in file h.are_blocks.found)
+  filed_hold = all_of (In file) rules (of_blocks (In file) (table_in m (names_in m inferences) file bytes h.blocks h.are_blocks))
 
   pub few_hold : length rules ≤ 4000
   few_hold =

@@ -1,5 +1,5 @@
 -- A table is one table.
-use Rattle.std.proofs.Common.{◌≡◌, ◌≢◌, ◌≤◌, ◌+◌, ℕ, List, [], ◌∷◌, ◌++◌, length, refl, sym, ap, ap₂, subst, ◌∙◌, length-append, arith}
+use Rattle.std.proofs.Common.{◌≡◌, ◌≢◌, ◌≤◌, ◌+◌, ℕ, List, [], ◌∷◌, ◌++◌, length, refl, sym, ap, ap₂, subst, ◌∙◌, arith}
 use Rattle.opa_model.specs.declared.lists.Lists.{Lists}
 use Rattle.opa_sentence.specs.declared.names.Names.{Names}
 use Rattle.opa_table.specs.declared.cells.Case.{Case}
@@ -7,7 +7,6 @@ use Rattle.opa_table.specs.declared.cells.Found.{Found}
 use Rattle.opa_table.specs.declared.cells.Found.TheVariants as found
 use Rattle.opa_table.specs.declared.cells.Heads.{Heads}
 use Rattle.opa_table.specs.declared.cells.Last.{Last}
-use Rattle.opa_table.specs.declared.cells.Table.{Table}
 use Rattle.opa_table.specs.Columns.{blocks_of}
 use Rattle.opa_table.specs.Laws.{OneTable}
 use Rattle.opa_table.specs.Tables as t

@@ -7,3 +7,4 @@ pub mod ColumnLaws
 pub mod TakingLaws
 pub mod Handing
 pub mod LawsHold
+pub mod WholeLaws

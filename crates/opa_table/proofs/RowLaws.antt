@@ -1,8 +1,7 @@
 -- The records after the first.
-use Rattle.std.proofs.Common.{◌≡◌, ◌≢◌, ◌↔◌, IsTrue, ◌≤◌, ◌<◌, ◌+◌, ◌-◌, ◌==◌, ◌&&◌, ◌^◌, nat_le, ℕ, List, [], ◌∷◌, ◌++◌, length, map, take, drop, Bool, true, false, Option, Some, None, refl, sym, ap, ap₂, subst, ◌∙◌, append_assoc, length-append, arith}
+use Rattle.std.proofs.Common.{◌≡◌, ◌≢◌, ◌↔◌, IsTrue, ◌≤◌, ◌+◌, ◌-◌, ◌==◌, ◌&&◌, nat_le, ℕ, List, [], ◌∷◌, ◌++◌, length, map, Bool, true, false, refl, sym, ap, ap₂, subst, ◌∙◌, append_assoc, length-append, arith}
 use Rattle.std.specs.List.{list_all}
-use Rattle.std.proofs.lemmas.List.{append-nil, map-append, length-map}
-use Rattle.opa_model.specs.declared.lists.Lists.{Lists}
+use Rattle.std.proofs.lemmas.List.{append-nil, map-append}
 use Rattle.opa_sentence.specs.declared.names.Names.{Names}
 use Rattle.opa_sentence.specs.declared.reading.Reading.{Reading}
 use Rattle.opa_table.specs.declared.cells.Case.{Case}
@@ -11,7 +10,7 @@ use Rattle.opa_table.specs.declared.cells.Found.TheVariants as found
 use Rattle.opa_table.specs.declared.cells.Heads.{Heads}
 use Rattle.opa_table.specs.declared.cells.Last.{Last}
 use Rattle.opa_table.specs.declared.cells.Test.{Test}
-use Rattle.opa_table.specs.Cells.{Says, IsConditionCell, IsValueCell, IsOtherwiseCell}
+use Rattle.opa_table.specs.Cells.{IsConditionCell, IsValueCell, IsOtherwiseCell}
 use Rattle.opa_table.specs.Tables as t
 use Rattle.opa_table.specs.Tables.{Each, width, condition_cells, value_cells, IsCase, IsLast, is_empty, AreOtherwise, AreCases, IsFirstOdd, table, IsEnd, IsBelow, AreHeads, IsFound}
 use Rattle.opa_table.proofs.CellLaws.{one_condition_cell, one_value_cell}

@@ -1,5 +1,5 @@
 -- The rules of a table are taken one after another.
-use Rattle.std.proofs.Common.{◌≡◌, ℕ, ◌+◌, min, List, [], ◌∷◌, ◌++◌, length, refl, sym, ap, subst, ◌∙◌, append_assoc, arith}
+use Rattle.std.proofs.Common.{◌≡◌, ℕ, ◌+◌, List, [], ◌∷◌, ◌++◌, length, refl, sym, ap, subst, ◌∙◌, append_assoc, arith}
 use Rattle.std.specs.Prelude.{Option, Some, None}
 use Rattle.std.proofs.lemmas.List.{append-nil}
 use Rattle.opa_model.specs.declared.ids.AttrId.{AttrId}
@@ -14,9 +14,8 @@ use Rattle.opa_parse.specs.Naming.{names_in}
 use Rattle.opa_parse.specs.Rules.{rule_faults, inferred_nodes}
 use Rattle.opa_parse.specs.Runs.{IsTaken, Takes}
 use Rattle.opa_parse.proofs.RuleLaws.{no_faults}
-use Rattle.opa_table.specs.declared.cells.Found.{Found}
 use Rattle.opa_table.specs.declared.cells.Table.{Table}
-use Rattle.opa_table.specs.Columns.{column_block, blocks_from, blocks_of}
+use Rattle.opa_table.specs.Columns.{column_block, blocks_from}
 use Rattle.opa_table.specs.Reading.{AreTableBlocks, TakesBlocks, TakesTable, AreTableRules, IsTableRefused}
 
 pub takes_none : (t : Taken) → TakesBlocks [] t t

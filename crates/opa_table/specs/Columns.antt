@@ -14,7 +14,6 @@ use Rattle.opa_parse.specs.Sayings.{line_marks, of_line, no_cases, with_case, ta
 use Rattle.opa_table.specs.declared.cells.Case.{Case}
 use Rattle.opa_table.specs.declared.cells.Found.{Found}
 use Rattle.opa_table.specs.declared.cells.Found.TheVariants as found
-use Rattle.opa_table.specs.declared.cells.Heads.{Heads}
 use Rattle.opa_table.specs.declared.cells.Last.{Last}
 use Rattle.opa_table.specs.declared.cells.Table.{Table}
 use Rattle.opa_table.specs.declared.cells.Test.{Test}

@@ -1,5 +1,5 @@
 -- What the records of a table spell.
-use Rattle.std.specs.Prelude.{◌≡◌, ◌≢◌, ◌≤◌, ◌+◌, ℕ, List, [], ◌∷◌, ◌++◌, Bool, true, false, Option, length, map, take, drop}
+use Rattle.std.specs.Prelude.{◌≡◌, ◌≢◌, ◌≤◌, ◌+◌, ℕ, List, [], ◌∷◌, ◌++◌, Bool, true, false, length, map, take, drop}
 use Rattle.std.specs.List.{list_all}
 use Rattle.opa_model.specs.declared.lists.Lists.{Lists}
 use Rattle.opa_sentence.specs.declared.names.Names.{Names}

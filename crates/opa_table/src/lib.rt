@@ -11,11 +11,13 @@ mod records;
 mod rows;
 mod taking;
 mod values;
+mod whole;
 mod words;
 
 pub use cells::{Case, Cased, Found, Heading, Heads, Last, Table, Test};
 pub use laws::one_table;
 pub use taking::{read_table, take_table};
+pub use whole::{TableFile, read_all_rules, take_tables};
 pub use words::Words;
 
 #[cfg(test)]

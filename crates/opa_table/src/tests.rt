@@ -1,9 +1,11 @@
 //! Tables as they are written, and refused tables with the kind and the record of the fault.
-ghost use Rattle.std.specs.Prelude.{◌≡◌, IfOk};
+ghost use Rattle.std.specs.Prelude.{◌≡◌, ◌<◌, ◌^◌, All, IfOk, length};
+ghost use Rattle.opa_parse.specs.Fronts.{AreShort};
 ghost use Rattle.opa_model.specs.Samples.{IsGlobalBool};
 
 use crate::*;
 use opa_io::{List, NoMemory, Txt};
+use opa_layout::{Block, LayoutFault, blocks};
 use opa_model::{AttrId, Attribute, Entity, EntityId, Kind, Model, RelId, Sentence, Verb};
 use opa_tree::{Expr, Inferences, RbError, Row, Rule};
 use opa_value::Value;
@@ -368,5 +370,91 @@ fn bytes_that_are_no_text(rt: HostRuntime) -> Result<(), Fail> {
     let model = small_model(alloc)?;
     let bytes = b"= the rate\n\xff\n";
     assert_eq!(rt; outcome(alloc, &model, bytes.as_slice())?.as_str(), "2 7:2");
+    Ok(())
+}
+
+/// The blocks of a text.
+fn laid(alloc: Global, text: &str) -> Result<Vec<Block>, LayoutFault>
+    requires { length text.now < 2 ^ 32 }
+    ensures { IfOk result (λ laid. All (λ b. AreShort b.lines) laid.items) }
+{
+    let laid = blocks(alloc, 0, text)?;
+    Ok(laid)
+}
+
+/// The rules of a rule file and of two tables behind it, or the number, the file and the line of their refusal.
+fn outcome_of_all(
+    alloc: Global,
+    model: &Model,
+    text: &str,
+    first: &str,
+    second: &str,
+) -> Result<String, Fail> {
+    if text.len() > 1_000_000 {
+        return Ok(String::new(alloc));
+    }
+    let laid = laid(alloc, text)?;
+    let mut tables = List::new(alloc);
+    tables.push(TableFile {
+        file: 1,
+        bytes: List::from_vec(first.as_bytes().to_vec(alloc)?),
+    })?;
+    tables.push(TableFile {
+        file: 2,
+        bytes: List::from_vec(second.as_bytes().to_vec(alloc)?),
+    })?;
+    let none: Inferences = List::new(alloc);
+    match read_all_rules(alloc, model, &none, &laid, tables.as_slice()) {
+        Ok(rules) => rules_text(alloc, rules.as_slice()),
+        Err(RbError::Refused(fault)) => Ok(format!(in alloc;
+            "{} {}:{}",
+            fault.kind.number(),
+            fault.file,
+            fault.line
+        )?),
+        Err(RbError::NoMemory) => Err(NoMemory)?,
+    }
+}
+
+const ALL: [(&str, &str, &str, &str); 5] = [
+    (
+        "the income = 5\n",
+        "= the rate\n1\n",
+        "the income,= the rate\notherwise,2\n",
+        "a1 0:1 5;a0 1:1 1;a0 2:1 (table 2);",
+    ),
+    // Spelling is told before names, and within a kind the first file.
+    (
+        "an elf = 5\n",
+        "= the rate\n1\n",
+        "= the rate\nif\n",
+        "2 2:2",
+    ),
+    (
+        "\nthe income = an elf\n",
+        "= the elf\n1\n",
+        "= the rate\n1\n",
+        "3 0:2",
+    ),
+    (
+        "the income = 5\n",
+        "= the rate\nan elf\n",
+        "= the elf\n1\n",
+        "3 1:2",
+    ),
+    ("the income = 5\n", "", "= the rate\nif\n", "2 1:1"),
+];
+
+#[test]
+fn rules_of_blocks_and_tables(rt: HostRuntime) -> Result<(), Fail> {
+    let alloc = rt.alloc();
+    let model = small_model(alloc)?;
+    for (text, first, second, want) in ALL {
+        assert_eq!(rt;
+            outcome_of_all(alloc, &model, text, first, second)?.as_str(),
+            want,
+            "{text}"
+        );
+    }
     Ok(())
 }

@@ -1,4 +1,4 @@
-use Rattle.std.proofs.Common.{ap, sym, ◌∙◌, ◌==◌, length}
+use Rattle.std.proofs.Common.{ap, sym, ◌∙◌}
 use Rattle.opa_parse.specs.Sayings.{tabled}
 use Rattle.opa_table.specs.Columns.{value_at, no_cases_below, with_cases, column_by}
 use Rattle.opa_table.proofs.ColumnLaws.{column_several}

@@ -1,5 +1,5 @@
-use Rattle.std.proofs.Common.{◌≡◌, length}
-use Rattle.std.specs.Vec.Iter.{into_iter_items, into_iter_len}
+use Rattle.std.proofs.Common.{◌≡◌}
+use Rattle.std.specs.Vec.Iter.{into_iter_items}
 use Rattle.opa_sentence.specs.Measures.{bounded}
 use Rattle.opa_sentence.specs.Readings.{gathered, lines}
 use Rattle.opa_table.proofs.columns.gathered.Given as goal

@@ -1,6 +1,5 @@
-use Rattle.std.proofs.Common.{◌≡◌, ◌∷◌, ◌++◌, [], ap, sym, ◌∙◌, rules, option_map}
-use Rattle.std.specs.Prelude.{Some, None}
-use Rattle.csv.specs.Records.{fields_of, field_at}
+use Rattle.std.proofs.Common.{◌≡◌, ◌∷◌, ◌++◌, [], ap, sym, ◌∙◌, rules}
+use Rattle.csv.specs.Records.{fields_of}
 use Rattle.opa_table.proofs.RecordLaws.{cell_past, cell_next}
 use Rattle.opa_table.proofs.records.cells_of.Goals as goal
 

@@ -1,4 +1,4 @@
-use Rattle.std.proofs.Common.{◌≡◌, ℕ, List, map, ap, sym, ◌∙◌, ◌+◌, min, refl, Some, None}
+use Rattle.std.proofs.Common.{◌≡◌, ℕ, List, map, ap, ◌∙◌, ◌+◌, min, Some}
 use Rattle.opa_tree.specs.declared.faults.RbFault.{RbFault}
 use Rattle.opa_sentence.specs.declared.measure.TheConstants.{MOST_NODES}
 use Rattle.opa_sentence.specs.declared.names.Member.{Member}
