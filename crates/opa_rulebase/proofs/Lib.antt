@@ -1,3 +1,2 @@
 mod RuledLaws
-mod TableLaws
 mod LoadLaws

@@ -1,5 +1,5 @@
 -- What the files of a shelf open: an accepted rulebase, or its printed refusal.
-use Rattle.std.specs.Prelude.{ℕ, ◌≡◌, List, [], ◌∷◌, map, Option, Some, None, Result, Ok, Err, IfSome, slice_index_or}
+use Rattle.std.specs.Prelude.{ℕ, ◌≡◌, ◌+◌, ◌++◌, if◌then◌else◌, List, [], ◌∷◌, map, Option, Some, None, Result, Ok, Err, IfSome, slice_index_or}
 use Rattle.opa_io.specs.Outside.{Files, Rose}
 use Rattle.opa_model.specs.declared.ids.AttrId.{AttrId}
 use Rattle.opa_model.specs.declared.lists.Lists.{Lists}
@@ -19,13 +19,14 @@ use Rattle.opa_files.specs.Files.{AreFiles}
 use Rattle.opa_files.specs.Layouts.{AreLaid, faults_from, Begins}
 use Rattle.opa_decl.specs.Declarations.{Declares, IsFirstFault}
 use Rattle.opa_parse.specs.Memberships.{AreInferences, AreRefused as IsMemberFault}
+use Rattle.opa_table.specs.declared.whole.TableFile.{TableFile}
+use Rattle.opa_table.specs.Whole.{AreAllRules, AreAllRefused}
 use Rattle.opa_check.specs.Refused.{IsRefused as IsCheckFault}
 use Rattle.opa_rulebase.specs.declared.fault.LoadError.{LoadError}
 use Rattle.opa_rulebase.specs.declared.fault.LoadError.TheVariants as load
 use Rattle.opa_rulebase.specs.declared.fault.Unaccepted.{Unaccepted}
 use Rattle.opa_rulebase.specs.declared.fault.Unaccepted.TheVariants as unaccepted
 use Rattle.opa_rulebase.specs.Printed.{refusal_text}
-use Rattle.opa_rulebase.specs.Tables.{AreAllRules, IsFirstRuleFault}
 
 -- the files are laid out in these blocks, without a fault
 pub record AreBlocks (files : List SourceFile) (blocks : List Block) : Type 0 where
@@ -42,12 +43,28 @@ pub record AreInferred (files : List SourceFile) (blocks : List Block) (m : List
   pub declared : IsDeclared files blocks m
   pub inferences_are : AreInferences m blocks inferences
 
+-- the file that has this place, if it is a table
+abbrev pub table_in : ℕ → SourceFile → Option TableFile
+table_in n f = if f.is_table then Some (record { file = n; bytes = f.text }) else None
+
+abbrev pub listed_table : Option TableFile → List TableFile
+listed_table None = []
+listed_table (Some t) = t ∷ []
+
+abbrev pub with_listed : List TableFile → Option TableFile → List TableFile
+with_listed tables t = tables ++ listed_table t
+
+-- the tables among files, of which the first has this place
+abbrev pub table_files : ℕ → List SourceFile → List TableFile
+table_files n [] = []
+table_files n (f ∷ fs) = listed_table (table_in n f) ++ table_files (n + 1) fs
+
 -- The rulebase that files spell. Its type keeps that the rules are accepted.
 pub record IsAccepted (files : List SourceFile) (base : Rulebase) : Type 0 where
   pub blocks : List Block
   pub inferences : List Inferred
   pub are_inferred : AreInferred files blocks base.model inferences
-  pub are_rules : AreAllRules base.model inferences blocks files base.rules
+  pub are_rules : AreAllRules base.model inferences blocks (table_files 0 files) base.rules
   pub files_are : base.files ≡ map (λ f. f.name) files
 
 abbrev pub phrase_at : Lists → AttrId → List ℕ
@@ -60,11 +77,11 @@ phrases_of m circle = map (phrase_at m) circle
 -- The first phase that has a fault decides: layout, declarations, membership blocks, rules and tables, and what is checked of
 -- the rules. The phrases are those of a circle.
 pub data IsRefused (files : List SourceFile) (fault : RbFault) : List (List ℕ) → Type 0 where
-  layout : Begins fault (faults_from 0 files) → IsRefused files fault []
-  declarations : (blocks : List Block) → AreBlocks files blocks → IsFirstFault blocks fault → IsRefused files fault []
-  members : (blocks : List Block) (m : Lists) → IsDeclared files blocks m → IsMemberFault m blocks fault → IsRefused files fault []
-  rules : (blocks : List Block) (m : Lists) (inferences : List Inferred) → AreInferred files blocks m inferences → IsFirstRuleFault m inferences blocks files fault → IsRefused files fault []
-  checked : (blocks : List Block) (m : Lists) (inferences : List Inferred) (rules : List Rule) → AreInferred files blocks m inferences → AreAllRules m inferences blocks files rules → IsCheckFault m rules fault
+  at_layout : Begins fault (faults_from 0 files) → IsRefused files fault []
+  at_declarations : (blocks : List Block) → AreBlocks files blocks → IsFirstFault blocks fault → IsRefused files fault []
+  at_members : (blocks : List Block) (m : Lists) → IsDeclared files blocks m → IsMemberFault m blocks fault → IsRefused files fault []
+  at_rules : (blocks : List Block) (m : Lists) (inferences : List Inferred) → AreInferred files blocks m inferences → AreAllRefused m inferences blocks (table_files 0 files) fault → IsRefused files fault []
+  at_check : (blocks : List Block) (m : Lists) (inferences : List Inferred) (rules : List Rule) → AreInferred files blocks m inferences → AreAllRules m inferences blocks (table_files 0 files) rules → IsCheckFault m rules fault
       → IsRefused files fault (phrases_of m fault.cycle)
 
 -- a refusal with its cause
@@ -96,9 +113,9 @@ pub data IsFaultOf (files : Files) (name : List ℕ) (fault : RbFault) : Type 0 
 
 -- What the files of a shelf open under a name.
 pub data Opens (files : Files) (name : List ℕ) : Result Rulebase (List ℕ) → Type 0 where
-  accepted : (sources : List SourceFile) (base : Rulebase) → AreFiles files name (Ok sources) → IsAccepted sources base → Opens files name (Ok base)
-  unread : (u : Unread) → AreFiles files name (Err u) → Opens files name (Err (refusal_text u.fault.kind u.name u.fault.line []))
-  refused : (sources : List SourceFile) (fault : RbFault) (circle : List (List ℕ)) → AreFiles files name (Ok sources) → IsRefused sources fault circle
+  accepts : (sources : List SourceFile) (base : Rulebase) → AreFiles files name (Ok sources) → IsAccepted sources base → Opens files name (Ok base)
+  cannot_take : (u : Unread) → AreFiles files name (Err u) → Opens files name (Err (refusal_text u.fault.kind u.name u.fault.line []))
+  refuses : (sources : List SourceFile) (fault : RbFault) (circle : List (List ℕ)) → AreFiles files name (Ok sources) → IsRefused sources fault circle
       → Opens files name (Err (refusal_in sources fault circle))
 
 -- the fault and the text, if memory was found for it

@@ -16,7 +16,7 @@ ghost use Rattle.opa_rulebase.specs.Loading.{AreBlocks, IsDeclared, AreInferred,
 
 use crate::fault::{Refusal, Unaccepted};
 use crate::ruled::ruled_of;
-use crate::tables::read_all_rules;
+use crate::tables::tables_of;
 use opa_check::check;
 use opa_decl::read_declarations;
 use opa_files::{SourceFile, lay_out};
@@ -24,6 +24,7 @@ use opa_io::{List, NoMemory, Txt, front};
 use opa_layout::Block;
 use opa_model::{AttrId, Model};
 use opa_parse::read_inferences;
+use opa_table::read_all_rules;
 use opa_tree::{Inferences, RbError, RbFault, Rulebase, Rules};
 use std::alloc::Global;
 
@@ -129,11 +130,10 @@ fn accept_inferred(
     ensures accepted { IfOk result (IsAccepted files.now) }
     ensures refused { IfErr result (HasRefusal files.now) }
 {
-    match read_all_rules(alloc, &model, inferences, blocks, files) {
-        Ok(rules) => {
-            let names = names(alloc, files)?;
-            accept_rules(alloc, model, rules, names)
-        }
+    let names = names(alloc, files)?;
+    let tables = tables_of(alloc, files)?;
+    match read_all_rules(alloc, &model, inferences, blocks, tables.as_slice()) {
+        Ok(rules) => accept_rules(alloc, model, rules, names),
         Err(error) => Err(plain(alloc, error)),
     }
 }

@@ -13,7 +13,6 @@ pub use fault::{LoadError, Refusal, Unaccepted};
 pub use loading::load_rulebase;
 pub use printed::refusal_text;
 pub use ruled::ruled_of;
-pub use tables::read_all_rules;
 
 #[cfg(test)]
 mod tests;

@@ -1,89 +1,62 @@
-// The rules of rule blocks and of tables.
-ghost use Rattle.std.specs.Prelude.{ℕ, ◌≡◌, ◌<◌, ◌≤◌, ◌^◌, length, All, IfOk, IfErr};
-ghost use Rattle.opa_tree.specs.declared.faults.RbError.TheVariants.{Refused};
-ghost use Rattle.opa_tree.specs.declared.faults.RbFault.{RbFault as FaultView};
-ghost use Rattle.opa_tree.specs.Accepted.{HaveForm, AreShallow, AreFiled};
-ghost use Rattle.opa_parse.specs.Fronts.{AreShort};
-ghost use Rattle.opa_parse.specs.Handed.{AreFormed, AreDeclared};
-ghost use Rattle.opa_rulebase.specs.Tables.{AreAllRules, IsFirstRuleFault, TakesFile, TakesTables};
+// The tables among the files of a rulebase.
+ghost use Rattle.std.specs.Prelude.{ℕ, ◌≡◌, ◌<◌, ◌^◌, length, All, IfOk};
+ghost use Rattle.opa_table.specs.declared.whole.TableFile.{TableFile as TableView};
+ghost use Rattle.opa_rulebase.specs.Loading.{table_files, table_in, with_listed};
 
 use opa_files::SourceFile;
-use opa_io::{NoMemory, front};
-use opa_layout::Block;
-use opa_model::Model;
-use opa_parse::{Taken, inferred_nodes, names_of, take_blocks};
-use opa_sentence::Names;
-use opa_table::take_table;
-use opa_tree::{Inferences, RbError, Rules};
+use opa_io::{List, NoMemory, front};
+use opa_table::TableFile;
 use std::alloc::Global;
 
-/// Takes the rules of a file that has this place, if it is a table.
-fn take_file(
+/// The file that has this place, if it is a table.
+fn table_of(
     alloc: Global,
-    model: &Model,
-    names: &Names,
     place: u32,
     file: &SourceFile,
-    taken: Taken,
-) -> Result<Taken, NoMemory>
-    ensures { IfOk result (TakesFile model.now names.now place file.now taken) }
+) -> Result<Option<TableFile>, NoMemory>
+    ensures { IfOk result (λ t. t ≡ table_in place file.now) }
 {
     if file.is_table {
-        let bytes = file.text.as_str().as_bytes();
-        let next = take_table(alloc, model, names, place, bytes, taken)?;
-        Ok(next)
+        let bytes = file.text.as_str().as_bytes().to_vec(alloc)?;
+        Ok(Some(TableFile {
+            file: place,
+            bytes: List::from_vec(bytes),
+        }))
     } else {
-        Ok(taken)
+        Ok(None)
     }
 }
 
-/// Takes the rules of the tables among files.
-fn take_tables(
-    alloc: Global,
-    model: &Model,
-    names: &Names,
-    files: &[SourceFile],
-    taken: Taken,
-) -> Result<Taken, NoMemory>
-    requires { length files.now < 2 ^ 32 }
-    ensures { IfOk result (TakesTables model.now names.now 0 files.now taken) }
+/// The tables with one more, if there is one.
+fn with_table(
+    tables: List<TableFile>,
+    table: Option<TableFile>,
+) -> Result<List<TableFile>, NoMemory>
+    ensures { IfOk result (λ all. all ≡ with_listed tables table) }
 {
-    let mut next = taken;
+    match table {
+        None => Ok(tables),
+        Some(table) => {
+            let mut tables = tables;
+            tables.push(table)?;
+            Ok(tables)
+        }
+    }
+}
+
+/// The tables among files, with their places.
+pub(crate) fn tables_of(alloc: Global, files: &[SourceFile]) -> Result<List<TableFile>, NoMemory>
+    requires { length files.now < 2 ^ 32 }
+    ensures tables { IfOk result (λ tables. tables ≡ table_files 0 files.now) }
+    ensures placed { IfOk result (All (λ (t : TableView). t.file < length files.now)) }
+{
+    let mut tables = List::new(alloc);
     let mut place = 0;
     let mut rest = files;
     while let Some((file, later)) = front(rest) {
-        next = take_file(alloc, model, names, place, file, next)?;
+        tables = with_table(tables, table_of(alloc, place, file)?)?;
         place += 1;
         rest = later;
     }
-    Ok(next)
-}
-
-/// The rules of the rule blocks, and then those of the tables, in the order of the files; or the first fault of both.
-pub fn read_all_rules(
-    alloc: Global,
-    model: &Model,
-    inferences: &Inferences,
-    blocks: &[Block],
-    files: &[SourceFile],
-) -> Result<Rules, RbError>
-    requires short { All (λ b. AreShort b.lines) blocks.now }
-    requires few { length files.now < 2 ^ 32 }
-    ensures rules { IfOk result (AreAllRules model.now inferences.now blocks.now files.now) }
-    ensures refused { IfErr result (λ e. (fault : FaultView) → e ≡ Refused fault → IsFirstRuleFault model.now inferences.now blocks.now files.now fault) }
-    // What is asked of rules that are checked, and of a rulebase.
-    ensures formed { IfOk result (λ rules. AreFormed inferences.now → HaveForm rules) }
-    ensures shallow { IfOk result (λ rules. AreFormed inferences.now → AreShallow rules) }
-    ensures declared { IfOk result (AreDeclared model.now) }
-    ensures filed { IfOk result (λ rules. All (λ b. b.file < length files.now) blocks.now → AreFiled (length files.now) rules) }
-{
-    let names = names_of(alloc, model, inferences)?;
-    let none = Taken::none(alloc, inferred_nodes(names.members.as_slice()));
-    let found = take_blocks(alloc, model, &names, blocks, none)?;
-    let taken = take_tables(alloc, model, &names, files, found)?;
-    let Taken { first, rules, .. } = taken;
-    match first {
-        None => Ok(Rules::from_list(rules)),
-        Some(fault) => Err(RbError::Refused(fault)),
-    }
+    Ok(tables)
 }
