@@ -1,0 +1,2 @@
+mod Sieves
+mod LawsHold
