@@ -1,7 +1,7 @@
 -- What the files of a shelf open, phase by phase.
 use Rattle.std.proofs.lemmas.List.Elements.{All-nil, All-cons, All-append}
 use Rattle.std.specs.Prelude.{if◌then◌else◌}
-use Rattle.std.proofs.Common.{◌≡◌, ℕ, ◌+◌, ◌≤◌, ◌<◌, ◌^◌, ◌++◌, append_assoc, Bool, true, false, List, [], ◌∷◌, length, map, All, Option, Some, None, Result, Ok, Err, IfOk, IfErr, IfSome, slice_index_or, refl, sym, ap, ◌∙◌, subst, arith}
+use Rattle.std.proofs.Common.{◌≡◌, ℕ, ◌+◌, ◌≤◌, ◌<◌, ◌^◌, ◌++◌, append_assoc, append-nil, Bool, true, false, List, [], ◌∷◌, length, map, All, Option, Some, None, Result, Ok, Err, IfOk, IfErr, IfSome, slice_index_or, refl, sym, ap, ◌∙◌, subst, arith}
 use Rattle.opa_io.specs.Outside.{Files}
 use Rattle.opa_model.specs.declared.lists.Lists.{Lists}
 use Rattle.opa_layout.specs.declared.block.Block.{Block}
@@ -102,3 +102,6 @@ place_in n total f false h = All-nil (λ (x : TableFile). x.file < total)
 pub tables_placed : (n total : ℕ) (fs : List SourceFile) → n + length fs ≤ total → All (λ (x : TableFile). x.file < total) (table_files n fs)
 tables_placed n total [] h = All-nil (λ (x : TableFile). x.file < total)
 tables_placed n total (f ∷ fs) h = All-append (λ (x : TableFile). x.file < total) (listed_table (table_in n f)) (table_files (n + 1) fs) (place_in n total f f.is_table (omega (arith, h))) (tables_placed (n + 1) total fs (omega (arith, h)))
+
+pub tables_end : (old : List TableFile) (n : ℕ) (rest : List SourceFile) (all : List TableFile) → rest ≡ [] → old ++ table_files n rest ≡ all → old ≡ all
+tables_end old n rest all e h = sym (append-nil old) ∙ ap (λ x. old ++ table_files n x) (sym e) ∙ h

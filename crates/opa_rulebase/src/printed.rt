@@ -65,6 +65,10 @@ pub fn refusal_text(
     let name = shown(alloc, name)?;
     let circle = circle_lines(alloc, circle)?;
     let number = kind.number();
-    let text = format!(in alloc; "refused: rulebase {number} {}:{line}\n{}", name.as_str(), circle.as_str())?;
+    let text = format!(in alloc;
+        "refused: rulebase {number} {}:{line}\n{}",
+        name.as_str(),
+        circle.as_str()
+    )?;
     Txt::from_str(alloc, text.as_str())
 }

@@ -9,11 +9,7 @@ use opa_table::TableFile;
 use std::alloc::Global;
 
 /// The file that has this place, if it is a table.
-fn table_of(
-    alloc: Global,
-    place: u32,
-    file: &SourceFile,
-) -> Result<Option<TableFile>, NoMemory>
+fn table_of(alloc: Global, place: u32, file: &SourceFile) -> Result<Option<TableFile>, NoMemory>
     ensures { IfOk result (λ t. t ≡ table_in place file.now) }
 {
     if file.is_table {

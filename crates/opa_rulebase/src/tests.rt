@@ -102,6 +102,82 @@ the claimant is entitled if
   the claimant is a resident
 ";
 
+const HOUSE: &str = "verb is / is not / is /
+global
+  bool the door [is] open
+  number the count
+  currency the fee
+  text the name
+  date the day
+entity the room
+  in global: the rooms
+  bool the room [is] warm
+  number the size
+  reference the twin: one the room
+  reference the neighbours: many the room
+entity the shelf
+  in the room: the shelves
+  number the load
+";
+
+/// Rules of line 17 that have an operand of a wrong kind, or conclude another kind than the attribute's.
+const WRONG_KINDS: [&str; 16] = [
+    "the count = the fee + the name",
+    "the count = - the day",
+    "the door is open = the count = the name",
+    "the door is open = the name < the name",
+    "the count = Round(the name, 2)",
+    "the count = Round(the fee, 5)",
+    "the count = Minimum(the name, the name)",
+    "the day = AddDays(the count, the count)",
+    "the count = DaysBetween(the day, the fee)",
+    "the count = YearsBetween(the name, the day)",
+    "the count = YearOf(the name)",
+    "the name = Concatenate(the name, the count)",
+    "the count = Certain(the day)",
+    "the count = CurrentlyKnown(the day)",
+    "the count if\n  the door is open",
+    "the count = true",
+];
+
+/// The same of quantifiers and of functions over time.
+const WRONG_OPERANDS: [&str; 16] = [
+    "the door is open = ForAll(the rooms, the size)",
+    "the door is open = Exists(the rooms, the size)",
+    "the count = For(the rooms, the size)",
+    "the name = InstanceCount(the rooms)",
+    "the count = InstanceCountIf(the rooms, the size)",
+    "the count = InstanceSum(the rooms, the room is warm)",
+    "the count = InstanceSumIf(the rooms, the size, the size)",
+    "the count = InstanceMaximum(the rooms, the room is warm)",
+    "the count = ValueAt(the fee, the fee)",
+    "the door is open = IntervalAlways(the day, the day, the count)",
+    "the count = IntervalDailySum(the day, the day, the name)",
+    "the count = IntervalMaximum(the day, the day, the name)",
+    "the count = IntervalConsecutiveDays(the day, the day, the fee)",
+    "the door is open = TemporalAlwaysDays(36601, the door is open)",
+    "the door is open = TemporalBefore(the count)",
+    "the count = TemporalYearsSince(the fee)",
+];
+
+/// Rules of line 17 that are accepted.
+const ACCEPTED: [&str; 14] = [
+    "the count = uncertain",
+    "the fee = the count * 2 - 1",
+    "the door is open if\n  not Exists(the rooms, the room is not warm)",
+    "the load = the size + the count",
+    "the room is warm = the size > the count",
+    "the size = InstanceCount(the neighbours)",
+    "the size = For(the twin, the count)",
+    "the day = AddMonths(2024-01-31, the count)",
+    "the name = Concatenate(\"a\", \"b\")",
+    "the door is open = ForAll(the rooms, the room is warm)",
+    "the count = InstanceSum(the rooms, InstanceSum(the shelves, the load))",
+    "the count = InstanceMaximum(the rooms, the size)",
+    "the door is open = TemporalAlwaysDays(36600, CurrentlyKnown(the day))",
+    "the count = ValueAt(the day, TemporalYearsSince(2000-02-29))",
+];
+
 /// A shelf with these files.
 fn shelf(alloc: Global, files: &[(&str, &str)]) -> Result<MemShelf, Fail> {
     let mut kept = Vec::new(alloc);
@@ -145,7 +221,11 @@ fn accepted(rt: HostRuntime) -> Result<(), Fail> {
 
 #[test]
 fn with_tables(rt: HostRuntime) -> Result<(), Fail> {
-    let files = [("b11.txt", HOUSEHOLD), ("base.csv", BASE), ("share.csv", SHARE)];
+    let files = [
+        ("b11.txt", HOUSEHOLD),
+        ("base.csv", BASE),
+        ("share.csv", SHARE),
+    ];
     let found = loaded(rt.alloc(), &files, "b11.txt")?;
     assert_eq!(rt; found.as_str(), " 1 2 2 3 4 0 0 1");
     let files = [("b9.txt", INCOME), ("rate.csv", RATE)];
@@ -164,10 +244,19 @@ fn refused(rt: HostRuntime) -> Result<(), Fail> {
         ),
         ("global\n    number x", "refused: rulebase 2 a.txt:2\n"),
         ("include \"b\u{1}.txt\"", "refused: rulebase 9 b?.txt:0\n"),
-        ("global\n  number x\n  number x", "refused: rulebase 6 a.txt:3\n"),
-        ("global\n  number x\nx = true", "refused: rulebase 5 a.txt:3\n"),
+        (
+            "global\n  number x\n  number x",
+            "refused: rulebase 6 a.txt:3\n",
+        ),
+        (
+            "global\n  number x\nx = true",
+            "refused: rulebase 5 a.txt:3\n",
+        ),
         ("global\n  number x\nx = y", "refused: rulebase 3 a.txt:3\n"),
-        ("global\n  number x\nx = 1\nx = 2", "refused: rulebase 6 a.txt:4\n"),
+        (
+            "global\n  number x\nx = 1\nx = 2",
+            "refused: rulebase 6 a.txt:4\n",
+        ),
     ] {
         let found = loaded(rt.alloc(), &[("a.txt", text)], "a.txt")?;
         assert_eq!(rt; found.as_str(), want);
@@ -212,5 +301,116 @@ fn refused_tables(rt: HostRuntime) -> Result<(), Fail> {
         let found = loaded(rt.alloc(), &files, "b9.txt")?;
         assert_eq!(rt; found.as_str(), want);
     }
+    Ok(())
+}
+
+/// What is loaded of the house with one more rule.
+fn with_rule(alloc: Global, rule: &str) -> Result<String, Fail> {
+    let text = format!(in alloc; "{HOUSE}{rule}\n")?;
+    loaded(alloc, &[("a.txt", text.as_str())], "a.txt")
+}
+
+#[test]
+fn wrong_kinds(rt: HostRuntime) -> Result<(), Fail> {
+    for rule in WRONG_KINDS {
+        let found = with_rule(rt.alloc(), rule)?;
+        assert_eq!(rt; found.as_str(), "refused: rulebase 5 a.txt:17\n");
+    }
+    Ok(())
+}
+
+#[test]
+fn wrong_operands(rt: HostRuntime) -> Result<(), Fail> {
+    for rule in WRONG_OPERANDS {
+        let found = with_rule(rt.alloc(), rule)?;
+        assert_eq!(rt; found.as_str(), "refused: rulebase 5 a.txt:17\n");
+    }
+    Ok(())
+}
+
+#[test]
+fn out_of_reach(rt: HostRuntime) -> Result<(), Fail> {
+    for rule in [
+        "the count = the size",
+        "the count = InstanceCount(the neighbours)",
+        "the size = the load",
+        "the count = InstanceSum(the rooms, the load)",
+    ] {
+        let found = with_rule(rt.alloc(), rule)?;
+        assert_eq!(rt; found.as_str(), "refused: rulebase 4 a.txt:17\n");
+    }
+    Ok(())
+}
+
+#[test]
+fn accepted_rules(rt: HostRuntime) -> Result<(), Fail> {
+    for rule in ACCEPTED {
+        let found = with_rule(rt.alloc(), rule)?;
+        assert!(rt; found.as_str().starts_with(" "));
+    }
+    Ok(())
+}
+
+#[test]
+fn circles(rt: HostRuntime) -> Result<(), Fail> {
+    for (rules, want) in [
+        ("the count = the count + 1", "7 a.txt:17\n  the count\n"),
+        (
+            "the day = AddDays(the day, 1)\nthe count = the fee\nthe fee = the count",
+            "7 a.txt:18\n  the count\n  the fee\n",
+        ),
+        ("the count = the fee\nthe fee = the load2", "3 a.txt:18\n"),
+    ] {
+        let found = with_rule(rt.alloc(), rules)?;
+        let want = format!(in rt.alloc(); "refused: rulebase {want}")?;
+        assert_eq!(rt; found.as_str(), want.as_str());
+    }
+    Ok(())
+}
+
+/// So many numbers, each of which is concluded from the next one.
+fn chain(alloc: Global, count: u32) -> Result<String, Fail> {
+    let mut text = String::from_str(alloc, "global\n")?;
+    for k in 0..count {
+        text.push_str(format!(in alloc; "  number a{k}\n")?.as_str())?;
+    }
+    let mut before = 0;
+    for k in 1..count {
+        text.push_str(format!(in alloc; "a{before} = a{k}\n")?.as_str())?;
+        before = k;
+    }
+    Ok(text)
+}
+
+#[test]
+fn a_long_chain(rt: HostRuntime) -> Result<(), Fail> {
+    let text = chain(rt.alloc(), 4000)?;
+    let found = loaded(rt.alloc(), &[("a.txt", text.as_str())], "a.txt")?;
+    assert!(rt; found.as_str().starts_with(" 3999 3998 3997 "));
+    let text = chain(rt.alloc(), 4001)?;
+    let found = loaded(rt.alloc(), &[("a.txt", text.as_str())], "a.txt")?;
+    assert_eq!(rt; found.as_str(), "refused: rulebase 8 a.txt:4002\n");
+    Ok(())
+}
+
+/// A rule with so many lines, each of which mentions ten attributes.
+fn wide(alloc: Global, lines: u32) -> Result<String, Fail> {
+    let mut text = String::from_str(alloc, "verb is / is not / is /\nglobal\n  bool x [is] y\n")?;
+    for k in 0..10 {
+        text.push_str(format!(in alloc; "  number a{k}\n")?.as_str())?;
+    }
+    text.push_str("x is y if\n")?;
+    for _ in 0..lines {
+        text.push_str("  a0 + a1 + a2 + a3 + a4 + a5 + a6 + a7 + a8 = a9 and\n")?;
+    }
+    text.push_str("  a0 = 0\n")?;
+    Ok(text)
+}
+
+#[test]
+fn fifty_thousand_mentions(rt: HostRuntime) -> Result<(), Fail> {
+    let text = wide(rt.alloc(), 5000)?;
+    let found = loaded(rt.alloc(), &[("a.txt", text.as_str())], "a.txt")?;
+    assert_eq!(rt; found.as_str(), " 1 0 0 0 0 0 0 0 0 0 0");
     Ok(())
 }
