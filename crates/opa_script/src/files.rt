@@ -20,6 +20,9 @@ use opa_value::Number;
 use opa_words::{TokenKind, text_of_token};
 use std::alloc::Global;
 
+/// How many bytes the name of a file has at most.
+const LONGEST_NAME: usize = 100;
+
 /// The one token that is left, with its kind.
 fn only<'t>(rest: Pieces<'t>) -> Option<(TokenKind, &'t str)>
     requires { AreOfKind rest }
@@ -67,7 +70,7 @@ fn file_name(alloc: Global, rest: Pieces<'_>) -> Result<Txt, CmdFault>
     if name.as_str().len() == 0 {
         return Err(CmdFault::Value);
     }
-    if name.as_str().len() > 100 {
+    if name.as_str().len() > LONGEST_NAME {
         return Err(CmdFault::Value);
     }
     Ok(name)

@@ -22,3 +22,6 @@ pub use fault::CmdFault;
 pub use laws::{one_command, refused_or_read};
 pub use reading::read_command;
 pub use replies::read_reply;
+
+#[cfg(test)]
+mod tests;
