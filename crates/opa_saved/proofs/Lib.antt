@@ -1,0 +1,3 @@
+pub mod Newline
+pub mod DigestLaws
+pub mod SavedLaws
