@@ -84,6 +84,7 @@ told_is m c f n = go (relation_or m (rel n)).every refl
   where
     entry : InstanceId → Option (List (List ℕ)) → List Data
     entry i o = entry_of (list_entry (relation_or m (rel n)).phrase i) o
+
     go : (b : Bool) → (relation_or m (rel n)).every ≡ b
         → cond b [] (flat_map (λ i. entry_of (list_entry (relation_or m (rel n)).phrase i) (list_of c (rel n) i)) (members (relation_or m (rel n)).source.0 c.live)) ≡ lists_of m c n
     go true e = sym (flat_none (λ i. entry_of (list_entry (relation_or m (rel n)).phrase i) (get c.lists (n, i))) (λ i. ap (λ o. entry_of (list_entry (relation_or m (rel n)).phrase i) o) (no_list m c f n i e)) (members (relation_or m (rel n)).source.0 c.live))

@@ -12,7 +12,7 @@ pub(crate) fn digest(model: &Model) -> u64
     digest_relations(attributes, model)
 }
 
-fn digest_on(start: u64, bytes: &[u8]) -> u64
+pub(crate) fn digest_on(start: u64, bytes: &[u8]) -> u64
     requires { start < 4294967296 }
     ensures value { result ≡ meant.digest_on start bytes.now }
     ensures bound { result < 4294967296 }

@@ -10,3 +10,6 @@ mod saved;
 mod values;
 
 pub use saved::saved_text;
+
+#[cfg(test)]
+mod tests;

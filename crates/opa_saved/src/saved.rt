@@ -45,12 +45,7 @@ fn saved_json(
 }
 
 /// The object of answers, lists and a digest.
-fn whole(
-    alloc: Global,
-    answers: Vec<Json>,
-    lists: Vec<Json>,
-    digest: u64,
-) -> Result<Json, NoMemory>
+fn whole(alloc: Global, answers: Vec<Json>, lists: Vec<Json>, digest: u64) -> Result<Json, NoMemory>
     ensures { IfOk result (λ v. view v ≡ whole_data (map view answers.items) (map view lists.items) digest) }
 {
     let format = Json::String(String::from_str(alloc, "policy-case")?);
