@@ -1,9 +1,9 @@
 -- A digest goes on from phrase to phrase.
-use Rattle.std.proofs.Common.{◌≡◌, ◌<◌, ◌+◌, ◌*◌, ◌%◌, ℕ, List, [], ◌∷◌, ◌++◌, length, map, take, refl, sym, ap, subst, ◌∙◌, arith, append-nil, append_assoc}
+use Rattle.std.proofs.Common.{◌≡◌, ◌<◌, ◌+◌, ◌*◌, ◌%◌, ℕ, List, [], ◌∷◌, ◌++◌, length, map, take, refl, sym, ap, ◌∙◌, arith, append-nil, append_assoc}
 use Rattle.std.specs.Prelude.{flat_map, slice_get, Some}
 use Rattle.std.proofs.lemmas.List.{take_more, length-map, get_or-map}
 use Rattle.std.proofs.lemmas.Option.{slice_get_within, get_or_from_slice_get}
-use Rattle.opa_saved.specs.Digests.{digest_on, phrase_line, digest, digest_text, attributes_digest, relations_digest}
+use Rattle.opa_saved.specs.Digests.{digest_on, phrase_line, digest, attributes_digest, relations_digest}
 use Rattle.opa_model.specs.declared.lists.Lists.{Lists}
 use Rattle.opa_model.specs.Lookups.{attribute_phrases, relation_phrases}
 

@@ -1,13 +1,13 @@
 -- A case that fits, as it is saved.
-use Rattle.std.proofs.Common.{◌≡◌, ◌<◌, ◌≤◌, ◌+◌, ◌-◌, ℕ, zero, suc, Bool, true, false, cond, List, [], ◌∷◌, ◌++◌, length, map, refl, sym, ap, subst, ◌∙◌, arith, append-nil}
-use Rattle.std.specs.Prelude.{Option, Some, None, flat_map, max, codes, ◌&&◌, ◌||◌}
+use Rattle.std.proofs.Common.{◌≡◌, ◌<◌, ◌≤◌, ◌+◌, ◌-◌, ℕ, zero, suc, Bool, true, false, cond, List, [], ◌∷◌, ◌++◌, length, map, refl, sym, ap, subst, ◌∙◌, arith}
+use Rattle.std.specs.Prelude.{Option, Some, None, flat_map, ◌&&◌, ◌||◌}
 use Rattle.std.specs.Option.{option_or}
 use Rattle.std.specs.List.{list_all, AllByRecursion}
 use Rattle.std.specs.FinMap.{get}
-use Rattle.serde_json.specs.Data.{Data, number, unsigned, string, array, object, member, no_members, item, no_items, depth, items_depth, members_depth}
+use Rattle.serde_json.specs.Data.{Data, string, depth}
 use Rattle.serde_json.specs.Read.{max_depth}
 use Rattle.serde_json.specs.View.{items_of}
-use Rattle.serde_json.specs.Written.{compact_text, has_float, items_have_float, members_have_float}
+use Rattle.serde_json.specs.Written.{compact_text, has_float, items_have_float}
 use Rattle.opa_value.specs.declared.value.Value.{Value}
 use Rattle.opa_value.specs.declared.value.Value.TheVariants as value
 use Rattle.opa_date.specs.declared.TheConstants.{DAYS}
@@ -15,18 +15,17 @@ use Rattle.opa_model.specs.declared.lists.Lists.{Lists}
 use Rattle.opa_model.specs.declared.things.Kind.{Kind}
 use Rattle.opa_model.specs.Models.{IsModel}
 use Rattle.opa_cells.specs.declared.instance.InstanceId.{InstanceId}
-use Rattle.opa_case.specs.Live.{members, live_of, live_upto}
+use Rattle.opa_case.specs.Live.{members, live_of}
 use Rattle.opa_case.specs.Cases.{CaseView, Answer, stored, list_of}
 use Rattle.opa_case.specs.Shapes.{Shape, IsShape, shape_of, attribute_or, relation_or}
-use Rattle.opa_case.specs.Steps.{every_of, has_kind, is_date}
-use Rattle.opa_case.specs.Fits.{Fits}
+use Rattle.opa_case.specs.Steps.{has_kind, is_date}
 use Rattle.opa_case.proofs.Losing.{is_every}
 use Rattle.opa_case.proofs.Lively.{same_live}
 use Rattle.opa_case.proofs.Shaped.{shape_is}
 use Rattle.opa_text.specs.Texts.{IsOfCalendar}
 use Rattle.std.proofs.lemmas.Bool.{ltb-true}
 use Rattle.opa_saved.specs.Digests.{digest}
-use Rattle.opa_saved.specs.Saved.{pair_data, list_data, line_data, names_data, answer_entry, list_entry, entry_of, rel, attr, lists_of, lists_upto, answers_of, answers_upto, whole_data, saved_data, saved_text}
+use Rattle.opa_saved.specs.Saved.{pair_data, list_data, answer_entry, list_entry, entry_of, rel, attr, lists_of, lists_upto, answers_of, answers_upto, whole_data, saved_data, saved_text}
 use Rattle.opa_saved.specs.Told.{AreOfCalendar, HasDays, FitsModel, lists_told, told_upto}
 
 -- ---- the days of answers

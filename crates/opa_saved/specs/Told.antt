@@ -1,12 +1,12 @@
 -- What a case tells by its look-ups.
-use Rattle.std.specs.Prelude.{◌≡◌, ℕ, zero, suc, List, [], ◌∷◌, ◌++◌, Some, Bool, flat_map, cond}
+use Rattle.std.specs.Prelude.{◌≡◌, ℕ, zero, suc, List, [], ◌++◌, Some, Bool, flat_map, cond}
 use Rattle.std.specs.List.{AllByRecursion}
 use Rattle.std.specs.FinMap.{get}
 use Rattle.serde_json.specs.Data.{Data}
 use Rattle.opa_value.specs.declared.value.Value.{Value}
 use Rattle.opa_model.specs.declared.lists.Lists.{Lists}
 use Rattle.opa_cells.specs.declared.instance.InstanceId.{InstanceId}
-use Rattle.opa_case.specs.Live.{members, Population}
+use Rattle.opa_case.specs.Live.{members}
 use Rattle.opa_case.specs.Cases.{CaseView, Answer, list_of}
 use Rattle.opa_case.specs.Shapes.{relation_or, shape_of}
 use Rattle.opa_case.specs.Fits.{Fits}

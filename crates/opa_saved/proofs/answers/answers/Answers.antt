@@ -1,4 +1,4 @@
-use Rattle.std.proofs.Common.{◌≡◌, ◌++◌, map, [], ap, ◌∙◌, arith}
+use Rattle.std.proofs.Common.{◌++◌, map, ap, ◌∙◌}
 use Rattle.serde_json.specs.View.{view}
 use Rattle.opa_saved.specs.Saved.{answers_of}
 use Rattle.opa_saved.proofs.SavedLaws.{answers_none, answers_next}

@@ -1,4 +1,4 @@
-use Rattle.std.proofs.Common.{map, take, ap, ◌∙◌}
+use Rattle.std.proofs.Common.{take, ap, ◌∙◌}
 use Rattle.opa_model.specs.declared.things.Attribute.{Attribute}
 use Rattle.opa_model.specs.Lookups.{attribute_phrases}
 use Rattle.opa_saved.specs.Digests.{digest_on, phrase_line}

@@ -1,4 +1,4 @@
-use Rattle.std.proofs.Common.{◌≡◌, ◌++◌, map, [], ap, ◌∙◌, arith}
+use Rattle.std.proofs.Common.{◌++◌, map, ap, ◌∙◌}
 use Rattle.serde_json.specs.View.{view}
 use Rattle.opa_saved.specs.Told.{lists_told}
 use Rattle.opa_saved.proofs.SavedLaws.{told_none, told_next}

@@ -1,4 +1,4 @@
-use Rattle.std.proofs.Common.{map, length, ap, ◌∙◌}
+use Rattle.std.proofs.Common.{map}
 use Rattle.std.proofs.lemmas.Result.{IfOk-weaker}
 use Rattle.serde_json.specs.View.{view}
 use Rattle.opa_saved.proofs.SavedLaws.{fits_days, whole_is}

@@ -1,4 +1,4 @@
-use Rattle.std.proofs.Common.{◌++◌, ◌∷◌, [], ap, ◌∙◌}
+use Rattle.std.proofs.Common.{◌∙◌}
 use Rattle.serde_json.specs.View.{view}
 use Rattle.opa_saved.proofs.SavedLaws.{live_listed, saved_has_no_float, saved_is_shallow, text_is}
 use Rattle.opa_saved.proofs.saved.saved_text.Goals as goal
