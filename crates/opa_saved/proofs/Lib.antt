@@ -1,0 +1,4 @@
+pub mod Newline
+pub mod DigestLaws
+pub mod SavedLaws
+pub mod Nothing

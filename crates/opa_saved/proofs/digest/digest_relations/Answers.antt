@@ -1,0 +1,15 @@
+use Rattle.std.proofs.Common.{take, ap, ◌∙◌}
+use Rattle.opa_model.specs.declared.things.Relation.{Relation}
+use Rattle.opa_model.specs.Lookups.{relation_phrases}
+use Rattle.opa_saved.specs.Digests.{digest_on, phrase_line}
+use Rattle.opa_saved.proofs.DigestLaws.{digest_next, phrases_next}
+use Rattle.opa_saved.proofs.digest.digest_relations.Goals as goal
+
+pub loop-n-preserved : goal.loop-n-preserved
+loop-n-preserved c = record {
+  same =
+      digest_next c.args.start (take c.loop-n.n (relation_phrases c.args.model.now)) _ c.relation.result.now.phrase c.loop-n.digest c.digest_phrase-digest.result
+      (phrases_next (λ (x : Relation). x.phrase) c.args.model.now.relations c.loop-n.n c.relation.result.now c.relation.ensures) c.loop-n.invariant.same
+      (c.digest_phrase-digest.ensures.value ∙ ap (λ p. digest_on c.loop-n.digest (phrase_line p)) c.as_str.ensures);
+  bound = c.digest_phrase-digest.ensures.bound;
+}

@@ -1,0 +1,9 @@
+pub mod PieceLists
+pub mod PointLaws
+pub mod Passing
+pub mod Exits
+pub mod Found
+pub mod LawsHold
+pub mod NamedOnce
+pub mod OneCommand
+pub mod ExampleLaws

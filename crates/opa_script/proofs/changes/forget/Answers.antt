@@ -1,0 +1,10 @@
+use Rattle.opa_pieces.specs.Pieces.{seen}
+use Rattle.opa_script.proofs.Found.{point_found, point_missing, relation_missing}
+use Rattle.opa_script.proofs.Exits.{forget_name}
+use Rattle.opa_script.proofs.changes.forget.Goals as goal
+
+pub returns-in_default-clause-fault : goal.returns-in_default-clause-fault
+returns-in_default-clause-fault c = λ h. point_missing c.in_ok-point.field-0 (seen c.args.rest) c.in_default.is c.in_ok-point.ensures h.0 h.1
+
+pub returns-in_default-2-clause-fault : goal.returns-in_default-2-clause-fault
+returns-in_default-2-clause-fault c = forget_name c.args.model.now (seen c.args.rest) c.in-Some.point (point_found c.in_ok-point.field-0 c.in-Some.point (seen c.args.rest) c.in-Some.is c.in_ok-point.ensures) (relation_missing c.in_ok-rel.field-0 c.args.model.now c.in-Some.point c.in_default-2.is c.in_ok-rel.ensures)

@@ -1,0 +1,13 @@
+use Rattle.std.proofs.Common.{◌≡◌, length}
+use Rattle.opa_pieces.specs.Pieces.{seen, AreOfKind}
+use Rattle.opa_script.specs.Shapes as meant
+use Rattle.opa_script.proofs.points.are_words.Given as goal
+
+abbrev pub invariant-loop-kind : goal.invariant-loop-kind
+invariant-loop-kind l = record {
+  same : meant.are_words (seen l.rest) ≡ meant.are_words (seen l.fn.start);
+  kinds : AreOfKind l.rest;
+}
+
+abbrev pub decreases-loop-kind : goal.decreases-loop-kind
+decreases-loop-kind l = length (seen l.rest)

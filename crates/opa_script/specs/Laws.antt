@@ -1,0 +1,32 @@
+-- Laws of commands.
+use Rattle.std.specs.Prelude.{◌≡◌, ℕ, List}
+use Rattle.opa_date.specs.declared.TheConstants.{DAYS}
+use Rattle.opa_line.specs.Lines.{IsLine}
+use Rattle.opa_model.specs.declared.lists.Lists.{Lists}
+use Rattle.opa_model.specs.Models.{IsModel}
+use Rattle.opa_case.specs.declared.change.ChangeCommand.{ChangeCommand}
+use Rattle.opa_case.specs.declared.change.ChangeCommand.TheVariants as change
+use Rattle.opa_script.specs.declared.command.Command.{Command}
+use Rattle.opa_script.specs.declared.command.Command.TheVariants as command
+use Rattle.opa_script.specs.declared.fault.CmdFault.{CmdFault}
+use Rattle.opa_script.specs.declared.fault.CmdFault.TheVariants as fault
+use Rattle.opa_script.specs.Commands.{IsCommand, IsNoCommand}
+
+-- what is answered is a line
+abbrev pub HasLine : ChangeCommand → Type 0
+HasLine (change.Answer a i l) = IsLine DAYS l
+HasLine (change.Withdraw a i) = Unit {0}
+HasLine (change.SetList r i ns) = Unit {0}
+HasLine (change.Forget r i) = Unit {0}
+
+abbrev pub IsWellFormed : Command → Type 0
+IsWellFormed (command.Change x) = HasLine x
+IsWellFormed c = Unit {0}
+
+-- a line is at most one command
+abbrev pub OneCommand : Type 0
+OneCommand = (m : Lists) → IsModel m → (bytes : List ℕ) (c d : Command) → IsWellFormed c → IsWellFormed d → IsCommand m bytes c → IsCommand m bytes d → c ≡ d
+
+-- a line that is a command has no fault
+abbrev pub RefusedOrRead : Type 0
+RefusedOrRead = (m : Lists) (bytes : List ℕ) (c : Command) (f : CmdFault) → IsCommand m bytes c → IsNoCommand m bytes f → f ≡ fault.NoMemory

@@ -1,0 +1,6 @@
+pub mod Lines
+pub mod Shapes
+pub mod Commands
+pub mod Replies
+pub mod Examples
+pub mod Laws

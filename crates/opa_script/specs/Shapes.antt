@@ -1,0 +1,132 @@
+-- What a line may look like, before anything is asked of the model.
+use Rattle.std.specs.Prelude.{◌≡◌, ◌≤◌, ℕ, List, [], ◌∷◌, ◌++◌, length, map, Bool, true, false, ◌&&◌, not, Option, None, Some, codes, if◌then◌else◌}
+use Rattle.std.specs.List.{list_all}
+use Rattle.std.specs.Str.{bytes_eq}
+use Rattle.opa_words.specs.declared.kinds.TokenKind.{TokenKind}
+use Rattle.opa_words.specs.declared.kinds.TokenKind.TheVariants as kind
+use Rattle.opa_words.specs.Kinds.{quoted}
+use Rattle.opa_words.specs.Reserved.{is_word_kind, is_phrase_kind, joined}
+use Rattle.opa_pieces.specs.Pieces.{Piece, is_nothing, word, number, date, symbol, text}
+use Rattle.opa_script.specs.declared.points.Point.{Point}
+use Rattle.opa_script.specs.declared.verbs.Verb.{Verb}
+use Rattle.opa_script.specs.declared.verbs.Verb.TheVariants as verb
+
+-- the word with which a command begins
+abbrev pub verb_named : List ℕ → Option Verb
+verb_named w =
+    if bytes_eq w (codes "answer") then Some verb.Answer else
+    if bytes_eq w (codes "withdraw") then Some verb.Withdraw else
+    if bytes_eq w (codes "list") then Some verb.SetList else
+    if bytes_eq w (codes "forget") then Some verb.Forget else
+    if bytes_eq w (codes "show") then Some verb.Show else
+    if bytes_eq w (codes "goals") then Some verb.Goals else
+    if bytes_eq w (codes "next") then Some verb.Next else
+    if bytes_eq w (codes "screen") then Some verb.Screen else
+    if bytes_eq w (codes "report") then Some verb.Report else
+    if bytes_eq w (codes "save") then Some verb.Save else
+    if bytes_eq w (codes "load") then Some verb.Load else
+    if bytes_eq w (codes "stats") then Some verb.Stats else
+    if bytes_eq w (codes "dismiss") then Some verb.Dismiss else None
+
+abbrev pub verb_of : TokenKind → List ℕ → Option Verb
+verb_of kind.Word w = verb_named w
+verb_of k w = None
+
+-- the first token is a word with which this command begins, and these follow
+abbrev pub Begins : Verb → List Piece → List Piece → Type 0
+Begins v ps rest = (w : List ℕ) × (ps ≡ word w ∷ rest) × (verb_named w ≡ Some v)
+
+-- ---- points
+
+-- any Word followed by Words and Numbers
+abbrev pub are_words : List Piece → Bool
+are_words ps = list_all (λ p. is_phrase_kind p.kind) ps
+
+abbrev pub is_run : List Piece → Bool
+is_run [] = false
+is_run (p ∷ ps) = is_word_kind p.kind && are_words ps
+
+-- the phrase that such tokens are
+abbrev pub phrase_of : List Piece → List ℕ
+phrase_of ps = joined (map (λ p. p.text) ps)
+
+-- nothing, or `of` and a name between quotes
+abbrev pub name_part : Option (List ℕ) → List Piece
+name_part None = []
+name_part (Some n) = word (codes "of") ∷ text n ∷ []
+
+-- `PHRASE`, or `PHRASE of TEXT`
+abbrev pub SpellsPoint : Point → List Piece → Type 0
+SpellsPoint p ps = (ws : List Piece) × (is_run ws ≡ true) × (p.phrase ≡ phrase_of ws) × (ps ≡ ws ++ name_part p.name)
+
+-- a point, `=`, and tokens, at least one
+abbrev pub SpellsGiven : Point → List Piece → List Piece → Type 0
+SpellsGiven p after ps = (front : List Piece) × SpellsPoint p front × (ps ≡ front ++ symbol (codes "=") ∷ after) × (is_nothing after ≡ false)
+
+-- a point, `at` and a date
+abbrev pub SpellsDated : Point → List ℕ → List Piece → Type 0
+SpellsDated p t ps = (front : List Piece) × SpellsPoint p front × (ps ≡ front ++ word (codes "at") ∷ date t ∷ [])
+
+-- ---- shapes
+
+-- what stands behind the word of a command has the shape that this command asks for
+abbrev pub HasShape : Verb → List Piece → Type 0
+HasShape verb.Answer ps = (p : Point) × (after : List Piece) × SpellsGiven p after ps
+HasShape verb.Withdraw ps = (p : Point) × SpellsPoint p ps
+HasShape verb.SetList ps = (p : Point) × (after : List Piece) × SpellsGiven p after ps
+HasShape verb.Forget ps = (p : Point) × SpellsPoint p ps
+HasShape verb.Show ps = (p : Point) × SpellsPoint p ps
+HasShape verb.Report ps = (p : Point) × (t : List ℕ) × SpellsDated p t ps
+HasShape verb.Save ps = (t : List ℕ) × (ps ≡ text t ∷ [])
+HasShape verb.Load ps = (t : List ℕ) × (ps ≡ text t ∷ [])
+HasShape verb.Dismiss ps = (t : List ℕ) × (ps ≡ number t ∷ [])
+HasShape verb.Goals ps = ps ≡ []
+HasShape verb.Next ps = ps ≡ []
+HasShape verb.Screen ps = ps ≡ []
+HasShape verb.Stats ps = ps ≡ []
+
+-- ---- texts
+
+-- a text between quotes has at most 1,000 bytes
+abbrev pub IsShort : Piece → Type 0
+IsShort p = (t : List ℕ) → p ≡ text t → length t ≤ 1000
+
+abbrev pub AreShort : List Piece → Type 0
+AreShort [] = Unit {0}
+AreShort (p ∷ ps) = IsShort p × AreShort ps
+
+-- ---- on the way there
+
+-- these tokens end with a word and one more token
+abbrev pub EndsWith : List ℕ → TokenKind → List ℕ → List Piece → List Piece → Type 0
+EndsWith w k t front ps = ps ≡ front ++ word w ∷ record { kind = k; text = t } ∷ []
+
+-- the token is this word
+abbrev pub is_this_word : List ℕ → TokenKind → List ℕ → Bool
+is_this_word w kind.Word t = bytes_eq t w
+is_this_word w k t = false
+
+-- the token is `=`
+abbrev pub is_equals : TokenKind → List ℕ → Bool
+is_equals kind.Symbol t = bytes_eq t (codes "=")
+is_equals k t = false
+
+-- no `=` stands among the tokens
+abbrev pub has_no_equals : List Piece → Bool
+has_no_equals ps = list_all (λ p. not (is_equals p.kind p.text)) ps
+
+-- the tokens before and behind the first `=`
+abbrev pub IsAtEquals : List Piece → List Piece → List Piece → Type 0
+IsAtEquals front after ps = (ps ≡ front ++ symbol (codes "=") ∷ after) × (has_no_equals front ≡ true)
+
+-- these tokens are the point's phrase, and it has no name
+abbrev pub IsPlain : Point → List Piece → Type 0
+IsPlain p ps = (is_run ps ≡ true) × (p.phrase ≡ phrase_of ps) × (p.name ≡ None)
+
+-- these tokens are the point's phrase, and its name stands between these quotes
+abbrev pub IsNamed : Point → List ℕ → List Piece → Type 0
+IsNamed p t ps = (is_run ps ≡ true) × (p.phrase ≡ phrase_of ps) × ((n : List ℕ) × (p.name ≡ Some n) × (quoted n ≡ t))
+
+-- there isn't one token alone
+abbrev pub IsNotOne : List Piece → Type 0
+IsNotOne ps = (p : Piece) → ps ≡ p ∷ [] → ⊥

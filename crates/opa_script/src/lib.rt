@@ -1,0 +1,27 @@
+//! Commands and replies as they are read from a line, and the generator of example runs.
+#![tactic(auto)]
+
+mod changes;
+mod command;
+mod examples;
+mod fault;
+mod files;
+mod laws;
+mod lines;
+mod points;
+mod reading;
+mod replies;
+mod short;
+mod shows;
+mod targets;
+mod verbs;
+
+pub use command::Command;
+pub use examples::{Generated, generate};
+pub use fault::CmdFault;
+pub use laws::{one_command, refused_or_read};
+pub use reading::read_command;
+pub use replies::read_reply;
+
+#[cfg(test)]
+mod tests;
