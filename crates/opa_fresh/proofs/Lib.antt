@@ -1,0 +1,10 @@
+pub mod Adding
+pub mod Allowing
+pub mod Concluding
+pub mod Finishing
+pub mod Kinded
+pub mod Peopled
+pub mod Populated
+pub mod Ranking
+pub mod Rising
+pub mod Telling

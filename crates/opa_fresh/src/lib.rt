@@ -1,0 +1,16 @@
+//! The lines of all conclusions of a case, determined freshly.
+#![tactic(auto)]
+
+mod by_rank;
+mod daily;
+mod found;
+mod instances;
+mod laws;
+mod lines;
+mod told;
+
+pub use by_rank::determine;
+pub use instances::live_instances;
+pub use laws::exactly_the_live;
+pub use lines::Lines;
+pub use told::Fresh;
