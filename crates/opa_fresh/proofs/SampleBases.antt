@@ -1,5 +1,5 @@
 -- The rules of the tests are accepted.
-use Rattle.std.proofs.Common.{◌≡◌, ◌≢◌, ℕ, zero, suc, ◌+◌, ◌<◌, ◌≤◌, List, [], ◌∷◌, length, map, Bool, true, false, Option, Some, IsTrue, All, AllPairs, is_some, slice_get, refl, sym, ◌∙◌, ap, subst, arith}
+use Rattle.std.proofs.Common.{◌≡◌, ◌≢◌, ℕ, zero, suc, ◌+◌, ◌<◌, ◌≤◌, List, [], ◌∷◌, length, map, Bool, true, false, Some, IsTrue, All, is_some, slice_get, refl, sym, ◌∙◌, ap, subst, arith}
 use Rattle.std.specs.Prelude.{◌&&◌, slice_index_or}
 use Rattle.std.specs.Option.{option_map_or}
 use Rattle.std.proofs.lemmas.List.Elements.{All-nil, All-cons}
@@ -23,7 +23,6 @@ use Rattle.opa_tree.specs.Ranks.{AreRanks, AreRuled, rank_at, rank_by}
 use Rattle.opa_tree.specs.Rules.{rule_of}
 use Rattle.opa_tree.specs.Scopes.{Scope, encloses, is_reached, rule_is_reached}
 use Rattle.opa_tree.specs.Trees.{HasForm, IsShallow, highest}
-use Rattle.opa_tree.specs.declared.expr.Expr.{Expr}
 use Rattle.opa_tree.specs.declared.expr.Expr.TheOpen.{Not}
 use Rattle.opa_tree.specs.declared.expr.Expr.TheVariants as V
 use Rattle.opa_tree.specs.declared.rules.Rule.{Rule}
@@ -92,10 +91,10 @@ module _ (m : Lists) (is : IsSmall m) where
     reached = both (λ r. IsTrue (rule_is_reached m r)) reached_first reached_second;
     of_kinds = both (λ r. IsTrue (rule_has_kind m r)) kind_first kind_second;
     bools_by_if = both (λ r. IsTrue (concludes_bool m r))
-    (ap (λ o. option_map_or (λ (x : Attribute). is_kind kind.Bool x.kind) o false) at_first ∙ ap (λ (k : Kind). is_kind kind.Bool k) is.of_first.is_bool)
-    (ap (λ o. option_map_or (λ (x : Attribute). is_kind kind.Bool x.kind) o false) at_second ∙ ap (λ (k : Kind). is_kind kind.Bool k) is.of_second.is_bool);
+        (ap (λ o. option_map_or (λ (x : Attribute). is_kind kind.Bool x.kind) o false) at_first ∙ ap (λ (k : Kind). is_kind kind.Bool k) is.of_first.is_bool)
+        (ap (λ o. option_map_or (λ (x : Attribute). is_kind kind.Bool x.kind) o false) at_second ∙ ap (λ (k : Kind). is_kind kind.Bool k) is.of_second.is_bool);
     one_each = AllPairs-cons (λ r s. r.attr ≢ s.attr) first (second ∷ []) (All-cons (λ s. first.attr ≢ s.attr) second [] (λ same. let e : 0 ≡ 1 = ap (λ (a : AttrId). a.0) same in omega (arith, e)) (All-nil (λ s. first.attr ≢ s.attr)))
-    (AllPairs-cons (λ r s. r.attr ≢ s.attr) second [] (All-nil (λ s. second.attr ≢ s.attr)) (λ i j d lt within. absurd (omega arith)));
+        (AllPairs-cons (λ r s. r.attr ≢ s.attr) second [] (All-nil (λ s. second.attr ≢ s.attr)) (λ i j d lt within. absurd (omega arith)));
   })
     where
       few : (n : ℕ) → n < 2 → n < length m.attributes

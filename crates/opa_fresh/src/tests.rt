@@ -10,9 +10,7 @@ use super::{Fresh, Lines, determine, live_instances};
 use opa_case::{Case, InstanceId};
 use opa_io::{Boxed, List, NoMemory, Txt};
 use opa_mean::{Held, Plain};
-use opa_model::{
-    AttrId, Attribute, Entity, EntityId, Kind, Model, RelId, Ruled, Sentence, Verb,
-};
+use opa_model::{AttrId, Attribute, Entity, EntityId, Kind, Model, RelId, Ruled, Sentence, Verb};
 use opa_tree::{Expr, Ranks, Rule, Rulebase, Rules};
 use opa_value::Value;
 use std::alloc::Global;

@@ -3,8 +3,8 @@ use Rattle.opa_model.proofs.SampleModels.{apart_by, small_model, small_at}
 use Rattle.opa_model.specs.declared.lists.Lists.{Lists}
 use Rattle.opa_fresh.proofs.tests.small_model.Goals as goal
 
-pub from_lists-model-requires : goal.from_lists-model-requires
-from_lists-model-requires c =
+pub from_lists-requires : goal.from_lists-requires
+from_lists-requires c =
     let e = c.in_ok-global.field-0 in let a = c.in_ok-adult.adult in let b = c.in_ok-entitled.entitled in let v = c.in_ok-is.field-0 in
     let apart : a.phrase ≢ b.phrase = apart_by _ _ _ _ c.in_ok-adult.ensures.phrase c.in_ok-entitled.ensures.phrase refl in
     small_at e a b v _ _ _ _ _ _
