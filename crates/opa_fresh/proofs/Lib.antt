@@ -1,10 +1,12 @@
 pub mod Adding
 pub mod Allowing
 pub mod Concluding
+pub mod Differing
 pub mod Finishing
 pub mod Kinded
 pub mod Peopled
 pub mod Populated
 pub mod Ranking
 pub mod Rising
+pub mod SampleBases
 pub mod Telling

@@ -92,14 +92,19 @@ module _ (r : Rulebase) (c : CaseView) (is : IsOf r c) where
       ap (λ o. map (named e) (unwrap_or o []) ++ listed_by (stored c.lists) ((shape_of r.model).contained e) e cs) (agrees e j pos lt)
       ∙ ap (λ is. map (named e) (unwrap_or (list_of c ((shape_of r.model).contained e) j) []) ++ is) (listed_same e pos lt cs)
 
-  pub contained_members : (e : ℕ) → 0 < e → e < (shape_of r.model).count → members e c.live ≡ listed_by (list_of c) ((shape_of r.model).contained e) e (members ((shape_of r.model).parent e) c.live)
-  contained_members e pos lt =
+  pub stored_members : (e : ℕ) → 0 < e → e < (shape_of r.model).count → members e c.live ≡ listed_by (stored c.lists) ((shape_of r.model).contained e) e (members ((shape_of r.model).parent e) c.live)
+  stored_members e pos lt =
       let s = shape_of r.model in
-      ap (members e) is.fits.live ∙ members_listed s (stored c.lists) shape e pos lt ∙ listed_same e pos lt (members (s.parent e) (live_of s (stored c.lists)))
-      ∙ sym (ap (λ live. listed_by (list_of c) (s.contained e) e (members (s.parent e) live)) is.fits.live)
+      ap (members e) is.fits.live ∙ members_listed s (stored c.lists) shape e pos lt ∙ sym (ap (λ live. listed_by (stored c.lists) (s.contained e) e (members (s.parent e) live)) is.fits.live)
+
+  pub contained_members : (e : ℕ) → 0 < e → e < (shape_of r.model).count → members e c.live ≡ listed_by (list_of c) ((shape_of r.model).contained e) e (members ((shape_of r.model).parent e) c.live)
+  contained_members e pos lt = stored_members e pos lt ∙ listed_same e pos lt (members ((shape_of r.model).parent e) c.live)
 
   pub parent_before : (e : ℕ) → 0 < e → e < (shape_of r.model).count → (shape_of r.model).parent e < e
   parent_before e pos lt = shape.earlier e pos lt
+
+  pub contains_by : (e : ℕ) → 0 < e → e < (shape_of r.model).count → (shape_of r.model).contains ((shape_of r.model).contained e) ≡ true
+  contains_by e pos lt = shape.contains e pos lt
 
 pub exactly_the_live : ExactlyTheLive
 exactly_the_live r c is e i = (λ h. member_live r c is e i h, λ both. subst (λ k. Contains (members k c.live) i) both.1 (live_member r c is i both.0))

@@ -3,7 +3,7 @@ use Rattle.std.proofs.Common.{◌≡◌, ℕ, [], ◌∷◌, Bool, true, false, 
 use Rattle.std.specs.Prelude.{◌&&◌, ◌||◌, ◌==◌}
 use Rattle.std.specs.FinMap.{get}
 use Rattle.std.specs.Option.{option_copied}
-use Rattle.std.proofs.lemmas.Bool.{and_parts, eq-eqb}
+use Rattle.std.proofs.lemmas.Bool.{eq-eqb}
 use Rattle.opa_date.specs.declared.TheConstants.{DAYS}
 use Rattle.opa_line.specs.Lines.{at, IsLine, StandsFor}
 use Rattle.opa_model.specs.declared.ids.AttrId.{AttrId}
@@ -11,7 +11,6 @@ use Rattle.opa_cells.specs.declared.instance.InstanceId.{InstanceId}
 use Rattle.opa_case.specs.Cases.{CaseView, Answer}
 use Rattle.opa_case.specs.Live.{is_live}
 use Rattle.opa_case.specs.Shapes.{shape_of}
-use Rattle.opa_case.proofs.Lively.{or_left}
 use Rattle.opa_tree.specs.declared.rulebase.Rulebase.{Rulebase}
 use Rattle.opa_tree.specs.declared.rules.Rule.{Rule}
 use Rattle.opa_tree.specs.Rules.{rule_of}
@@ -42,11 +41,6 @@ line_tells (p ∷ l) form d = refl
 module _ (r : Rulebase) (c : CaseView) (is : IsOf r c) (lines : Table) (are : AreDetermined r c lines) (a : AttrId) (i : InstanceId) where
   abbrev placed : Bool
   placed = is_live c.live i && (i.entity.0 == owner_of (shape_of r.model) a)
-
-  pub found_has : (l : Answer) → get lines (a.0, i) ≡ Some l → has_line r c a i ≡ true
-  found_has l e =
-      let both = and_parts placed (is_some (rule_of r.rules a)) (sym (are.there a i) ∙ ap is_some e) in
-      ap (λ b. b && (is_some (rule_of r.rules a) || is_some (get c.answers (a.0, i)))) both.0 ∙ or_left (is_some (rule_of r.rules a)) (is_some (get c.answers (a.0, i))) both.1
 
   answer_placed : (l : Answer) → get c.answers (a.0, i) ≡ Some l → placed ≡ true
   answer_placed l e =

@@ -1,5 +1,5 @@
 -- The live instances, entity by entity.
-use Rattle.std.specs.Prelude.{◌≡◌, ◌<◌, ◌↔◌, ℕ, List, [], map, flat_map, length, unwrap_or, slice_index_or, Contains}
+use Rattle.std.specs.Prelude.{◌≡◌, ◌≢◌, ◌<◌, ◌↔◌, ℕ, List, [], map, flat_map, length, unwrap_or, slice_index_or, AllPairs, Contains}
 use Rattle.opa_model.specs.declared.ids.RelId.{RelId}
 use Rattle.opa_cells.specs.declared.instance.InstanceId.{InstanceId}
 use Rattle.opa_cells.specs.Instances.{named}
@@ -20,3 +20,7 @@ listed_by l r e containers = flat_map (λ c. map (named e) (unwrap_or (l r c) []
 -- The instances of an entity are the live ones of that entity.
 abbrev pub ExactlyTheLive : Type 0
 ExactlyTheLive = (r : Rulebase) (c : CaseView) → IsOf r c → (e : ℕ) (i : InstanceId) → Contains (members e c.live) i ↔ (IsLive c i × (i.entity.0 ≡ e))
+
+-- No instance stands twice among them.
+abbrev pub EachOnce : Type 0
+EachOnce = (r : Rulebase) (c : CaseView) → IsOf r c → (e : ℕ) → AllPairs (λ i j. i ≢ j) (members e c.live)

@@ -1,3 +1,4 @@
 pub mod Findings
 pub mod Instances
+pub mod Samples
 pub mod Slots

@@ -11,6 +11,9 @@ mod told;
 
 pub use by_rank::determine;
 pub use instances::live_instances;
-pub use laws::exactly_the_live;
+pub use laws::{each_once, exactly_the_live};
 pub use lines::Lines;
 pub use told::Fresh;
+
+#[cfg(test)]
+mod tests;
