@@ -7,14 +7,23 @@ use opa_rulebase::{LoadError, load_rulebase};
 use opa_tree::Rulebase;
 use std::alloc::Global;
 
+/// What is written of an accepted rulebase that has so many attributes and rules.
+fn counts_text(alloc: Global, attributes: u32, rules: usize) -> Result<Txt, NoMemory>
+    ensures { IfOk result (λ t. t ≡ text_of_accepted attributes rules) }
+{
+    let text = format!(in alloc; "accepted: {attributes} attributes, {rules} rules\n")?;
+    let told = Txt::from_str(alloc, text.as_str())?;
+    Ok(told)
+}
+
 /// What is written of an accepted rulebase.
 fn accepted_text(alloc: Global, base: &Rulebase) -> Result<Txt, NoMemory>
     ensures { IfOk result (λ t. t ≡ text_of_accepted (length base.now.model.attributes) (length base.now.rules)) }
 {
     let attributes = base.model.attribute_count();
     let rules = base.rules.as_slice().len();
-    let text = format!(in alloc; "accepted: {attributes} attributes, {rules} rules\n")?;
-    Txt::from_str(alloc, text.as_str())
+    let text = counts_text(alloc, attributes, rules)?;
+    Ok(text)
 }
 
 /// Writes a text, and answers how that ended.
