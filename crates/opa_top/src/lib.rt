@@ -3,6 +3,7 @@
 
 mod bytes;
 mod case;
+mod check;
 mod command;
 mod first;
 mod load;

@@ -221,3 +221,31 @@ fn limit(rt: HostRuntime) -> Result<(), Fail> {
     assert_eq!(rt; feeds(rt.alloc(), 67_108_865)?, Status::InputLimit);
     Ok(())
 }
+
+/// The status of a check of a text in place of b1, and what it wrote.
+fn check_text(alloc: Global, text: &str) -> Result<(Status, MemSink), Fail> {
+    let mut shelf = shelf_of(alloc, text, Vec::new(alloc))?;
+    let mut source = MemSource::new(Vec::new(alloc), Vec::new(alloc), 3);
+    let mut sink = MemSink::new(alloc, Vec::new(alloc), 5);
+    let words = vec![in alloc;
+        String::from_str(alloc, "opa")?,
+        String::from_str(alloc, "check")?,
+        String::from_str(alloc, "b1.txt")?,
+    ]?;
+    let status = run(alloc, &words, &mut shelf, &mut source, &mut sink);
+    Ok((status, sink))
+}
+
+#[test]
+fn checks(rt: HostRuntime) -> Result<(), Fail> {
+    let (status, sink) = check_text(rt.alloc(), B1)?;
+    assert_eq!(rt; status, Status::Done);
+    assert_eq!(rt;
+        sink.bytes(),
+        "accepted: 3 attributes, 1 rules\n".as_bytes()
+    );
+    let (status, sink) = check_text(rt.alloc(), "global\n  number x\nx = y\n")?;
+    assert_eq!(rt; status, Status::Refused);
+    assert_eq!(rt; sink.bytes(), "refused: rulebase 3 b1.txt:3\n".as_bytes());
+    Ok(())
+}

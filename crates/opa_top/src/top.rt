@@ -4,10 +4,12 @@ ghost use Rattle.std.specs.Option.{option_map};
 ghost use Rattle.opa_talk.specs.Halt.{IsCause};
 ghost use Rattle.opa_talk.specs.Transcript.{CutsAnywhere};
 ghost use Rattle.opa_top.specs.declared.first.rulebase.Rulebase.{Rulebase as Base};
+ghost use Rattle.opa_top.specs.Checking.{checked_of, Checks};
 ghost use Rattle.opa_top.specs.Parts.{IsSoundBase};
 ghost use Rattle.opa_top.specs.Reply.{replying};
 ghost use Rattle.opa_top.specs.Run.{Ends, TalksAll, TalksPart, end_of, said, words_of, mode_of, begins_with_dash, counts, SaysUsage, Wrote, WroteLines, HasStatusCause, Completes};
 
+use crate::check::check;
 use crate::first::Rulebase;
 use crate::load::LoadError;
 use crate::loading::load_rulebase;
@@ -43,6 +45,22 @@ fn mode_of(words: &[String]) -> Option<&str>
     }
 }
 
+/// The name of the main file, where the words are those of the mode `check`.
+fn checked_of(words: &[String]) -> Option<&str>
+    ensures { option_map (λ name. name.now) result ≡ checked_of (words_of words.now) }
+{
+    match words {
+        [_, mode, name] => {
+            if mode.as_str() == "check" && !begins_with_dash(name.as_str().as_bytes()) {
+                Some(name.as_str())
+            } else {
+                None
+            }
+        }
+        _ => None,
+    }
+}
+
 /// Does what the words of the command line say, and answers how it ended.
 pub fn run<S: Source, F: Shelf, K: Sink>(
     alloc: Global,
@@ -52,7 +70,11 @@ pub fn run<S: Source, F: Shelf, K: Sink>(
     out: &mut K,
 ) -> Status
     // Where the words are not those of a mode, the usage line is written and nothing is read.
-    ensures usage { IfNone (mode_of (words_of words.now)) (SaysUsage (S.left input.old) (S.left input.new) (K.written out.old) (K.written out.new) (counts F.take_faults S.faults K.faults shelf.old shelf.new input.old input.new out.old out.new) result) }
+    ensures usage { IfNone (mode_of (words_of words.now)) (IfNone (checked_of (words_of words.now)) (SaysUsage (S.left input.old) (S.left input.new) (K.written out.old) (K.written out.new) (counts F.take_faults S.faults K.faults shelf.old shelf.new input.old input.new out.old out.new) result)) }
+
+    // The mode `check` tells what the files open under the name, and reads nothing of the input.
+    ensures checked { IfSome (checked_of (words_of words.now)) (λ name. Checks (F.files shelf.old) name (K.written out.old) (K.written out.new) (F.take_faults shelf.old) (F.take_faults shelf.new) (K.faults out.old) (K.faults out.new) result) }
+    ensures unread { IfSome (checked_of (words_of words.now)) (λ _. S.left input.new ≡ S.left input.old) }
 
     // With Done and Refused the bytes written are the transcript of the input, and else a front of that of the bytes read.
     ensures wrote { IfSome (mode_of (words_of words.now)) (λ name. Wrote (F.files shelf.old) name (S.left input.old) (S.left input.new) (K.written out.old) (K.written out.new) result) }
@@ -74,7 +96,10 @@ pub fn run<S: Source, F: Shelf, K: Sink>(
 {
     match mode_of(words) {
         Some(name) => open_and_talk(alloc, name, shelf, input, out),
-        None => said(Status::Usage, write_all_of(out, USAGE)),
+        None => match checked_of(words) {
+            Some(name) => check(alloc, name, shelf, out),
+            None => said(Status::Usage, write_all_of(out, USAGE)),
+        },
     }
 }
 

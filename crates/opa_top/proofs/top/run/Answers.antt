@@ -18,5 +18,8 @@ returns-in-Some-clause-complete g c = rw (← c.in-Some.ensures) (Ends-complete 
 pub returns-in-Some-clause-parts : goal.returns-in-Some-clause-parts
 returns-in-Some-clause-parts g c = λ base. cuts_anywhere (replying base)
 
-pub returns-in-None-clause-parts : goal.returns-in-None-clause-parts
-returns-in-None-clause-parts g c = λ base. cuts_anywhere (replying base)
+pub returns-in-Some-checked_of-clause-parts : goal.returns-in-Some-checked_of-clause-parts
+returns-in-Some-checked_of-clause-parts g c = λ base. cuts_anywhere (replying base)
+
+pub returns-in-None-checked_of-clause-parts : goal.returns-in-None-checked_of-clause-parts
+returns-in-None-checked_of-clause-parts g c = λ base. cuts_anywhere (replying base)
