@@ -7,6 +7,6 @@ use Rattle.opa_fresh.proofs.tests.nothing_known.Goals as goal
 
 pub returns : goal.returns
 returns c = record {
-  is_model = c.entity_count.ensures.form;
-  fits = subst (λ (v : CaseView). Fits (shape_of c.args.base.now.model) c.args.base.now.ruled v) (sym c.new.ensures) (empty_fits c.args.base.now.model c.args.base.now.ruled c.entity_count.ensures.form);
+  is_model = c.entity_count-count.ensures.form;
+  fits = subst (λ (v : CaseView). Fits (shape_of c.args.base.now.model) c.args.base.now.ruled v) (sym c.new.ensures) (empty_fits c.args.base.now.model c.args.base.now.ruled c.entity_count-count.ensures.form);
 }
