@@ -1,4 +1,4 @@
-use Rattle.std.proofs.Common.{◌≡◌, ◌≢◌, ◌∙◌, ◌++◌, ◌∷◌, [], ap, refl}
+use Rattle.std.proofs.Common.{◌≢◌, ◌∙◌, ◌++◌, ◌∷◌, [], ap, refl}
 use Rattle.opa_model.proofs.SampleModels.{apart_by, small_model, small_at}
 use Rattle.opa_model.specs.declared.lists.Lists.{Lists}
 use Rattle.opa_fresh.proofs.tests.small_model.Goals as goal
