@@ -1,0 +1,19 @@
+-- Laws of written lines.
+use Rattle.std.specs.Prelude.{◌≡◌, ℕ, ◌*◌, Bool, true, false, List, [], ◌++◌}
+use Rattle.opa_model.specs.declared.lists.Lists.{Lists}
+use Rattle.opa_tree.specs.declared.expr.Expr.{Expr}
+use Rattle.opa_tree.specs.Trees.{depth}
+use Rattle.opa_sentence.specs.declared.names.Names.{Names}
+use Rattle.opa_sentence.specs.Lexemes.{Lexeme}
+use Rattle.opa_sentence.specs.Grammar.{FACTOR, LINE}
+use Rattle.opa_wording.specs.Wordings.{wording}
+use Rattle.opa_wording.specs.Grammatical.{IsGrammatical}
+use Rattle.opa_wording.specs.Told.{all_told, ends, SpellsTree, PhrasesAreRead}
+
+-- Where declared phrases are read, the line that a tree is written as spells exactly that tree, nested at most twice as deep as the tree.
+abbrev pub LinesSpellTrees : Type 0
+LinesSpellTrees = (m : Lists) (ns : Names) → PhrasesAreRead m ns → (e : Expr) → IsGrammatical m e → SpellsTree ns LINE (all_told ((wording m e).as_line false)) e [] (2 * depth e)
+
+-- and as a factor, wherever it ends
+abbrev pub FactorsSpellTrees : Type 0
+FactorsSpellTrees = (m : Lists) (ns : Names) → PhrasesAreRead m ns → (e : Expr) → IsGrammatical m e → (s : Bool) (rest : List Lexeme) → ends rest ≡ true → SpellsTree ns FACTOR (all_told ((wording m e).as_factor s) ++ rest) e rest (2 * depth e)

@@ -1,0 +1,6 @@
+pub mod Signs
+pub mod Wordings
+pub mod Grammatical
+pub mod Lines
+pub mod Told
+pub mod Laws
