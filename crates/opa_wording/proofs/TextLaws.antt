@@ -1,6 +1,6 @@
 -- The texts of literals, phrases and parts.
 use Rattle.std.proofs.Common.{◌≡◌, ℕ, ℤ, pos, negsuc, suc, List, [], ◌∷◌, ◌++◌, length, take, get_or, map, Bool, true, false, cond, refl, sym, ap, subst, ◌∙◌, arith, append_assoc, append-nil, decimal}
-use Rattle.std.specs.Prelude.{codes, ◌==◌, ◌&&◌}
+use Rattle.std.specs.Prelude.{codes, ◌==◌, ◌&&◌, ◌<◌, ◌+◌}
 use Rattle.std.specs.Char.{is_ascii_digit}
 use Rattle.std.proofs.lemmas.List.{take_more}
 use Rattle.opa_value.specs.declared.value.Value.{Value}
@@ -100,3 +100,28 @@ pub then_joined : (before one two : List ℕ) (ws vs : List Written) → one ≡
 then_joined before one two ws vs a b = b ∙ ap (λ t. t ++ text_of vs) a ∙ append_assoc before (text_of ws) (text_of vs) ∙ ap (λ t. before ++ t) (sym (text_append ws vs))
 
 pub ruleset steps = (then_ended, then_more, then_joined)
+
+map_last : {A B : Type 0} (f : A → B) (ys : List A) (x : A) → map f (ys ++ x ∷ []) ≡ map f ys ++ f x ∷ []
+map_last f [] x = refl
+map_last f (y ∷ ys) x = ap (λ zs. f y ∷ zs) (map_last f ys x)
+
+mapped_more : {A B : Type 0} (f : A → B) (xs : List A) (i : ℕ) (x : A) → i < length xs → x ≡ get_or xs i x → map f (take (i + 1) xs) ≡ map f (take i xs) ++ f x ∷ []
+mapped_more f xs i x within is = ap (map f) (take_more xs i x within) ∙ map_last f (take i xs) (get_or xs i x) ∙ ap (λ y. map f (take i xs) ++ f y ∷ []) (sym is)
+
+some_last : {A : Type 0} (ys : List A) (x : A) → is_nil (ys ++ x ∷ []) ≡ false
+some_last [] x = refl
+some_last (y ∷ ys) x = refl
+
+pub one_part_more : {A : Type 0} (f : A → Wording) (j : Joint) (s b : Bool) (xs : List A) (i : ℕ) (x : A) (start old new : List ℕ) (first : Bool) → i < length xs → x ≡ get_or xs i x → old ≡ start ++ text_of (together j s b (map f (take i xs)))
+    → first ≡ (b && is_nil (map f (take i xs))) → new ≡ old ++ text_of (part j s first (f x)) → new ≡ start ++ text_of (together j s b (map f (take (i + 1) xs)))
+one_part_more f j s b xs i x start old new first within is before which after =
+    after ∙ ap (λ t. t ++ text_of (part j s first (f x))) before ∙ append_assoc start (text_of (together j s b (map f (take i xs)))) (text_of (part j s first (f x)))
+    ∙ ap (λ c. start ++ (text_of (together j s b (map f (take i xs))) ++ text_of (part j s c (f x)))) which
+    ∙ ap (λ t. start ++ t) (sym (together_last j s b (map f (take i xs)) (f x)) ∙ ap (λ ws. text_of (together j s b ws)) (sym (mapped_more f xs i x within is)))
+
+pub not_first_after : {A : Type 0} (f : A → Wording) (b : Bool) (xs : List A) (i : ℕ) (x : A) → i < length xs → x ≡ get_or xs i x → false ≡ (b && is_nil (map f (take (i + 1) xs)))
+not_first_after f b xs i x within is = sym (ap (λ c. b && c) (ap is_nil (mapped_more f xs i x within is) ∙ some_last (map f (take i xs)) (f x)) ∙ none b)
+  where
+    none : (b : Bool) → (b && false) ≡ false
+    none true = refl
+    none false = refl
