@@ -63,7 +63,7 @@ module _ (ns : Names) where
   gathered_are (x ∷ xs) [] n h p before a = absurd h
   gathered_are (x ∷ xs) (e ∷ es) n h p before a =
       subst (λ fs. AreParts ns (says.gathered unbounded (says.with_part unbounded p x) xs) fs n) (append_assoc before (e ∷ []) es)
-        (gathered_are xs es n h.2 (says.with_part unbounded p x) (before ++ e ∷ []) (one_more_part ns p before x e n a h.0 h.1))
+      (gathered_are xs es n h.2 (says.with_part unbounded p x) (before ++ e ∷ []) (one_more_part ns p before x e n a h.0 h.1))
 
   lines_are : (rs : List Reading) (es : List Expr) (n : ℕ) → AreLines rs es n → AreParts ns (says.lines unbounded rs) es n
   lines_are rs es n h = gathered_are rs es n h (says.no_parts unbounded) [] (no_parts ns n)
@@ -117,8 +117,8 @@ module _ (ns : Names) where
         rs = line.reading ∷ more.rs;
         are = (line.tree_is, line.nested, more.are);
         spelled = subst (λ us. Spells unbounded ns FACTOR us (says.call_of unbounded ns.members f (args relation.Unnamed None (line.reading ∷ more.rs))) rest)
-          (sym (ap (λ us. told (token s p) ∷ us) (told_brackets false (together between.Comma false true (w ∷ ws)) rest ∙ ap (λ us. opening false ∷ us) (told_append (w.as_line false) (together between.Comma false false ws) (closing ∷ rest)))))
-          (g.Spells.call f is refl more.spelled refl);
+            (sym (ap (λ us. told (token s p) ∷ us) (told_brackets false (together between.Comma false true (w ∷ ws)) rest ∙ ap (λ us. opening false ∷ us) (told_append (w.as_line false) (together between.Comma false false ws) (closing ∷ rest)))))
+            (g.Spells.call f is refl more.spelled refl);
       }
     where
       comma_ends : (vs : List Wording) → ends (all_told (together between.Comma false false vs) ++ (closing ∷ rest)) ≡ true
@@ -134,8 +134,8 @@ module _ (ns : Names) where
         rs = more.rs;
         are = more.are;
         spelled = subst (λ us. Spells unbounded ns FACTOR us (says.call_of unbounded ns.members f (args r o more.rs)) rest)
-          (sym (ap (λ us. told (token s p) ∷ us) (told_brackets false (first ++ together between.Comma true false ws) rest ∙ ap (λ us. opening false ∷ us) (told_append first (together between.Comma true false ws) (closing ∷ rest)))))
-          (g.Spells.call f is refl more.spelled refl);
+            (sym (ap (λ us. told (token s p) ∷ us) (told_brackets false (first ++ together between.Comma true false ws) rest ∙ ap (λ us. opening false ∷ us) (told_append first (together between.Comma true false ws) (closing ∷ rest)))))
+            (g.Spells.call f is refl more.spelled refl);
       }
 
   -- ---- what calls say

@@ -44,7 +44,7 @@ kept_is n h = ap (λ b. cond b (Some n) None) (le_true (unsigned_abs n) most h)
 negative_read : (n : ℕ) → InRange (negsuc n) → negative_in (plain_text (pos (suc n))) ≡ Some (negsuc n)
 negative_read n h = ap (option_and_then (λ z. kept (neg_ℤ z))) (number_read (suc n) h) ∙ kept_is (negsuc n) h
 
-lt_true : (m n : ℕ) → m < n → nat_lt m n ≡ true
+pub lt_true : (m n : ℕ) → m < n → nat_lt m n ≡ true
 lt_true m n h = grind (arith, h)
 
 day_read : (d : ℕ) → d < DAYS → day_in (date_text d) ≡ Some d

@@ -6,3 +6,7 @@ pub mod TreesSpelled
 pub mod TextLaws
 pub mod LawsHold
 pub mod FactorTexts
+pub mod TreesWritten
+pub mod Numbers
+pub mod TreesWell
+pub mod RuleTexts

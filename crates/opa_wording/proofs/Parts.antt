@@ -155,8 +155,8 @@ module _ (ns : Names) where
       → Says LINE (all_told (together (between.Sign k) s true (v ∷ w ∷ [])) ++ rest) (V.Op k (a ∷ b ∷ [])) rest n
   infix_line k h v w a b n x y s rest p =
       subst (λ ts. Says LINE ts (V.Op k (a ∷ b ∷ [])) rest n)
-        (sym (told_append (v.as_factor s) (part (between.Sign k) s false w ++ []) rest ∙ ap (λ ts. all_told (v.as_factor s) ++ (sign k ∷ ts)) (told_append (w.as_factor true) [] rest)))
-        (two_operands k h (x.factor s (sign k ∷ (all_told (w.as_factor true) ++ rest)) (sign_ends k (all_told (w.as_factor true) ++ rest) h)) (y.factor true rest p))
+      (sym (told_append (v.as_factor s) (part (between.Sign k) s false w ++ []) rest ∙ ap (λ ts. all_told (v.as_factor s) ++ (sign k ∷ ts)) (told_append (w.as_factor true) [] rest)))
+      (two_operands k h (x.factor s (sign k ∷ (all_told (w.as_factor true) ++ rest)) (sign_ends k (all_told (w.as_factor true) ++ rest) h)) (y.factor true rest p))
 
   -- lines in brackets, with a word before each
   abbrev pub word_joint : Bool → Joint
@@ -202,13 +202,13 @@ module _ (ns : Names) where
       let d = placed_line true false w e n xs.0 later in
       let more = more_words true v ws f es n xs.1.0 xs.1.1 (says.one_part unbounded d.reading) (e ∷ []) (one_more_part (says.no_parts unbounded) [] d.reading e (1 + n) (no_parts (1 + n)) d.tree_is d.nested) false rest in
       subst (λ ts. Says FACTOR ts (V.All (e ∷ f ∷ es)) rest (2 + n))
-        (sym (told_brackets s (together between.And false true (w ∷ v ∷ ws)) rest ∙ ap (λ ts. opening s ∷ ts) (told_append (placed between.And false w) (together between.And false false (v ∷ ws)) (closing ∷ rest))))
-        (record {
-          reading = says.nested unbounded (says.all unbounded more.parts);
-          spelled = g.Spells.all refl d.spelled more.spelled refl;
-          tree_is = ap (option_map (λ fs. V.All fs)) more.are.trees_are;
-          nested = omega (arith, more.are.nested);
-        })
+      (sym (told_brackets s (together between.And false true (w ∷ v ∷ ws)) rest ∙ ap (λ ts. opening s ∷ ts) (told_append (placed between.And false w) (together between.And false false (v ∷ ws)) (closing ∷ rest))))
+      (record {
+        reading = says.nested unbounded (says.all unbounded more.parts);
+        spelled = g.Spells.all refl d.spelled more.spelled refl;
+        tree_is = ap (option_map (λ fs. V.All fs)) more.are.trees_are;
+        nested = omega (arith, more.are.nested);
+      })
 
   joined_any : (ws : List Wording) (es : List Expr) (n : ℕ) → AreSpelled ws es n → 2 ≤ length es → (s : Bool) (rest : List Lexeme) → Says FACTOR (all_told (in_brackets between.Or s ws) ++ rest) (V.Any es) rest (2 + n)
   joined_any [] [] n xs h s rest = absurd (omega (arith, h))
@@ -222,13 +222,13 @@ module _ (ns : Names) where
       let d = placed_line false false w e n xs.0 later in
       let more = more_words false v ws f es n xs.1.0 xs.1.1 (says.one_part unbounded d.reading) (e ∷ []) (one_more_part (says.no_parts unbounded) [] d.reading e (1 + n) (no_parts (1 + n)) d.tree_is d.nested) false rest in
       subst (λ ts. Says FACTOR ts (V.Any (e ∷ f ∷ es)) rest (2 + n))
-        (sym (told_brackets s (together between.Or false true (w ∷ v ∷ ws)) rest ∙ ap (λ ts. opening s ∷ ts) (told_append (placed between.Or false w) (together between.Or false false (v ∷ ws)) (closing ∷ rest))))
-        (record {
-          reading = says.nested unbounded (says.any unbounded more.parts);
-          spelled = g.Spells.any refl d.spelled more.spelled refl;
-          tree_is = ap (option_map (λ fs. V.Any fs)) more.are.trees_are;
-          nested = omega (arith, more.are.nested);
-        })
+      (sym (told_brackets s (together between.Or false true (w ∷ v ∷ ws)) rest ∙ ap (λ ts. opening s ∷ ts) (told_append (placed between.Or false w) (together between.Or false false (v ∷ ws)) (closing ∷ rest))))
+      (record {
+        reading = says.nested unbounded (says.any unbounded more.parts);
+        spelled = g.Spells.any refl d.spelled more.spelled refl;
+        tree_is = ap (option_map (λ fs. V.Any fs)) more.are.trees_are;
+        nested = omega (arith, more.are.nested);
+      })
 
   pub all_spelled : (ws : List Wording) (es : List Expr) (n : ℕ) → AreSpelled ws es n → 2 ≤ length es → IsSpelled (alike (λ s. in_brackets between.And s ws)) (V.All es) (2 + n)
   all_spelled ws es n xs h = alike_spelled (λ s. in_brackets between.And s ws) (V.All es) (2 + n) (λ s rest p. joined_all ws es n xs h s rest)

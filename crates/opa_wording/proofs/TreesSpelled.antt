@@ -88,8 +88,8 @@ module _ (m : Lists) (ns : Names) (names : PhrasesAreRead m ns) where
   negation_level : (ws : List Wording) (es : List Expr) (n : ℕ) → length es ≡ 1 → AreSpelled ns ws es n → IsSpelled ns (alike (λ s. call s (symbol (codes "-")) ws)) (V.Op op.Neg es) (2 + n)
   negation_level (w ∷ []) (e ∷ []) n l xs = alike_spelled ns (λ s. call s (symbol (codes "-")) (w ∷ [])) (V.Op op.Neg (e ∷ [])) (2 + n) (λ s rest p.
       subst (λ ts. Says ns FACTOR ts (V.Op op.Neg (e ∷ [])) rest (2 + n))
-        (sym (ap (λ ts. told (token s (symbol (codes "-"))) ∷ ts) (told_brackets false (w.as_line false ++ []) rest ∙ ap (λ ts. opening false ∷ ts) (told_append (w.as_line false) [] (closing ∷ rest)))))
-        (negated ns s (xs.0.line false (closing ∷ rest) refl)))
+      (sym (ap (λ ts. told (token s (symbol (codes "-"))) ∷ ts) (told_brackets false (w.as_line false ++ []) rest ∙ ap (λ ts. opening false ∷ ts) (told_append (w.as_line false) [] (closing ∷ rest)))))
+      (negated ns s (xs.0.line false (closing ∷ rest) refl)))
   negation_level ws [] n l xs = absurd (cc l)
   negation_level ws (a ∷ b ∷ es) n l xs = absurd (cc l)
   negation_level [] (a ∷ []) n l xs = absurd xs
@@ -125,12 +125,12 @@ module _ (m : Lists) (ns : Names) (names : PhrasesAreRead m ns) where
   over_level q r has ws es n l xs = alike_spelled ns (λ s. token s (word (quant_text q)) ∷ bracketed false (listed m r ws)) (V.Over q r es) (1 + n) (λ s rest p.
       let after : List Lexeme = all_told (together between.Comma true false ws) ++ (closing ∷ rest) in
       over_called ns q r (after_called ns (function.Over q) (word (quant_text q)) (quant_class q) (phrase false (phrase_of_relation (relation_at m r))) (relation.Declared r) None ws es n xs (subst (λ c. TakesLines (function.Over q) 1 c) (sym l) (quant_takes q)) s rest
-        (g.SpellsArgument.as_relation refl (relation.Declared r, after) (names.relations r has false after (later_ends ns ws rest)))))
+      (g.SpellsArgument.as_relation refl (relation.Declared r, after) (names.relations r has false after (later_ends ns ws rest)))))
 
   rolling_level : (always : Bool) (k : ℕ) → k ≤ 36600 → (w : Wording) (e : Expr) (n : ℕ) → IsSpelled ns w e n → IsSpelled ns (alike (λ s. token s (word (rolling_text always)) ∷ bracketed false (over_days k w))) (V.Rolling always k e) (1 + n)
   rolling_level always k h w e n x = alike_spelled ns (λ s. token s (word (rolling_text always)) ∷ bracketed false (over_days k w)) (V.Rolling always k e) (1 + n) (λ s rest p.
       rolling_called ns always (pos (k * 10000)) k (whole_days k h) (after_called ns (function.Rolling always) (word (rolling_text always)) (rolling_class always) (joined (number (decimal k)) ∷ []) relation.Unnamed (Some (pos (k * 10000))) (w ∷ []) (e ∷ []) n (x, tt) (refl, refl) s rest
-        (g.SpellsArgument.as_number refl refl (pos (k * 10000)) (whole_read k h))))
+      (g.SpellsArgument.as_number refl refl (pos (k * 10000)) (whole_read k h))))
 
   rounded : (z : ℕ) {ts rest : List Lexeme} {e : Expr} {n : ℕ} (d : Says ns LINE ts e (told (joined (symbol (codes ","))) ∷ told (token true (number (plain_text (pos z)))) ∷ closing ∷ rest) n) → InRange (pos z) → (s : Bool)
       → Says ns FACTOR (told (token s (op_piece op.Round)) ∷ opening false ∷ ts) (V.Op op.Round (e ∷ V.Const (value.Num (pos z)) ∷ [])) rest (1 + n)
@@ -144,8 +144,8 @@ module _ (m : Lists) (ns : Names) (names : PhrasesAreRead m ns) where
   round_level : (z : ℕ) → InRange (pos z) → (w : Wording) (e : Expr) (n : ℕ) → IsSpelled ns w e n → IsSpelled ns (alike (λ s. call s (op_piece op.Round) (w ∷ alike (λ s. literal s (value.Num (pos z))) ∷ []))) (V.Op op.Round (e ∷ V.Const (value.Num (pos z)) ∷ [])) (1 + n)
   round_level z h w e n x = alike_spelled ns (λ s. call s (op_piece op.Round) (w ∷ alike (λ s. literal s (value.Num (pos z))) ∷ [])) (V.Op op.Round (e ∷ V.Const (value.Num (pos z)) ∷ [])) (1 + n) (λ s rest p.
       subst (λ ts. Says ns FACTOR (told (token s (op_piece op.Round)) ∷ ts) (V.Op op.Round (e ∷ V.Const (value.Num (pos z)) ∷ [])) rest (1 + n))
-        (sym (told_brackets false (together between.Comma false true (w ∷ alike (λ s. literal s (value.Num (pos z))) ∷ [])) rest ∙ ap (λ ts. opening false ∷ ts) (told_append (w.as_line false) (together between.Comma false false (alike (λ s. literal s (value.Num (pos z))) ∷ [])) (closing ∷ rest))))
-        (rounded z (x.line false (told (joined (symbol (codes ","))) ∷ told (token true (number (plain_text (pos z)))) ∷ closing ∷ rest) refl) h s))
+      (sym (told_brackets false (together between.Comma false true (w ∷ alike (λ s. literal s (value.Num (pos z))) ∷ [])) rest ∙ ap (λ ts. opening false ∷ ts) (told_append (w.as_line false) (together between.Comma false false (alike (λ s. literal s (value.Num (pos z))) ∷ [])) (closing ∷ rest))))
+      (rounded z (x.line false (told (joined (symbol (codes ","))) ∷ told (token true (number (plain_text (pos z)))) ∷ closing ∷ rest) refl) h s))
 
   window_level : (k : WinKind) (ws : List Wording) (es : List Expr) (n : ℕ) → length es ≡ window_arity k → AreSpelled ns ws es n → IsSpelled ns (alike (λ s. call s (word (window_text k)) ws)) (V.Window k es) (1 + n)
   window_level k (w ∷ ws) (e ∷ es) n l xs = alike_spelled ns (λ s. call s (word (window_text k)) (w ∷ ws)) (V.Window k (e ∷ es)) (1 + n) (λ s rest p.
@@ -211,9 +211,9 @@ module _ (m : Lists) (ns : Names) (names : PhrasesAreRead m ns) where
     tree_told (tree.IsGrammatical.round e z range h) =
         let n : ℕ = 2 * depth e in
         as_written (V.Op op.Round (e ∷ V.Const (value.Num (pos z)) ∷ [])) _ (1 + n)
-          (wording-Op m op.Round (e ∷ V.Const (value.Num (pos z)) ∷ []) ∙ ap (λ v. operation op.Round (wording m e ∷ v ∷ [])) (wording-Const m (value.Num (pos z))))
-          (round_bound (depth e) (depth (V.Op op.Round (e ∷ V.Const (value.Num (pos z)) ∷ []))) (depth (V.Const (value.Num (pos z)))) (depth-Op op.Round (e ∷ V.Const (value.Num (pos z)) ∷ [])))
-          (round_level z range (wording m e) e n (tree_told h))
+        (wording-Op m op.Round (e ∷ V.Const (value.Num (pos z)) ∷ []) ∙ ap (λ v. operation op.Round (wording m e ∷ v ∷ [])) (wording-Const m (value.Num (pos z))))
+        (round_bound (depth e) (depth (V.Op op.Round (e ∷ V.Const (value.Num (pos z)) ∷ []))) (depth (V.Const (value.Num (pos z)))) (depth-Op op.Round (e ∷ V.Const (value.Num (pos z)) ∷ [])))
+        (round_level z range (wording m e) e n (tree_told h))
     tree_told (tree.IsGrammatical.certain e h) =
         let n : ℕ = 2 * depth e in
         as_written (V.Certain e) _ (1 + n) (wording-Certain m e) (above_none n (depth e) (depth (V.Certain e)) (depth-Certain e) (same_bound n)) (certain_level (wording m e) e n (tree_told h))

@@ -1,5 +1,8 @@
 -- Laws of written lines.
 use Rattle.std.specs.Prelude.{◌≡◌, ℕ, ◌*◌, Bool, true, false, List, [], ◌++◌}
+use Rattle.std.specs.Str.{IsUtf8}
+use Rattle.opa_pieces.specs.Pieces.{IsCutInto}
+use Rattle.opa_pieces.specs.Written.{pieces_of}
 use Rattle.opa_model.specs.declared.lists.Lists.{Lists}
 use Rattle.opa_tree.specs.declared.expr.Expr.{Expr}
 use Rattle.opa_tree.specs.Trees.{depth}
@@ -8,7 +11,8 @@ use Rattle.opa_sentence.specs.Lexemes.{Lexeme}
 use Rattle.opa_sentence.specs.Grammar.{FACTOR, LINE}
 use Rattle.opa_wording.specs.Wordings.{wording}
 use Rattle.opa_wording.specs.Grammatical.{IsGrammatical}
-use Rattle.opa_wording.specs.Told.{all_told, ends, SpellsTree, PhrasesAreRead}
+use Rattle.opa_wording.specs.Told.{all_told, ends, SpellsTree, PhrasesAreRead, PhrasesAreWritten}
+use Rattle.opa_wording.specs.Lines.{line_text}
 
 -- Where declared phrases are read, the line that a tree is written as spells exactly that tree, nested at most twice as deep as the tree.
 abbrev pub LinesSpellTrees : Type 0
@@ -17,3 +21,7 @@ LinesSpellTrees = (m : Lists) (ns : Names) → PhrasesAreRead m ns → (e : Expr
 -- and as a factor, wherever it ends
 abbrev pub FactorsSpellTrees : Type 0
 FactorsSpellTrees = (m : Lists) (ns : Names) → PhrasesAreRead m ns → (e : Expr) → IsGrammatical m e → (s : Bool) (rest : List Lexeme) → ends rest ≡ true → SpellsTree ns FACTOR (all_told ((wording m e).as_factor s) ++ rest) e rest (2 * depth e)
+
+-- The text of a line is cut into the tokens that it is written as.
+abbrev pub LinesAreCut : Type 0
+LinesAreCut = (m : Lists) → PhrasesAreWritten m → (e : Expr) → IsGrammatical m e → IsUtf8 (line_text m e) × IsCutInto (line_text m e) (pieces_of ((wording m e).as_line false))

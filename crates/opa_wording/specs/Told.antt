@@ -6,7 +6,7 @@ use Rattle.opa_model.specs.declared.ids.RelId.{RelId}
 use Rattle.opa_model.specs.declared.lists.Lists.{Lists}
 use Rattle.opa_model.specs.Lookups.{attribute_at, relation_at}
 use Rattle.opa_model.specs.Models.{HasAttribute, HasRelation}
-use Rattle.opa_pieces.specs.Written.{Written}
+use Rattle.opa_pieces.specs.Written.{Written, AreWritten}
 use Rattle.opa_tree.specs.declared.expr.Expr.{Expr}
 use Rattle.opa_tree.specs.declared.expr.Expr.TheVariants as expr
 use Rattle.opa_sentence.specs.declared.class.Class.{Class}
@@ -59,3 +59,8 @@ pub record SpellsTree (ns : Names) (p : Part) (ts : List Lexeme) (e : Expr) (res
 pub record PhrasesAreRead (m : Lists) (ns : Names) : Type 0 where
   pub attributes : (a : AttrId) → HasAttribute m a → (s : Bool) (rest : List Lexeme) → ends rest ≡ true → SpellsTree ns FACTOR (all_told (phrase s (phrase_of_attribute (attribute_at m a))) ++ rest) (expr.Attr a) rest 0
   pub relations : (r : RelId) → HasRelation m r → (s : Bool) (rest : List Lexeme) → ends rest ≡ true → relation_in ns (all_told (phrase s (phrase_of_relation (relation_at m r))) ++ rest) ≡ Some (relation.Declared r, rest)
+
+-- Each declared phrase is written as tokens, each apart from the next.
+pub record PhrasesAreWritten (m : Lists) : Type 0 where
+  pub attributes : (a : AttrId) → HasAttribute m a → AreWritten (phrase false (phrase_of_attribute (attribute_at m a)))
+  pub relations : (r : RelId) → HasRelation m r → AreWritten (phrase false (phrase_of_relation (relation_at m r)))

@@ -1,5 +1,5 @@
 // What holds of written lines.
-ghost use Rattle.opa_wording.specs.Laws.{LinesSpellTrees, FactorsSpellTrees};
+ghost use Rattle.opa_wording.specs.Laws.{LinesSpellTrees, FactorsSpellTrees, LinesAreCut};
 
 /// Where declared phrases are read as what they are declared for, the line that a tree is written as spells exactly that
 /// tree by the grammar of a line, and its nesting is at most twice the depth of the tree.
@@ -7,4 +7,10 @@ ghost use Rattle.opa_wording.specs.Laws.{LinesSpellTrees, FactorsSpellTrees};
 pub fn lines_spell_trees()
     ensures lines { LinesSpellTrees }
     ensures factors { FactorsSpellTrees }
+{}
+
+/// Where declared phrases are written as tokens, the text of a line is UTF-8 and is cut into the tokens that it is written as.
+#[tactic(auto, using(crate::proofs::LawsHold::cuts))]
+pub fn lines_are_cut()
+    ensures { LinesAreCut }
 {}

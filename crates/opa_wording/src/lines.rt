@@ -16,7 +16,7 @@ use opa_model::{AttrId, Model, RelId};
 use opa_tree::{Expr, OpKind, Quant};
 use std::alloc::Global;
 
-fn attribute_phrase(model: &Model, attr: AttrId) -> &str
+pub fn attribute_phrase(model: &Model, attr: AttrId) -> &str
     ensures { result.now ≡ phrase_of_attribute (attribute_at model.now attr) }
 {
     if attr.0 < model.attribute_count() {
@@ -97,7 +97,14 @@ fn push_factor(
             push_over(alloc, out, model, *quant, *rel, is_spaced, parts.as_slice())
         }
         Expr::Window(kind, parts) => {
-            push_call(alloc, out, model, window_text(*kind), is_spaced, parts.as_slice())
+            push_call(
+                alloc,
+                out,
+                model,
+                window_text(*kind),
+                is_spaced,
+                parts.as_slice(),
+            )
         }
         Expr::Rolling(always, days, part) => {
             push_rolling(alloc, out, model, *always, *days, is_spaced, part.get())
