@@ -1,7 +1,5 @@
 -- Calls whose arguments are spelled as trees.
-use Rattle.std.proofs.Common.{◌≡◌, ◌≤◌, ℕ, zero, suc, ℤ, pos, ◌+◌, ◌*◌, max, List, [], ◌∷◌, ◌++◌, length, map, Bool, true, false, Option, Some, None, refl, sym, ap, subst, ◌∙◌, arith, append_assoc, append-nil, option_map}
-use Rattle.std.specs.Prelude.{codes}
-use Rattle.opa_value.specs.declared.value.Value.TheVariants as value
+use Rattle.std.proofs.Common.{◌≡◌, ◌≤◌, ℕ, zero, suc, ℤ, ◌+◌, List, [], ◌∷◌, ◌++◌, length, Bool, true, false, Option, Some, None, refl, sym, ap, subst, ◌∙◌, arith, append_assoc, append-nil, option_map}
 use Rattle.opa_model.specs.declared.ids.RelId.{RelId}
 use Rattle.opa_tree.specs.declared.kinds.OpKind.{OpKind}
 use Rattle.opa_tree.specs.declared.kinds.OpKind.TheVariants as op
@@ -12,9 +10,8 @@ use Rattle.opa_tree.specs.declared.kinds.WinKind.TheVariants as win
 use Rattle.opa_tree.specs.declared.expr.Expr.{Expr}
 use Rattle.opa_tree.specs.declared.expr.Expr.TheVariants as V
 use Rattle.opa_tree.specs.Trees.{op_arity, quant_arity, window_arity}
-use Rattle.opa_pieces.specs.Pieces.{Piece, symbol, word, number}
-use Rattle.opa_pieces.specs.Written.{Written, spaced, joined}
-use Rattle.opa_sentence.specs.declared.class.Class.{Class}
+use Rattle.opa_pieces.specs.Pieces.{Piece, word}
+use Rattle.opa_pieces.specs.Written.{Written}
 use Rattle.opa_sentence.specs.declared.class.Class.TheVariants as class
 use Rattle.opa_sentence.specs.declared.functions.Function.{Function}
 use Rattle.opa_sentence.specs.declared.functions.Function.TheVariants as function
@@ -27,19 +24,16 @@ use Rattle.opa_sentence.specs.declared.reading.Parts.{Parts}
 use Rattle.opa_sentence.specs.declared.reading.Arguments.{Arguments}
 use Rattle.opa_sentence.specs.Functions.{argument_at}
 use Rattle.opa_sentence.specs.Lexemes.{Lexeme, class_of}
-use Rattle.opa_sentence.specs.Literals.{number_in}
 use Rattle.opa_sentence.specs.Measures.{unbounded}
 use Rattle.opa_sentence.specs.Readings as says
-use Rattle.opa_sentence.specs.Table.{relation_at as relation_in}
 use Rattle.opa_sentence.specs.Grammar.{Part, LINE, OPERAND, TERM, FACTOR, Spells, SpellsArgument, SpellsArguments}
 use Rattle.opa_sentence.specs.Grammar as g
-use Rattle.opa_wording.specs.declared.joint.Joint.{Joint}
 use Rattle.opa_wording.specs.declared.joint.Joint.TheVariants as between
-use Rattle.opa_wording.specs.Signs.{is_infix, op_text, op_piece, quant_text, window_text, rolling_text}
-use Rattle.opa_wording.specs.Wordings.{Wording, token, bracketed, separator, placed, part, together, alike, in_brackets, call, call_after}
+use Rattle.opa_wording.specs.Signs.{is_infix, op_piece, quant_text, window_text, rolling_text}
+use Rattle.opa_wording.specs.Wordings.{Wording, token, together, call, call_after}
 use Rattle.opa_wording.specs.Grammatical.{is_round}
-use Rattle.opa_wording.specs.Told.{told, all_told, ends, SpellsTree}
-use Rattle.opa_wording.proofs.Parts.{told_append, told_brackets, opening, closing, Says, IsSpelled, AreSpelled, AreParts, no_parts, one_more_part, alike_spelled, weaker}
+use Rattle.opa_wording.specs.Told.{told, all_told, ends}
+use Rattle.opa_wording.proofs.Parts.{told_append, told_brackets, opening, closing, Says, IsSpelled, AreSpelled, AreParts, no_parts, one_more_part}
 
 -- so many lines are written from this place on, and nothing more
 abbrev pub TakesLines : Function → ℕ → ℕ → Type 0

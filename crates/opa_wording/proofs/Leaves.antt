@@ -1,22 +1,19 @@
 -- Literals that are spelled as what they are.
-use Rattle.std.proofs.Common.{◌≡◌, ◌≤◌, ◌<◌, ℕ, suc, ℤ, pos, negsuc, ◌+◌, ◌*◌, List, [], ◌∷◌, ◌++◌, Bool, true, false, cond, Option, Some, None, refl, sym, ap, subst, ◌∙◌, arith}
-use Rattle.std.specs.Prelude.{Ok, decimal, neg_ℤ, nat_le, nat_lt, ◌^◌, ◌/◌, ◌%◌, ◌==◌, codes, take, if◌then◌else◌}
+use Rattle.std.proofs.Common.{◌≡◌, ◌≤◌, ◌<◌, ℕ, suc, ℤ, pos, negsuc, ◌*◌, List, [], ◌∷◌, ◌++◌, Bool, true, false, cond, Some, None, refl, sym, ap, ◌∙◌, arith}
+use Rattle.std.specs.Prelude.{decimal, neg_ℤ, nat_le, nat_lt, ◌^◌, ◌/◌, ◌%◌, ◌==◌, take, if◌then◌else◌}
 use Rattle.std.specs.Int.RustNames.{unsigned_abs}
 use Rattle.std.specs.Option.{option_and_then}
 use Rattle.opa_value.specs.declared.value.Value.{Value}
 use Rattle.opa_value.specs.declared.value.Value.TheVariants as value
-use Rattle.opa_value.specs.Numbers.{InRange, kept, in_range, most}
-use Rattle.opa_value.specs.NumberText.{read_number, plain_text, number_text, decimals_needed, four_digits, behind_text, is_negative}
+use Rattle.opa_value.specs.Numbers.{InRange, kept, most}
+use Rattle.opa_value.specs.NumberText.{plain_text, number_text, decimals_needed, four_digits, behind_text}
 use Rattle.opa_value.proofs.ReadBack.{plain_back}
 use Rattle.opa_date.specs.declared.TheConstants.{DAYS}
-use Rattle.opa_date.specs.Texts.{day_text, read_day}
+use Rattle.opa_date.specs.Texts.{day_text}
 use Rattle.opa_date.proofs.ReadTexts.{texts_are_read}
 use Rattle.opa_model.specs.declared.things.Kind.TheVariants as kind
-use Rattle.opa_tree.specs.declared.expr.Expr.{Expr}
 use Rattle.opa_tree.specs.declared.expr.Expr.TheVariants as V
 use Rattle.opa_tree.specs.Trees.{is_literal}
-use Rattle.opa_pieces.specs.Written.{Written, joined}
-use Rattle.opa_pieces.specs.Pieces.{number}
 use Rattle.opa_sentence.specs.declared.names.Names.{Names}
 use Rattle.opa_sentence.specs.Lexemes.{Lexeme}
 use Rattle.opa_sentence.specs.Literals.{number_in, number_or_none, negative_in, day_in, day_or_none}
@@ -28,8 +25,8 @@ use Rattle.opa_sentence.specs.Quoted.{unquoted}
 use Rattle.opa_words.specs.Kinds.{quoted}
 use Rattle.opa_sentence.proofs.QuotedLaws.{reads_quoted_holds}
 use Rattle.opa_text.specs.Laws.{CanBeWritten}
-use Rattle.opa_wording.specs.Wordings.{literal, signed, alike, date_text}
-use Rattle.opa_wording.specs.Told.{told, all_told, ends, SpellsTree}
+use Rattle.opa_wording.specs.Wordings.{literal, alike, date_text}
+use Rattle.opa_wording.specs.Told.{all_told}
 use Rattle.opa_wording.proofs.Parts.{Says, IsSpelled, alike_spelled}
 
 pub number_read : (n : ℕ) → InRange (pos n) → number_in (plain_text (pos n)) ≡ Some (pos n)

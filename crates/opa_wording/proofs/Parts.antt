@@ -1,14 +1,12 @@
 -- Parts of a line that are spelled as trees, and what is made of them.
-use Rattle.std.proofs.Common.{◌≡◌, ◌≤◌, ℕ, ◌+◌, max, List, [], ◌∷◌, ◌++◌, length, map, Bool, true, false, Some, None, refl, sym, ap, ap₂, subst, ◌∙◌, arith, append_assoc, append-nil, option_map}
+use Rattle.std.proofs.Common.{◌≡◌, ◌≤◌, ℕ, ◌+◌, List, [], ◌∷◌, ◌++◌, length, Bool, true, false, Some, refl, sym, ap, ap₂, subst, ◌∙◌, arith, append_assoc, option_map}
 use Rattle.std.specs.Prelude.{codes}
 use Rattle.opa_tree.specs.declared.kinds.OpKind.{OpKind}
 use Rattle.opa_tree.specs.declared.kinds.OpKind.TheVariants as op
 use Rattle.opa_tree.specs.declared.expr.Expr.{Expr}
 use Rattle.opa_tree.specs.declared.expr.Expr.TheVariants as V
-use Rattle.opa_pieces.specs.Pieces.{Piece, symbol, word}
-use Rattle.opa_pieces.specs.Written.{Written, spaced, joined}
-use Rattle.opa_sentence.specs.declared.class.Class.{Class}
-use Rattle.opa_sentence.specs.declared.class.Class.TheVariants as class
+use Rattle.opa_pieces.specs.Pieces.{symbol, word}
+use Rattle.opa_pieces.specs.Written.{Written, joined}
 use Rattle.opa_sentence.specs.declared.names.Names.{Names}
 use Rattle.opa_sentence.specs.declared.reading.Reading.{Reading}
 use Rattle.opa_sentence.specs.declared.reading.Parts.{Parts}
@@ -19,7 +17,7 @@ use Rattle.opa_sentence.specs.Grammar.{Part, LINE, OPERAND, TERM, FACTOR, Begins
 use Rattle.opa_sentence.specs.Grammar as g
 use Rattle.opa_wording.specs.declared.joint.Joint.{Joint}
 use Rattle.opa_wording.specs.declared.joint.Joint.TheVariants as between
-use Rattle.opa_wording.specs.Signs.{is_infix, op_text}
+use Rattle.opa_wording.specs.Signs.{is_infix}
 use Rattle.opa_wording.specs.Wordings.{Wording, token, bracketed, separator, placed, part, together, alike, apart, in_brackets}
 use Rattle.opa_wording.specs.Told.{told, all_told, ends, SpellsTree}
 

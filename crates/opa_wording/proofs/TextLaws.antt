@@ -1,16 +1,13 @@
 -- The texts of literals, phrases and parts.
-use Rattle.std.proofs.Common.{◌≡◌, ℕ, ℤ, pos, negsuc, suc, List, [], ◌∷◌, ◌++◌, length, take, get_or, map, Bool, true, false, cond, refl, sym, ap, subst, ◌∙◌, arith, append_assoc, append-nil, decimal}
+use Rattle.std.proofs.Common.{◌≡◌, ℕ, ℤ, pos, negsuc, suc, List, [], ◌∷◌, ◌++◌, length, take, get_or, map, Bool, true, false, cond, refl, sym, ap, ◌∙◌, arith, append_assoc, append-nil}
 use Rattle.std.specs.Prelude.{codes, ◌==◌, ◌&&◌, ◌<◌, ◌+◌}
 use Rattle.std.specs.Char.{is_ascii_digit}
 use Rattle.std.proofs.lemmas.List.{take_more}
 use Rattle.opa_value.specs.declared.value.Value.{Value}
 use Rattle.opa_value.specs.declared.value.Value.TheVariants as value
-use Rattle.opa_value.specs.NumberText.{plain_text, number_text, is_negative}
-use Rattle.opa_date.specs.Texts.{day_text}
-use Rattle.opa_model.specs.declared.things.Kind.TheVariants as kind
+use Rattle.opa_value.specs.NumberText.{plain_text, number_text}
 use Rattle.opa_pieces.specs.Pieces.{Piece, word, number, symbol}
 use Rattle.opa_pieces.specs.Written.{Written, gap, text_of, joined}
-use Rattle.opa_text.specs.Texts.{value_text}
 use Rattle.opa_wording.specs.declared.joint.Joint.{Joint}
 use Rattle.opa_wording.specs.Wordings.{Wording, token, bracketed, part, together, literal, phrase, phrase_word, words_from}
 use Rattle.opa_wording.specs.Lines.{literal_text}

@@ -1,14 +1,13 @@
 -- What a tree is written as spells that tree.
-use Rattle.std.proofs.Common.{◌≡◌, ◌≤◌, ℕ, suc, ℤ, pos, ◌+◌, ◌*◌, max, List, [], ◌∷◌, ◌++◌, length, map, Bool, true, false, Option, Some, None, refl, sym, ap, subst, ◌∙◌, arith, option_map}
+use Rattle.std.proofs.Common.{◌≡◌, ◌≤◌, ℕ, pos, ◌+◌, ◌*◌, max, List, [], ◌∷◌, ◌++◌, length, map, Bool, true, false, Some, None, refl, sym, ap, subst, ◌∙◌, arith, option_map}
 use Rattle.std.specs.Prelude.{codes, decimal, if◌then◌else◌}
 use Rattle.opa_value.specs.declared.value.Value.TheVariants as value
 use Rattle.opa_value.specs.Numbers.{InRange}
 use Rattle.opa_value.specs.NumberText.{plain_text}
-use Rattle.opa_model.specs.declared.ids.AttrId.{AttrId}
 use Rattle.opa_model.specs.declared.ids.RelId.{RelId}
 use Rattle.opa_model.specs.declared.lists.Lists.{Lists}
 use Rattle.opa_model.specs.Lookups.{attribute_at, relation_at}
-use Rattle.opa_model.specs.Models.{HasAttribute, HasRelation}
+use Rattle.opa_model.specs.Models.{HasRelation}
 use Rattle.opa_tree.specs.declared.kinds.OpKind.{OpKind}
 use Rattle.opa_tree.specs.declared.kinds.OpKind.TheVariants as op
 use Rattle.opa_tree.specs.declared.kinds.Quant.{Quant}
@@ -17,28 +16,27 @@ use Rattle.opa_tree.specs.declared.kinds.WinKind.TheVariants as win
 use Rattle.opa_tree.specs.declared.expr.Expr.{Expr}
 use Rattle.opa_tree.specs.declared.expr.Expr.TheVariants as V
 use Rattle.opa_tree.specs.Trees.{op_arity, quant_arity, window_arity, depth, highest}
-use Rattle.opa_tree.proofs.DepthLaws.{depth-Const, depth-Attr, depth-All, depth-Any, depth-Not, depth-Op, depth-Certain, depth-Known, depth-Over, depth-Window, depth-Rolling}
+use Rattle.opa_tree.proofs.DepthLaws.{depth-All, depth-Any, depth-Not, depth-Op, depth-Certain, depth-Known, depth-Over, depth-Window, depth-Rolling}
 use Rattle.opa_pieces.specs.Pieces.{symbol, word, number}
-use Rattle.opa_pieces.specs.Written.{Written, joined}
-use Rattle.opa_sentence.specs.declared.class.Class.TheVariants as class
+use Rattle.opa_pieces.specs.Written.{joined}
 use Rattle.opa_sentence.specs.declared.functions.Function.TheVariants as function
 use Rattle.opa_sentence.specs.declared.names.Names.{Names}
 use Rattle.opa_sentence.specs.declared.names.Relation.TheVariants as relation
-use Rattle.opa_sentence.specs.Lexemes.{Lexeme, class_of}
+use Rattle.opa_sentence.specs.Lexemes.{Lexeme}
 use Rattle.opa_sentence.specs.Measures.{unbounded}
 use Rattle.opa_sentence.specs.Readings as says
 use Rattle.opa_sentence.specs.Grammar.{FACTOR, LINE, Spells}
 use Rattle.opa_sentence.specs.Grammar as g
 use Rattle.opa_wording.specs.declared.joint.Joint.TheVariants as between
-use Rattle.opa_wording.specs.Signs.{is_infix, op_text, op_piece, quant_text, window_text, rolling_text}
+use Rattle.opa_wording.specs.Signs.{is_infix, op_piece, quant_text, window_text, rolling_text}
 use Rattle.opa_wording.specs.Wordings.{Wording, token, phrase, phrase_of_attribute, phrase_of_relation, literal, bracketed, together, alike, apart, operation, call, listed, over_days, wording}
 use Rattle.opa_wording.specs.Grammatical.{is_round, IsGrammatical, AreGrammatical}
 use Rattle.opa_wording.specs.Grammatical as tree
-use Rattle.opa_wording.specs.Told.{told, all_told, ends, SpellsTree, PhrasesAreRead}
+use Rattle.opa_wording.specs.Told.{told, all_told, SpellsTree, PhrasesAreRead}
 use Rattle.opa_wording.specs.Laws.{LinesSpellTrees, FactorsSpellTrees}
 use Rattle.opa_wording.proofs.WordingLaws.{wording-Const, wording-Attr, wording-All, wording-Any, wording-Not, wording-Op, wording-Certain, wording-Known, wording-Over, wording-Window, wording-Rolling}
-use Rattle.opa_wording.proofs.Parts.{told_append, told_brackets, opening, closing, Says, IsSpelled, AreSpelled, alike_spelled, apart_spelled, as_line, in_one, denied, negated, weaker, infix_line, all_spelled, any_spelled}
-use Rattle.opa_wording.proofs.Calls.{TakesLines, SaysCall, later_ends, lines_called, after_called, op_called, over_called, window_called, certain_called, known_called, rolling_called, op_takes, quant_takes, window_takes, op_class, quant_class, window_class, rolling_class}
+use Rattle.opa_wording.proofs.Parts.{told_append, told_brackets, opening, closing, Says, IsSpelled, AreSpelled, alike_spelled, apart_spelled, denied, negated, weaker, infix_line, all_spelled, any_spelled}
+use Rattle.opa_wording.proofs.Calls.{TakesLines, later_ends, lines_called, after_called, op_called, over_called, window_called, certain_called, known_called, rolling_called, op_takes, quant_takes, window_takes, op_class, quant_class, window_class, rolling_class}
 use Rattle.opa_wording.proofs.Leaves.{literal_spelled, number_read, whole_read, whole_days}
 
 module _ (m : Lists) (ns : Names) (names : PhrasesAreRead m ns) where

@@ -1,7 +1,6 @@
 -- The line of a tree is cut into the tokens that it is written as.
-use Rattle.std.proofs.Common.{◌≡◌, ◌≤◌, ◌<◌, ℕ, suc, ℤ, pos, negsuc, List, [], ◌∷◌, ◌++◌, length, map, Bool, true, false, cond, refl, sym, ap, subst, ◌∙◌, arith, append_assoc, append-nil, decimal}
-use Rattle.std.specs.Prelude.{codes, ◌||◌, ◌==◌, nat_lt, if◌then◌else◌}
-use Rattle.std.specs.Str.{chars}
+use Rattle.std.proofs.Common.{◌≡◌, ◌≤◌, ℕ, suc, pos, negsuc, List, [], ◌∷◌, ◌++◌, length, map, Bool, true, false, cond, refl, sym, ap, subst, ◌∙◌, append_assoc, append-nil, decimal}
+use Rattle.std.specs.Prelude.{codes, ◌==◌, if◌then◌else◌}
 use Rattle.opa_value.specs.declared.value.Value.{Value}
 use Rattle.opa_value.specs.declared.value.Value.TheVariants as value
 use Rattle.opa_value.specs.NumberText.{plain_text}
@@ -10,8 +9,8 @@ use Rattle.opa_date.specs.Texts.{day_text}
 use Rattle.opa_model.specs.declared.lists.Lists.{Lists}
 use Rattle.opa_model.specs.Lookups.{attribute_at, relation_at}
 use Rattle.opa_model.specs.declared.things.Kind.TheVariants as kinds
-use Rattle.opa_pieces.specs.Pieces.{Piece, IsPiece, word, number, symbol, date}
-use Rattle.opa_pieces.specs.Written.{Written, AreWritten, joined, ends_before, begins_apart, stands_alone}
+use Rattle.opa_pieces.specs.Pieces.{Piece, IsPiece, word, number, date}
+use Rattle.opa_pieces.specs.Written.{Written, AreWritten, joined, ends_before}
 use Rattle.opa_pieces.proofs.LawsHold.{written_is_cut_holds}
 use Rattle.opa_text.specs.Laws.{CanBeWritten}
 use Rattle.opa_text.proofs.WrittenValues.{Apart, apart_ends, value_written}
@@ -19,10 +18,10 @@ use Rattle.opa_tree.specs.declared.kinds.OpKind.{OpKind}
 use Rattle.opa_tree.specs.declared.kinds.OpKind.TheVariants as op
 use Rattle.opa_tree.specs.declared.expr.Expr.{Expr}
 use Rattle.opa_tree.specs.declared.expr.Expr.TheVariants as V
-use Rattle.opa_tree.specs.Trees.{is_literal, op_arity, window_arity}
+use Rattle.opa_tree.specs.Trees.{op_arity}
 use Rattle.opa_wording.specs.declared.joint.Joint.TheVariants as between
-use Rattle.opa_wording.specs.Signs.{is_infix, op_text, op_piece, quant_text, window_text, rolling_text}
-use Rattle.opa_wording.specs.Wordings.{Wording, token, bracketed, together, alike, apart, in_brackets, call, denial, operation, literal, signed, date_text, phrase, phrase_word, words_from, phrase_of_attribute, phrase_of_relation, listed, over_days, wording}
+use Rattle.opa_wording.specs.Signs.{is_infix, op_piece, quant_text, window_text, rolling_text}
+use Rattle.opa_wording.specs.Wordings.{Wording, token, bracketed, together, alike, apart, in_brackets, call, denial, operation, literal, signed, phrase, phrase_word, words_from, phrase_of_attribute, phrase_of_relation, listed, over_days, wording}
 use Rattle.opa_wording.specs.Grammatical.{IsGrammatical, AreGrammatical}
 use Rattle.opa_wording.specs.Grammatical as tree
 use Rattle.opa_wording.specs.Told.{PhrasesAreWritten}
@@ -30,7 +29,7 @@ use Rattle.opa_wording.specs.Laws.{LinesAreCut}
 use Rattle.opa_wording.proofs.Leaves.{lt_true}
 use Rattle.opa_wording.proofs.Numbers.{number_piece, whole_piece}
 use Rattle.opa_wording.proofs.WordingLaws.{wording-Const, wording-Attr, wording-All, wording-Any, wording-Not, wording-Op, wording-Certain, wording-Known, wording-Over, wording-Window, wording-Rolling}
-use Rattle.opa_wording.proofs.TreesWritten.{Well, IsWell, AreWell, IsJoint, alike_well, apart_well, brackets_well, named_well, together_well, together_leads, more_well, word_piece, sign_piece, not_word, certain_word, known_word, quant_word, quant_ascii, window_word, window_ascii, rolling_word, rolling_ascii, call_piece, comma_apart, alone_ends}
+use Rattle.opa_wording.proofs.TreesWritten.{Well, IsWell, AreWell, alike_well, apart_well, brackets_well, named_well, together_well, together_leads, more_well, word_piece, sign_piece, not_word, certain_word, known_word, quant_word, quant_ascii, window_word, window_ascii, rolling_word, rolling_ascii, call_piece, comma_apart, alone_ends}
 
 -- ---- phrases
 
@@ -174,22 +173,22 @@ module _ (m : Lists) (phrases : PhrasesAreWritten m) where
         subst IsWell (sym (wording-Op m k es)) (operation_well k (map (wording m) es) some.0 (mapped_length (wording m) es ∙ l ∙ some.1) (trees_well hs))
     tree_well (tree.IsGrammatical.round e z range h) =
         subst IsWell (sym (wording-Op m op.Round (e ∷ V.Const (value.Num (pos z)) ∷ [])))
-          (operation_well op.Round (map (wording m) (e ∷ V.Const (value.Num (pos z)) ∷ [])) 1 refl
-            (tree_well h, (subst IsWell (sym (wording-Const m (value.Num (pos z)))) (alike_well (λ s. literal s (value.Num (pos z))) (literal_well (value.Num (pos z)) (range, tt)) (literal_leads (value.Num (pos z)))), tt)))
+        (operation_well op.Round (map (wording m) (e ∷ V.Const (value.Num (pos z)) ∷ [])) 1 refl
+        (tree_well h, (subst IsWell (sym (wording-Const m (value.Num (pos z)))) (alike_well (λ s. literal s (value.Num (pos z))) (literal_well (value.Num (pos z)) (range, tt)) (literal_leads (value.Num (pos z)))), tt)))
     tree_well (tree.IsGrammatical.certain e h) = subst IsWell (sym (wording-Certain m e)) (call_well (word (codes "Certain")) (word_piece (codes "Certain") refl certain_word) (wording m e ∷ []) (tree_well h, tt))
     tree_well (tree.IsGrammatical.known e h) = subst IsWell (sym (wording-Known m e)) (call_well (word (codes "CurrentlyKnown")) (word_piece (codes "CurrentlyKnown") refl known_word) (wording m e ∷ []) (tree_well h, tt))
     tree_well (tree.IsGrammatical.over q r es has l hs) =
         let ws : List Wording = map (wording m) es in
         subst IsWell (sym (wording-Over m q r es))
-          (alike_well (λ s. token s (word (quant_text q)) ∷ bracketed false (listed m r ws))
-            (λ s. named_well s (word (quant_text q)) (listed m r ws) (word_piece (quant_text q) (quant_ascii q) (quant_word q)) (listed_well (phrase_of_relation (relation_at m r)) (phrases.relations r has) ws (trees_well hs)))
-            (λ p rest. refl))
+        (alike_well (λ s. token s (word (quant_text q)) ∷ bracketed false (listed m r ws))
+        (λ s. named_well s (word (quant_text q)) (listed m r ws) (word_piece (quant_text q) (quant_ascii q) (quant_word q)) (listed_well (phrase_of_relation (relation_at m r)) (phrases.relations r has) ws (trees_well hs)))
+        (λ p rest. refl))
     tree_well (tree.IsGrammatical.window k es l hs) = subst IsWell (sym (wording-Window m k es)) (call_well (word (window_text k)) (word_piece (window_text k) (window_ascii k) (window_word k)) (map (wording m) es) (trees_well hs))
     tree_well (tree.IsGrammatical.rolling always k e few h) =
         subst IsWell (sym (wording-Rolling m always k e))
-          (alike_well (λ s. token s (word (rolling_text always)) ∷ bracketed false (over_days k (wording m e)))
-            (λ s. named_well s (word (rolling_text always)) (over_days k (wording m e)) (word_piece (rolling_text always) (rolling_ascii always) (rolling_word always)) (days_well k few (wording m e) (tree_well h)))
-            (λ p rest. refl))
+        (alike_well (λ s. token s (word (rolling_text always)) ∷ bracketed false (over_days k (wording m e)))
+        (λ s. named_well s (word (rolling_text always)) (over_days k (wording m e)) (word_piece (rolling_text always) (rolling_ascii always) (rolling_word always)) (days_well k few (wording m e) (tree_well h)))
+        (λ p rest. refl))
 
     pub trees_well : {es : List Expr} → AreGrammatical m es → AreWell (map (wording m) es)
     trees_well tree.AreGrammatical.none = tt

@@ -1,16 +1,12 @@
 -- The tokens that a tree is written as are tokens, each apart from the next.
-use Rattle.std.proofs.Common.{◌≡◌, ◌≤◌, ℕ, ℤ, pos, List, [], ◌∷◌, ◌++◌, length, map, Bool, true, false, refl, sym, ap, subst, ◌∙◌, arith, append_assoc, append-nil, decimal}
+use Rattle.std.proofs.Common.{◌≡◌, ℕ, List, [], ◌∷◌, ◌++◌, Bool, true, false, refl, sym, ap, subst, ◌∙◌, append_assoc}
 use Rattle.std.specs.Prelude.{codes, ◌||◌}
 use Rattle.std.specs.List.{list_all}
 use Rattle.std.specs.Str.{chars}
 use Rattle.ucd_derived.proofs.Computing.{ucd_derived}
-use Rattle.opa_value.specs.declared.value.Value.{Value}
-use Rattle.opa_value.specs.declared.value.Value.TheVariants as value
-use Rattle.opa_model.specs.declared.lists.Lists.{Lists}
-use Rattle.opa_model.specs.declared.things.Kind.TheVariants as kinds
 use Rattle.opa_words.specs.declared.kinds.TokenKind.TheVariants as kind
 use Rattle.opa_words.specs.Kinds.{is_word, is_symbol, is_single}
-use Rattle.opa_pieces.specs.Pieces.{Piece, IsPiece, word, number, symbol}
+use Rattle.opa_pieces.specs.Pieces.{Piece, IsPiece, word, symbol}
 use Rattle.opa_pieces.specs.Written.{Written, AreWritten, joined, ends_before, begins_apart, stands_alone}
 use Rattle.opa_pieces.proofs.Ascii.{is_ascii, ascii_chars}
 use Rattle.opa_pieces.proofs.LawsHold.{ascii_is_token_holds}
@@ -24,7 +20,7 @@ use Rattle.opa_tree.specs.declared.kinds.WinKind.TheVariants as win
 use Rattle.opa_wording.specs.declared.joint.Joint.{Joint}
 use Rattle.opa_wording.specs.declared.joint.Joint.TheVariants as between
 use Rattle.opa_wording.specs.Signs.{is_infix, op_text, op_piece, quant_text, window_text, rolling_text}
-use Rattle.opa_wording.specs.Wordings.{Wording, token, bracketed, separator, placed, part, together, alike, apart, in_brackets, call, denial, operation}
+use Rattle.opa_wording.specs.Wordings.{Wording, token, bracketed, separator, placed, together, alike, apart}
 
 -- ---- single tokens
 
@@ -217,7 +213,7 @@ closing_well rest h = (sign_piece (codes ")") refl refl, alone_ends 41 refl refl
 pub brackets_well : (s : Bool) (ws : List Written) → Well ws → Well (bracketed s ws)
 brackets_well s ws h rest a r =
     subst (λ vs. AreWritten (token s (symbol (codes "(")) ∷ vs)) (sym (append_assoc ws (joined (symbol (codes ")")) ∷ []) rest))
-      (sign_piece (codes "(") refl refl, alone_ends 40 refl refl (ws ++ joined (symbol (codes ")")) ∷ rest), h (joined (symbol (codes ")")) ∷ rest) (closing_apart rest) (closing_well rest r))
+    (sign_piece (codes "(") refl refl, alone_ends 40 refl refl (ws ++ joined (symbol (codes ")")) ∷ rest), h (joined (symbol (codes ")")) ∷ rest) (closing_apart rest) (closing_well rest r))
 
 -- a name before brackets
 pub named_well : (s : Bool) (p : Piece) (ws : List Written) → IsPiece p → Well ws → Well (token s p ∷ bracketed false ws)
@@ -279,13 +275,13 @@ pub more_well : (j : Joint) → IsJoint j → (s : Bool) (ws : List Wording) →
 more_well j i s [] h rest a r = r
 more_well j i s (w ∷ ws) h rest a r =
     subst (λ vs. AreWritten (separator j ∷ vs)) (sym (append_assoc (placed j true w) (together j s false ws) rest))
-      (separator_piece j i, placed_leads j w h.0 (separator j).piece (together j s false ws ++ rest), placed_well j true w h.0 (together j s false ws ++ rest) (more_apart j s ws rest a) (more_well j i s ws h.1 rest a r))
+    (separator_piece j i, placed_leads j w h.0 (separator j).piece (together j s false ws ++ rest), placed_well j true w h.0 (together j s false ws ++ rest) (more_apart j s ws rest a) (more_well j i s ws h.1 rest a r))
 
 pub together_well : (j : Joint) → IsJoint j → (s : Bool) (ws : List Wording) → AreWell ws → Well (together j s true ws)
 together_well j i s [] h rest a r = r
 together_well j i s (w ∷ ws) h rest a r =
     subst AreWritten (sym (append_assoc (placed j s w) (together j s false ws) rest))
-      (placed_well j s w h.0 (together j s false ws ++ rest) (more_apart j s ws rest a) (more_well j i s ws h.1 rest a r))
+    (placed_well j s w h.0 (together j s false ws ++ rest) (more_apart j s ws rest a) (more_well j i s ws h.1 rest a r))
 
 pub together_leads : (j : Joint) (w : Wording) (ws : List Wording) → IsWell w → (p : Piece) (rest : List Written) → ends_before p (together j true true (w ∷ ws) ++ rest) ≡ true
 together_leads j w ws h p rest = ap (ends_before p) (append_assoc (placed j true w) (together j true false ws) rest) ∙ placed_leads j w h p (together j true false ws ++ rest)

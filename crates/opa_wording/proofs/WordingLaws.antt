@@ -9,9 +9,8 @@ use Rattle.opa_tree.specs.declared.kinds.Quant.{Quant}
 use Rattle.opa_tree.specs.declared.kinds.WinKind.{WinKind}
 use Rattle.opa_tree.specs.declared.expr.Expr.{Expr}
 use Rattle.opa_tree.specs.declared.expr.Row.{Row}
-use Rattle.opa_tree.specs.declared.expr.Expr.TheOpen.{Const, Attr, All, Any, Not, Op, Certain, Known, Over, Window, Rolling, Table}
+use Rattle.opa_tree.specs.declared.expr.Expr.TheOpen.{Const, Attr, All, Any, Not, Op, Certain, Known, Over, Window, Rolling}
 use Rattle.opa_tree.specs.declared.expr.Expr.TheVariants as V
-use Rattle.opa_tree.specs.declared.expr.Expr.TheFolds.{fold-Row}
 use Rattle.opa_tree.proofs.Folds.{fold-Const, fold-Attr, fold-All, fold-Any, fold-Not, fold-Op, fold-Certain, fold-Known, fold-Over, fold-Window, fold-Rolling, fold-Table}
 use Rattle.opa_wording.specs.Wordings.{Wording, wording_step, wording_row, wording, alike}
 

@@ -1,5 +1,5 @@
 -- Laws of written lines.
-use Rattle.std.specs.Prelude.{◌≡◌, ℕ, ◌*◌, Bool, true, false, List, [], ◌++◌}
+use Rattle.std.specs.Prelude.{◌≡◌, ◌*◌, Bool, true, false, List, [], ◌++◌}
 use Rattle.std.specs.Str.{IsUtf8}
 use Rattle.opa_pieces.specs.Pieces.{IsCutInto}
 use Rattle.opa_pieces.specs.Written.{pieces_of}

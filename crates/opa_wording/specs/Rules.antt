@@ -1,10 +1,10 @@
 -- How a rule is written as the lines of a block.
-use Rattle.std.specs.Prelude.{ℕ, List, [], ◌∷◌, ◌++◌, map, Bool, true, false, codes, if◌then◌else◌}
+use Rattle.std.specs.Prelude.{ℕ, List, [], ◌∷◌, ◌++◌, map, codes, if◌then◌else◌}
 use Rattle.opa_model.specs.declared.lists.Lists.{Lists}
 use Rattle.opa_model.specs.Lookups.{attribute_at}
 use Rattle.opa_tree.specs.declared.expr.Expr.{Expr}
 use Rattle.opa_tree.specs.declared.expr.Row.{Row}
-use Rattle.opa_tree.specs.declared.expr.Expr.TheOpen.{Expr-F, Const, Attr, All, Any, Not, Op, Certain, Known, Over, Window, Rolling, Table}
+use Rattle.opa_tree.specs.declared.expr.Expr.TheOpen.{Expr-F, All, Any, Table}
 use Rattle.opa_tree.specs.declared.expr.Expr.TheViews.{out-Expr}
 use Rattle.opa_tree.specs.declared.rules.Rule.{Rule}
 use Rattle.opa_wording.specs.Lines.{line_text}

@@ -1,5 +1,5 @@
 -- What written tokens say to the grammar of a line.
-use Rattle.std.specs.Prelude.{◌≡◌, ◌≤◌, ℕ, ◌*◌, ◌+◌, Bool, true, false, List, [], ◌∷◌, ◌++◌, map, Some, codes, ◌==◌, ◌&&◌}
+use Rattle.std.specs.Prelude.{◌≡◌, ◌≤◌, ℕ, Bool, true, false, List, [], ◌∷◌, ◌++◌, map, Some, codes, ◌==◌, ◌&&◌}
 use Rattle.std.specs.List.{list_any}
 use Rattle.opa_model.specs.declared.ids.AttrId.{AttrId}
 use Rattle.opa_model.specs.declared.ids.RelId.{RelId}
@@ -12,7 +12,6 @@ use Rattle.opa_tree.specs.declared.expr.Expr.TheVariants as expr
 use Rattle.opa_sentence.specs.declared.class.Class.{Class}
 use Rattle.opa_sentence.specs.declared.class.Class.TheVariants as class
 use Rattle.opa_sentence.specs.declared.names.Names.{Names}
-use Rattle.opa_sentence.specs.declared.names.Relation.{Relation}
 use Rattle.opa_sentence.specs.declared.names.Relation.TheVariants as relation
 use Rattle.opa_sentence.specs.declared.reading.Reading.{Reading}
 use Rattle.opa_sentence.specs.Lexemes.{Lexeme, class_of}

@@ -1,5 +1,5 @@
 -- How a tree is written as a line, token by token, with brackets wherever what stands there could be read otherwise.
-use Rattle.std.specs.Prelude.{ℕ, ◌==◌, nat_lt, ℤ, pos, decimal, List, [], ◌∷◌, ◌++◌, map, Bool, true, false, Option, Some, None, codes, if◌then◌else◌}
+use Rattle.std.specs.Prelude.{ℕ, ◌==◌, nat_lt, pos, decimal, List, [], ◌∷◌, ◌++◌, Bool, true, false, Option, Some, None, codes, if◌then◌else◌}
 use Rattle.std.specs.Char.{is_ascii_digit}
 use Rattle.std.specs.Int.RustNames.{unsigned_abs}
 use Rattle.opa_value.specs.declared.value.Value.{Value}
@@ -7,7 +7,6 @@ use Rattle.opa_value.specs.declared.value.Value.TheVariants as value
 use Rattle.opa_value.specs.NumberText.{plain_text, is_negative}
 use Rattle.opa_date.specs.declared.TheConstants.{DAYS}
 use Rattle.opa_date.specs.Texts.{day_text}
-use Rattle.opa_model.specs.declared.ids.AttrId.{AttrId}
 use Rattle.opa_model.specs.declared.ids.RelId.{RelId}
 use Rattle.opa_model.specs.declared.things.Attribute.{Attribute}
 use Rattle.opa_model.specs.declared.things.Relation.{Relation}

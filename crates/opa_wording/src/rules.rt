@@ -104,12 +104,7 @@ fn push_case(alloc: Global, out: &mut String, model: &Model, row: &Row) -> Resul
 }
 
 #[tactic(auto, using(crate::proofs::RuleTexts::text_moved))]
-fn push_cases(
-    alloc: Global,
-    out: &mut String,
-    model: &Model,
-    rows: &[Row],
-) -> Result<(), NoMemory>
+fn push_cases(alloc: Global, out: &mut String, model: &Model, rows: &[Row]) -> Result<(), NoMemory>
     ensures { OnOk result (string_bytes out.new ≡ string_bytes out.old ++ cases model.now rows.now) }
 {
     let mut rest = rows;
@@ -195,12 +190,7 @@ fn push_conditioned(
 }
 
 /// Appends a rule.
-fn push_rule(
-    alloc: Global,
-    out: &mut String,
-    model: &Model,
-    rule: &Rule,
-) -> Result<(), NoMemory>
+fn push_rule(alloc: Global, out: &mut String, model: &Model, rule: &Rule) -> Result<(), NoMemory>
     ensures { OnOk result (string_bytes out.new ≡ string_bytes out.old ++ rule_text_of model.now rule.now) }
 {
     let phrase = attribute_phrase(model, rule.attr);

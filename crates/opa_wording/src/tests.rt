@@ -193,15 +193,24 @@ fn sum_if(alloc: Global) -> Result<Txt, NoMemory> {
 
 #[test]
 fn lines(rt: HostRuntime) -> Result<(), Fail> {
-    assert_eq!(rt; both(rt.alloc())?.as_str(), "((the claimant is entitled) and (not the claimant is an adult))");
+    assert_eq!(rt;
+        both(rt.alloc())?.as_str(),
+        "((the claimant is entitled) and (not the claimant is an adult))"
+    );
     assert_eq!(rt; product(rt.alloc())?.as_str(), "(the income + 1) * -2");
-    assert_eq!(rt; sum_if(rt.alloc())?.as_str(), "InstanceSumIf(the children, the income, the income > 300)");
+    assert_eq!(rt;
+        sum_if(rt.alloc())?.as_str(),
+        "InstanceSumIf(the children, the income, the income > 300)"
+    );
     Ok(())
 }
 
 #[test]
 fn rules(rt: HostRuntime) -> Result<(), Fail> {
     let text = conditioned(rt.alloc())?;
-    assert_eq!(rt; text.as_slice(), b"the claimant is entitled if\n  the claimant is an adult and\n  Certain(the claimant is an adult)\n".as_slice());
+    assert_eq!(rt;
+        text.as_slice(),
+        b"the claimant is entitled if\n  the claimant is an adult and\n  Certain(the claimant is an adult)\n".as_slice()
+    );
     Ok(())
 }

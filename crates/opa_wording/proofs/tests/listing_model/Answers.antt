@@ -1,4 +1,4 @@
-use Rattle.std.proofs.Common.{◌≡◌, ◌≢◌, ◌∙◌, ◌++◌, ◌∷◌, [], ap, refl}
+use Rattle.std.proofs.Common.{◌≢◌, ◌∙◌, ◌++◌, ◌∷◌, [], ap, refl}
 use Rattle.opa_model.proofs.SampleModels.{apart_by}
 use Rattle.opa_text.proofs.SampleModels.{listing_model, listing_at}
 use Rattle.opa_wording.proofs.tests.listing_model.Goals as goal
