@@ -10,3 +10,5 @@ pub mod TreesWritten
 pub mod Numbers
 pub mod TreesWell
 pub mod RuleTexts
+pub mod PhrasePieces
+pub mod ReadableModels

@@ -11,7 +11,9 @@ use Rattle.opa_sentence.specs.Lexemes.{Lexeme}
 use Rattle.opa_sentence.specs.Grammar.{FACTOR, LINE}
 use Rattle.opa_wording.specs.Wordings.{wording}
 use Rattle.opa_wording.specs.Grammatical.{IsGrammatical}
-use Rattle.opa_wording.specs.Told.{all_told, ends, SpellsTree, PhrasesAreRead, PhrasesAreWritten}
+use Rattle.opa_wording.specs.Told.{all_told, ends, SpellsTree, PhrasesAreRead, PhrasesAreWritten, AreTexts}
+use Rattle.opa_tree.specs.declared.rules.Inferred.{Inferred}
+use Rattle.opa_parse.specs.Phrasing.{IsReadable}
 use Rattle.opa_wording.specs.Lines.{line_text}
 
 -- Where declared phrases are read, the line that a tree is written as spells exactly that tree, nested at most twice as deep as the tree.
@@ -25,3 +27,7 @@ FactorsSpellTrees = (m : Lists) (ns : Names) → PhrasesAreRead m ns → (e : Ex
 -- The text of a line is cut into the tokens that it is written as.
 abbrev pub LinesAreCut : Type 0
 LinesAreCut = (m : Lists) → PhrasesAreWritten m → (e : Expr) → IsGrammatical m e → IsUtf8 (line_text m e) × IsCutInto (line_text m e) (pieces_of ((wording m e).as_line false))
+
+-- The phrases of a model that rules can read are written as tokens.
+abbrev pub ReadableIsWritten : Type 0
+ReadableIsWritten = (m : Lists) (inferences : List Inferred) → IsReadable m inferences → AreTexts m → PhrasesAreWritten m

@@ -1,10 +1,11 @@
 -- What written tokens say to the grammar of a line.
-use Rattle.std.specs.Prelude.{◌≡◌, ◌≤◌, ℕ, Bool, true, false, List, [], ◌∷◌, ◌++◌, map, Some, codes, ◌==◌, ◌&&◌}
+use Rattle.std.specs.Prelude.{◌≡◌, ◌≤◌, ℕ, Bool, true, false, List, [], ◌∷◌, ◌++◌, map, Some, codes, ◌==◌, ◌&&◌, All}
+use Rattle.std.specs.Str.{IsUtf8}
 use Rattle.std.specs.List.{list_any}
 use Rattle.opa_model.specs.declared.ids.AttrId.{AttrId}
 use Rattle.opa_model.specs.declared.ids.RelId.{RelId}
 use Rattle.opa_model.specs.declared.lists.Lists.{Lists}
-use Rattle.opa_model.specs.Lookups.{attribute_at, relation_at}
+use Rattle.opa_model.specs.Lookups.{attribute_at, relation_at, attribute_phrases, relation_phrases}
 use Rattle.opa_model.specs.Models.{HasAttribute, HasRelation}
 use Rattle.opa_pieces.specs.Written.{Written, AreWritten}
 use Rattle.opa_tree.specs.declared.expr.Expr.{Expr}
@@ -63,3 +64,8 @@ pub record PhrasesAreRead (m : Lists) (ns : Names) : Type 0 where
 pub record PhrasesAreWritten (m : Lists) : Type 0 where
   pub attributes : (a : AttrId) → HasAttribute m a → AreWritten (phrase false (phrase_of_attribute (attribute_at m a)))
   pub relations : (r : RelId) → HasRelation m r → AreWritten (phrase false (phrase_of_relation (relation_at m r)))
+
+-- The phrases are texts.
+pub record AreTexts (m : Lists) : Type 0 where
+  pub attributes : All IsUtf8 (attribute_phrases m)
+  pub relations : All IsUtf8 (relation_phrases m)
