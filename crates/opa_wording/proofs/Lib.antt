@@ -1,0 +1,14 @@
+pub mod WordingLaws
+pub mod Parts
+pub mod Calls
+pub mod Leaves
+pub mod TreesSpelled
+pub mod TextLaws
+pub mod LawsHold
+pub mod FactorTexts
+pub mod TreesWritten
+pub mod Numbers
+pub mod TreesWell
+pub mod RuleTexts
+pub mod PhrasePieces
+pub mod ReadableModels
