@@ -12,3 +12,4 @@ pub mod LineForms
 pub mod GroupForms
 pub mod Handing
 pub mod LawsHold
+pub mod ShortLaws
