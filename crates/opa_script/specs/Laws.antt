@@ -3,7 +3,9 @@ use Rattle.std.specs.Prelude.{◌≡◌, ℕ, List}
 use Rattle.opa_date.specs.declared.TheConstants.{DAYS}
 use Rattle.opa_line.specs.Lines.{IsLine}
 use Rattle.opa_model.specs.declared.lists.Lists.{Lists}
-use Rattle.opa_model.specs.Models.{IsModel}
+use Rattle.opa_model.specs.Models.{IsModel, HasAttribute, HasRelation}
+use Rattle.opa_case.specs.Laws.{IsDeclared}
+use Rattle.opa_case.specs.Shapes.{shape_of}
 use Rattle.opa_case.specs.declared.change.ChangeCommand.{ChangeCommand}
 use Rattle.opa_case.specs.declared.change.ChangeCommand.TheVariants as change
 use Rattle.opa_script.specs.declared.command.Command.{Command}
@@ -30,3 +32,14 @@ OneCommand = (m : Lists) → IsModel m → (bytes : List ℕ) (c d : Command) �
 -- a line that is a command has no fault
 abbrev pub RefusedOrRead : Type 0
 RefusedOrRead = (m : Lists) (bytes : List ℕ) (c : Command) (f : CmdFault) → IsCommand m bytes c → IsNoCommand m bytes f → f ≡ fault.NoMemory
+
+-- what a command names is declared
+abbrev pub IsInRange : Lists → Command → Type 0
+IsInRange m (command.Change k) = IsDeclared (shape_of m) k
+IsInRange m (command.ShowAttr a i) = HasAttribute m a
+IsInRange m (command.ShowMembers r i) = HasRelation m r
+IsInRange m (command.Report a i d) = HasAttribute m a
+IsInRange m c = Unit {0}
+
+abbrev pub CommandsAreInRange : Type 0
+CommandsAreInRange = (m : Lists) (bytes : List ℕ) (c : Command) → IsCommand m bytes c → IsInRange m c

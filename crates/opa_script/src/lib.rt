@@ -19,7 +19,7 @@ mod verbs;
 pub use command::Command;
 pub use examples::{Generated, generate};
 pub use fault::CmdFault;
-pub use laws::{one_command, refused_or_read};
+pub use laws::{commands_are_in_range, one_command, refused_or_read};
 pub use reading::read_command;
 pub use replies::read_reply;
 
