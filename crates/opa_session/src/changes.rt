@@ -1,6 +1,7 @@
 // A session begins, and takes changes.
 ghost use Rattle.std.specs.Prelude.{◌≡◌, ◌≢◌, ◌↔◌, true, Ok, Err, IfOk, IfErr, OnOk, OnErr};
 ghost use Rattle.opa_case.specs.Cases.{no_case};
+ghost use Rattle.opa_case.specs.Fits.{Fits};
 ghost use Rattle.opa_case.specs.Laws.{IsDeclared};
 ghost use Rattle.opa_case.specs.Shapes.{shape_of};
 ghost use Rattle.opa_case.specs.declared.change.Refusal.TheVariants as refusals;
@@ -63,5 +64,14 @@ impl Session {
                 case.forget(&base.model, &base.ruled, rel, &inst)
             }
         }
+    }
+
+    /// Puts a case that fits in the place of the one that is held.
+    pub fn replace_case(&mut self, case: Case)
+        requires fits { Fits (shape_of (rules_of self.old).model) (rules_of self.old).ruled case }
+        ensures case { held_of self.new ≡ case }
+        ensures base { rules_of self.new ≡ rules_of self.old }
+    {
+        self.case = case;
     }
 }
