@@ -10,12 +10,12 @@ use Rattle.opa_talk.specs.declared.halt.Halt.TheVariants as halt
 use Rattle.opa_talk.specs.declared.feed.Ending.TheVariants as ending
 use Rattle.opa_talk.specs.Halt.{IsLineCause}
 use Rattle.opa_talk.specs.Lines.{lines_from, input_lines}
-use Rattle.opa_talk.specs.Transcript.{Rule, IsOver, replies, transcript, after}
+use Rattle.opa_talk.specs.Transcript.{Rule, IsOver, Prints, IsTranscript}
 use Rattle.opa_talk.specs.Talk.{Halted, Paused, Converses, Halts, HaltsAt}
 use Rattle.opa_talk.specs.Points.{Point, fresh_point, CarriesOut, Breaks, GoesOn, TakesLines, Probes, Finishes, Feeds, FeedBreaks, FeedBreaksAt}
 use Rattle.opa_talk.proofs.LinesLaws.{lines_from-append}
-use Rattle.opa_talk.proofs.TranscriptLaws.{replies-append, after-append, replies_over, after_over}
-use Rattle.opa_talk.proofs.PointsLaws.{front_after, front_none, appends_is, lines_two, breaks_after, breaks_is}
+use Rattle.opa_talk.proofs.TranscriptLaws.{prints-append, prints_over}
+use Rattle.opa_talk.proofs.PointsLaws.{front_after, front_none, lines_two, breaks_after, breaks_is}
 
 module _ {X : Type 0} (rule : Rule X) (at now : Point X) (w x : Option (List ℕ)) where
   -- the lines of what was read, in two parts
@@ -27,51 +27,43 @@ module _ {X : Type 0} (rule : Rule X) (at now : Point X) (w x : Option (List ℕ
     over_lines : lines_from at.fresh (at.pending ++ (front ++ rest)) ≡ lines_from at.fresh f.whole ++ lines_from now.fresh (now.pending ++ rest)
     over_lines = lines_two rule at now front rest f.whole f.cut f.ends f.fresh
 
-    over_state : IsOver rule (after rule at.state (lines_from at.fresh f.whole))
-    over_state = let P : X → Type 0 = λ y. IsOver rule y in subst P f.state over
-
-    over_replies : replies rule at.state (lines_from at.fresh (at.pending ++ (front ++ rest))) ≡ replies rule at.state (lines_from at.fresh f.whole)
-    over_replies =
-        ap (replies rule at.state) over_lines ∙ replies-append rule at.state (lines_from at.fresh f.whole) (lines_from now.fresh (now.pending ++ rest))
-        ∙ ap (λ s. replies rule at.state (lines_from at.fresh f.whole) ++ s) (replies_over rule (after rule at.state (lines_from at.fresh f.whole)) (lines_from now.fresh (now.pending ++ rest)) over_state)
-        ∙ append-nil (replies rule at.state (lines_from at.fresh f.whole))
-
-    over_after : now.state ≡ after rule at.state (lines_from at.fresh (at.pending ++ (front ++ rest)))
-    over_after =
-        f.state ∙ sym (after_over rule (after rule at.state (lines_from at.fresh f.whole)) (lines_from now.fresh (now.pending ++ rest)) over_state)
-        ∙ sym (after-append rule at.state (lines_from at.fresh f.whole) (lines_from now.fresh (now.pending ++ rest))) ∙ ap (after rule at.state) (sym over_lines)
+    over_said : Prints rule at.state (lines_from at.fresh (at.pending ++ (front ++ rest))) f.text now.state
+    over_said =
+        let P : List (List ℕ) → Type 0 = λ ls. Prints rule at.state ls f.text now.state in
+        let Q : List ℕ → Type 0 = λ t. Prints rule at.state (lines_from at.fresh f.whole ++ lines_from now.fresh (now.pending ++ rest)) t now.state in
+        let tail = prints_over rule now.state (lines_from now.fresh (now.pending ++ rest)) over in
+        subst P (sym over_lines) (subst Q (append-nil f.text)
+        (prints-append rule at.state now.state now.state (lines_from at.fresh f.whole) (lines_from now.fresh (now.pending ++ rest)) f.text [] f.said tail))
 
   -- no line is taken any more
   pub feeds_over : (most : ℕ) (l m : Option (List ℕ)) → TakesLines rule at now most l m w x ending.Over → Feeds rule at now.state most l m w x
-  feeds_over most l m lines = let e = lines.3 in record {
-    read = lines.0;
-    took = lines.1;
-    within = lines.2;
-    state = over_after e.front e.rest e.carried e.over ∙ ap (λ s. after rule at.state (lines_from at.fresh (at.pending ++ s))) e.cut;
-    wrote = appends_is w x _ _ (sym (over_replies e.front e.rest e.carried e.over) ∙ ap (λ s. replies rule at.state (lines_from at.fresh (at.pending ++ s))) e.cut) e.carried.wrote;
-    ended = inr (
-      e.over,
-      λ more.
-          ap (λ s. replies rule at.state (lines_from at.fresh (at.pending ++ s))) (ap (λ s. s ++ more) (sym e.cut) ∙ append_assoc e.front e.rest more)
-          ∙ over_replies e.front (e.rest ++ more) e.carried e.over
-          ∙ sym (over_replies e.front e.rest e.carried e.over)
-          ∙ ap (λ s. replies rule at.state (lines_from at.fresh (at.pending ++ s))) e.cut,
-    );
-  }
+  feeds_over most l m lines =
+      let e = lines.3 in
+      let P : List ℕ → Type 0 = λ s. Prints rule at.state (lines_from at.fresh (at.pending ++ s)) e.carried.text now.state in
+      record {
+        read = lines.0;
+        took = lines.1;
+        within = lines.2;
+        text = e.carried.text;
+        said = subst P e.cut (over_said e.front e.rest e.carried e.over);
+        wrote = e.carried.wrote;
+        ended = inr (e.over, λ more. subst P (sym (append_assoc e.front e.rest more) ∙ ap (λ s. s ++ more) e.cut) (over_said e.front (e.rest ++ more) e.carried e.over));
+      }
 
   -- the input is at its end, and the last line was carried out
   pub feeds_end : (most : ℕ) (l m y : Option (List ℕ)) (x' : X) → TakesLines rule at now most l m w x ending.End → Finishes rule now x' x y → Feeds rule at x' most l m w y
-  feeds_end most l m y x' lines last = let f = lines.4.carried in record {
-    read = lines.0;
-    took = lines.1;
-    within = lines.2;
-    state = last.state ∙ ap (λ s. after rule s (lines_from now.fresh now.pending)) f.state ∙ sym (after-append rule at.state (lines_from at.fresh f.whole) (lines_from now.fresh now.pending)) ∙ ap (after rule at.state) (sym (lines_parts lines.0 f));
-    wrote = appends_is w y _ _
-        (ap (λ s. replies rule at.state (lines_from at.fresh f.whole) ++ replies rule s (lines_from now.fresh now.pending)) f.state
-        ∙ sym (replies-append rule at.state (lines_from at.fresh f.whole) (lines_from now.fresh now.pending)) ∙ ap (replies rule at.state) (sym (lines_parts lines.0 f)))
-        (Appends-append w x y _ _ f.wrote last.wrote);
-    ended = inl lines.3;
-  }
+  feeds_end most l m y x' lines last =
+      let f = lines.4.carried in
+      let P : List (List ℕ) → Type 0 = λ ls. Prints rule at.state ls (f.text ++ last.text) x' in
+      record {
+        read = lines.0;
+        took = lines.1;
+        within = lines.2;
+        text = f.text ++ last.text;
+        said = subst P (sym (lines_parts lines.0 f)) (prints-append rule at.state now.state x' (lines_from at.fresh f.whole) (lines_from now.fresh now.pending) f.text last.text f.said last.said);
+        wrote = Appends-append w x y f.text last.text f.wrote last.wrote;
+        ended = inl lines.3;
+      }
 
   -- a probe that finds the end
   pub full_end : (most : ℕ) (l m n : Option (List ℕ)) → TakesLines rule at now most l m w x ending.Full → Probes m n true → TakesLines rule at now most l n w x ending.End
@@ -119,9 +111,10 @@ module _ {X : Type 0} (rule : Rule X) (s : X) (w x : Option (List ℕ)) (asked :
     read = f.read;
     took = f.took;
     within = f.within;
-    state = f.state;
-    wrote = Appends-append w x y (rule.prompt s) (replies rule s (input_lines f.read)) asked f.wrote;
-    ended = elim f.ended [ inl e ↦ inl e | inr o ↦ inr (o.0, λ more. ap (λ p. rule.prompt s ++ p) (o.1 more)) ];
+    text = rule.prompt s ++ f.text;
+    said = (f.text, f.said, refl);
+    wrote = Appends-append w x y (rule.prompt s) f.text asked f.wrote;
+    ended = elim f.ended [ inl e ↦ inl e | inr o ↦ inr (o.0, λ more. (f.text, o.1 more, refl)) ];
   }
 
   pub converses_ok : {E : Type 0} (s' : X) (most : ℕ) (l m y : Option (List ℕ)) (res : Result (Unit {0}) E) → OnOk res (Feeds rule (fresh_point s) s' most l m x y) → OnOk res (Converses rule s s' most l m w y)
@@ -131,28 +124,30 @@ module _ {X : Type 0} (rule : Rule X) (s : X) (w x : Option (List ℕ)) (asked :
   -- the talk is over before its first line
   pub converses_none : (most : ℕ) (l : Option (List ℕ)) → IsOver rule s → Converses rule s s most l l w x
   converses_none most l over =
-      let none : (more : List ℕ) → transcript rule s (input_lines more) ≡ rule.prompt s = λ more. ap (λ p. rule.prompt s ++ p) (replies_over rule s (input_lines more) over) ∙ append-nil (rule.prompt s) in
+      let none : (more : List ℕ) → IsTranscript rule s (input_lines more) (rule.prompt s) s = λ more. ([], prints_over rule s (input_lines more) over, sym (append-nil (rule.prompt s))) in
       record {
         read = [];
         took = Consumes-none l;
         within = omega arith;
-        state = refl;
-        wrote = appends_is w x _ _ (sym (none [])) asked;
-        ended = inr (over, λ more. none more ∙ sym (none []));
+        text = rule.prompt s;
+        said = none [];
+        wrote = asked;
+        ended = inr (over, none);
       }
 
   paused : (now : Point X) (read : List ℕ) (y : Option (List ℕ)) → GoesOn rule (fresh_point s) now read x y → Paused rule s now.state read w y
   paused now read y f = let g = f.carried in record {
     whole = g.whole;
     is_whole = record { rest = now.pending; cut = g.cut; ends = g.ends; part = g.part };
-    state = g.state;
-    wrote = Appends-append w x y (rule.prompt s) (replies rule s (input_lines g.whole)) asked g.wrote;
+    text = rule.prompt s ++ g.text;
+    said = (g.text, g.said, refl);
+    wrote = Appends-append w x y (rule.prompt s) g.text asked g.wrote;
     going = f.going;
   }
 
   module _ (Stops : X → List ℕ → X → Type 0) where
     halted : (s' : X) (read : List ℕ) (y : Option (List ℕ)) → Breaks rule Stops (fresh_point s) s' read x y → Halted rule Stops s s' (input_lines read) w y
-    halted s' read y b = record { done = b.done; more = b.more; cut = b.cut; left = b.left; wrote = front_after w x y (rule.prompt s) (replies rule s b.done) asked b.wrote }
+    halted s' read y b = record { done = b.done; more = b.more; cut = b.cut; text = rule.prompt s ++ b.text; held = b.held; said = (b.text, b.said, refl); left = b.left; wrote = front_after w x y (rule.prompt s) b.text asked b.wrote }
 
     halts_at : (now : Point X) (most : ℕ) (read : List ℕ) (y : Option (List ℕ)) (e : Halt) → FeedBreaksAt rule Stops (fresh_point s) now most read x y e → HaltsAt rule Stops s now.state most read w y e
     halts_at now most read y halt.Input b = (b.0, paused now read y b.1)
@@ -172,7 +167,7 @@ module _ {X : Type 0} (rule : Rule X) (s : X) (w x : Option (List ℕ)) (asked :
 module _ {X : Type 0} (rule : Rule X) (Stops : X → List ℕ → X → Type 0) (s : X) where
   -- the talk halts at its first prompt
   halted_none : (w x : Option (List ℕ)) → AppendsFront w x (rule.prompt s) → Halted rule Stops s s [] w x
-  halted_none w x front = record { done = []; more = []; cut = refl; left = inl refl; wrote = let P : List ℕ → Type 0 = λ p. AppendsFront w x p in subst P (sym (append-nil (rule.prompt s))) front }
+  halted_none w x front = record { done = []; more = []; cut = refl; text = rule.prompt s; held = s; said = ([], (refl, refl), sym (append-nil (rule.prompt s))); left = inl refl; wrote = front }
 
   pub halts_none : (most : ℕ) (l w x : Option (List ℕ)) (e : Halt) (t t' k k' o o' : ℕ) → AppendsFront w x (rule.prompt s) → IsLineCause t t' k k' o o' e → Halts rule Stops s s most l l w x e
   halts_none most l w x halt.Input t t' k k' o o' front cause = absurd cause

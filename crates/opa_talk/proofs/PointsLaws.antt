@@ -7,11 +7,11 @@ use Rattle.std.specs.Str.Lines.{lines, strip_carriage_return}
 use Rattle.opa_io.specs.Outside.{AppendsFront}
 use Rattle.opa_io.proofs.Appended.{Appends-append, Appends-none}
 use Rattle.opa_talk.specs.Lines.{line_at, lines_from, IsPart, EndsLine}
-use Rattle.opa_talk.specs.Transcript.{Rule, IsGoing, replies, after}
-use Rattle.opa_talk.specs.Talk.{LeftAt, Replies}
+use Rattle.opa_talk.specs.Transcript.{Rule, IsGoing, Prints}
+use Rattle.opa_talk.specs.Talk.{LeftAt}
 use Rattle.opa_talk.specs.Points.{Point, is_empty, CarriesOut, Breaks, CarriesLine, StopsAt, Finishes}
 use Rattle.opa_talk.proofs.LinesLaws.{lines_last, line_at_part, lines_from_line, lines_from-append, lines_from-cut, fresh_feed, fresh-append, EndsLine-append, part_none}
-use Rattle.opa_talk.proofs.TranscriptLaws.{replies-append, after-append, replies_one, after_one}
+use Rattle.opa_talk.proofs.TranscriptLaws.{prints-append, prints_one}
 
 -- a front, and a front of what comes after appended bytes
 pub front_after : (a b c : Option (List ℕ)) (xs ys : List ℕ) → Appends a b xs → AppendsFront b c ys → AppendsFront a c (xs ++ ys)
@@ -44,8 +44,9 @@ module _ {X : Type 0} (rule : Rule X) where
     ends = inl refl;
     part = part;
     fresh = same at.fresh;
-    state = ap (after rule at.state) (sym (nothing at.fresh));
-    wrote = appends_is w w [] _ (ap (replies rule at.state) (sym (nothing at.fresh))) (Appends-none w);
+    text = [];
+    said = let P : List (List ℕ) → Type 0 = λ ls. Prints rule at.state ls [] at.state in subst P (sym (nothing at.fresh)) (refl, refl);
+    wrote = Appends-none w;
   }
     where
       same : (b : Bool) → b ≡ (b && true)
@@ -66,7 +67,8 @@ module _ {X : Type 0} (rule : Rule X) where
     ends = inl refl;
     part = part;
     fresh = none.fresh;
-    state = none.state;
+    text = none.text;
+    said = none.said;
     wrote = none.wrote;
   }
 
@@ -89,11 +91,10 @@ module _ {X : Type 0} (rule : Rule X) where
         ends = EndsLine-append f.whole g.whole f.ends g.ends;
         part = g.part;
         fresh = g.fresh ∙ ap (λ t. t && is_empty g.whole) f.fresh ∙ fresh-append a.fresh f.whole g.whole;
-        state = g.state ∙ ap (λ y. after rule y (lines_from b.fresh g.whole)) f.state ∙ sym (after-append rule a.state (lines_from a.fresh f.whole) (lines_from b.fresh g.whole)) ∙ ap (after rule a.state) (sym split);
-        wrote = appends_is before now _ _
-            (ap (λ y. replies rule a.state (lines_from a.fresh f.whole) ++ replies rule y (lines_from b.fresh g.whole)) f.state
-            ∙ sym (replies-append rule a.state (lines_from a.fresh f.whole) (lines_from b.fresh g.whole)) ∙ ap (replies rule a.state) (sym split))
-            (Appends-append before mid now _ _ f.wrote g.wrote);
+        text = f.text ++ g.text;
+        said = let P : List (List ℕ) → Type 0 = λ ls. Prints rule a.state ls (f.text ++ g.text) c.state in
+            subst P (sym split) (prints-append rule a.state b.state c.state (lines_from a.fresh f.whole) (lines_from b.fresh g.whole) f.text g.text f.said g.said);
+        wrote = Appends-append before mid now f.text g.text f.wrote g.wrote;
       }
 
   -- a line is carried out at its line feed
@@ -108,15 +109,16 @@ module _ {X : Type 0} (rule : Rule X) where
         ends = inr (at.pending ++ bytes, refl);
         part = part_none;
         fresh = fresh_feed at.fresh (at.pending ++ bytes);
-        state = step.next_is ∙ sym (after_one rule at.state line going) ∙ ap (after rule at.state) (sym one);
-        wrote = appends_is before now _ _
-            (ap (λ y. rule.reply at.state line ++ rule.prompt y) step.next_is ∙ sym (replies_one rule at.state line going) ∙ ap (replies rule at.state) (sym one)) step.wrote;
+        text = step.text ++ rule.prompt next;
+        said = let P : List (List ℕ) → Type 0 = λ ls. Prints rule at.state ls (step.text ++ rule.prompt next) next in
+            subst P (sym one) (prints_one rule at.state next line step.text going step.replies);
+        wrote = step.wrote;
       })
 
   module _ (Stops : X → List ℕ → X → Type 0) where
     -- the talk halts before any line
     pub breaks_none : (at : Point X) (bytes : List ℕ) (w : Option (List ℕ)) → Breaks rule Stops at at.state bytes w w
-    breaks_none at bytes w = record { done = []; more = lines_from at.fresh (at.pending ++ bytes); cut = refl; left = inl refl; wrote = front_none w [] }
+    breaks_none at bytes w = record { done = []; more = lines_from at.fresh (at.pending ++ bytes); cut = refl; text = []; held = at.state; said = (refl, refl); left = inl refl; wrote = front_none w [] }
 
     pub breaks_is : (at : Point X) (x' : X) (xs ys : List ℕ) (before now : Option (List ℕ)) → xs ≡ ys → Breaks rule Stops at x' xs before now → Breaks rule Stops at x' ys before now
     breaks_is at x' xs ys before now e b = let P : List ℕ → Type 0 = λ s. Breaks rule Stops at x' s before now in subst P e b
@@ -132,7 +134,10 @@ module _ {X : Type 0} (rule : Rule X) where
       cut = sym (append_assoc b.done b.more lines_rest) ∙ ap (λ s. s ++ lines_rest) (b.cut ∙ ap (lines_from at.fresh) (sym (append_assoc at.pending bytes (10 ∷ []))))
           ∙ sym (lines_from-cut at.fresh (at.pending ++ bytes) rest)
           ∙ ap (lines_from at.fresh) (append_assoc at.pending bytes (10 ∷ rest) ∙ ap (λ s. at.pending ++ s) (sym (append_assoc bytes (10 ∷ []) rest)));
-      left = left_more (after rule at.state b.done) x' b.more lines_rest b.left;
+      text = b.text;
+      held = b.held;
+      said = b.said;
+      left = left_more b.held x' b.more lines_rest b.left;
       wrote = b.wrote;
     }
       where
@@ -145,23 +150,23 @@ module _ {X : Type 0} (rule : Rule X) where
       done = lines_from a.fresh f.whole ++ g.done;
       more = g.more;
       cut = append_assoc (lines_from a.fresh f.whole) g.done g.more ∙ ap (λ s. lines_from a.fresh f.whole ++ s) g.cut ∙ sym (lines_two a b xs ys f.whole f.cut f.ends f.fresh);
-      left = let P : X → Type 0 = λ y. LeftAt Stops y g.more x' in
-          subst P (ap (λ y. after rule y g.done) f.state ∙ sym (after-append rule a.state (lines_from a.fresh f.whole) g.done)) g.left;
-      wrote = front_is before now _ _
-          (ap (λ y. replies rule a.state (lines_from a.fresh f.whole) ++ replies rule y g.done) f.state ∙ sym (replies-append rule a.state (lines_from a.fresh f.whole) g.done))
-          (front_after before mid now _ _ f.wrote g.wrote);
+      text = f.text ++ g.text;
+      held = g.held;
+      said = prints-append rule a.state b.state g.held (lines_from a.fresh f.whole) g.done f.text g.text f.said g.said;
+      left = g.left;
+      wrote = front_after before mid now f.text g.text f.wrote g.wrote;
     }
 
     -- writing what a line prints halts
-    pub stops_text : (x x' : X) (line text said : List ℕ) (before now : Option (List ℕ)) → Replies rule x x' line text → said ≡ text → AppendsFront before now said → StopsAt rule Stops x x' line before now
-    stops_text x x' line text said before now r is f = inr (r.next_is, front_more before now (rule.reply x line) (rule.prompt x') (front_is before now said (rule.reply x line) (is ∙ r.text_is) f))
+    pub stops_text : (x x' : X) (line text said : List ℕ) (before now : Option (List ℕ)) → rule.Replies x line text x' → said ≡ text → AppendsFront before now said → StopsAt rule Stops x x' line before now
+    stops_text x x' line text said before now r is f = inr (text, r, front_more before now text (rule.prompt x') (front_is before now said text is f))
 
     -- writing the prompt after it halts
-    pub stops_prompt : {T E : Type 0} (res : Result T E) (x x' : X) (line text said : List ℕ) (before mid now : Option (List ℕ)) → Replies rule x x' line text → said ≡ text → Appends before mid said
+    pub stops_prompt : {T E : Type 0} (res : Result T E) (x x' : X) (line text said : List ℕ) (before mid now : Option (List ℕ)) → rule.Replies x line text x' → said ≡ text → Appends before mid said
         → OnErr res (AppendsFront mid now (rule.prompt x')) → OnErr res (StopsAt rule Stops x x' line before now)
     stops_prompt (Ok v) x x' line text said before mid now r is all err = tt
     stops_prompt (Err e) x x' line text said before mid now r is all err =
-        inr (r.next_is, front_is before now (said ++ rule.prompt x') (rule.reply x line ++ rule.prompt x') (ap (λ s. s ++ rule.prompt x') (is ∙ r.text_is)) (front_after before mid now said (rule.prompt x') all err))
+        inr (text, r, front_is before now (said ++ rule.prompt x') (text ++ rule.prompt x') (ap (λ s. s ++ rule.prompt x') is) (front_after before mid now said (rule.prompt x') all err))
 
     -- the talk halts at a line
     pub breaks_line : (at : Point X) (x' : X) (bytes line : List ℕ) (before now : Option (List ℕ)) → IsPart (at.pending ++ bytes) → IsGoing rule at.state
@@ -170,13 +175,16 @@ module _ {X : Type 0} (rule : Rule X) where
         let one : line ∷ [] ≡ lines_from at.fresh (at.pending ++ (bytes ++ 10 ∷ [])) =
         ap (λ l. l ∷ []) is ∙ sym (lines_from_line at.fresh (at.pending ++ bytes) part) ∙ ap (lines_from at.fresh) (append_assoc at.pending bytes (10 ∷ [])) in
         elim stop [
-          | inl s ↦ record { done = []; more = line ∷ []; cut = one; left = inr (line, [], refl, s.0); wrote = front_all before now [] s.1 }
+          | inl s ↦ record { done = []; more = line ∷ []; cut = one; text = []; held = at.state; said = (refl, refl); left = inr (line, [], refl, s.0); wrote = front_all before now [] s.1 }
           | inr s ↦ record {
             done = line ∷ [];
             more = [];
             cut = one;
-            left = inl (s.0 ∙ sym (after_one rule at.state line going));
-            wrote = front_is before now _ _ (ap (λ y. rule.reply at.state line ++ rule.prompt y) s.0 ∙ sym (replies_one rule at.state line going)) s.1;
+            text = s.0 ++ rule.prompt x';
+            held = x';
+            said = prints_one rule at.state x' line s.0 going s.1;
+            left = inl refl;
+            wrote = s.2;
           }
         ]
 
@@ -190,8 +198,9 @@ module _ {X : Type 0} (rule : Rule X) where
     -- the last line was carried out
     pub finishes_line : (over : Bool) → CarriesLine rule at.state x' line over before now → Finishes rule at x' before now
     finishes_line over step = record {
-      state = step.next_is ∙ sym (after_one rule at.state line going) ∙ ap (after rule at.state) (sym last_one);
-      wrote = appends_is before now _ _ (ap (λ y. rule.reply at.state line ++ rule.prompt y) step.next_is ∙ sym (replies_one rule at.state line going) ∙ ap (replies rule at.state) (sym last_one)) step.wrote;
+      text = step.text ++ rule.prompt x';
+      said = let P : List (List ℕ) → Type 0 = λ ls. Prints rule at.state ls (step.text ++ rule.prompt x') x' in subst P (sym last_one) (prints_one rule at.state x' line step.text going step.replies);
+      wrote = step.wrote;
     }
 
     -- the talk halts at the last line
@@ -199,13 +208,16 @@ module _ {X : Type 0} (rule : Rule X) where
     breaks_last Stops stop =
         let one : line ∷ [] ≡ lines_from at.fresh (at.pending ++ []) = sym last_one ∙ ap (lines_from at.fresh) (sym (append-nil at.pending)) in
         elim stop [
-          | inl s ↦ record { done = []; more = line ∷ []; cut = one; left = inr (line, [], refl, s.0); wrote = front_all before now [] s.1 }
+          | inl s ↦ record { done = []; more = line ∷ []; cut = one; text = []; held = at.state; said = (refl, refl); left = inr (line, [], refl, s.0); wrote = front_all before now [] s.1 }
           | inr s ↦ record {
             done = line ∷ [];
             more = [];
             cut = one;
-            left = inl (s.0 ∙ sym (after_one rule at.state line going));
-            wrote = front_is before now _ _ (ap (λ y. rule.reply at.state line ++ rule.prompt y) s.0 ∙ sym (replies_one rule at.state line going)) s.1;
+            text = s.0 ++ rule.prompt x';
+            held = x';
+            said = prints_one rule at.state x' line s.0 going s.1;
+            left = inl refl;
+            wrote = s.2;
           }
         ]
 

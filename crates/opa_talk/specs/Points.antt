@@ -11,7 +11,7 @@ use Rattle.opa_talk.specs.declared.feed.Turn.TheVariants as turn
 use Rattle.opa_talk.specs.declared.feed.Ending.{Ending}
 use Rattle.opa_talk.specs.declared.feed.Ending.TheVariants as ending
 use Rattle.opa_talk.specs.Lines.{lines_from, IsPart, EndsLine}
-use Rattle.opa_talk.specs.Transcript.{Rule, IsGoing, IsOver, replies, after}
+use Rattle.opa_talk.specs.Transcript.{Rule, IsGoing, IsOver, Prints}
 use Rattle.opa_talk.specs.Talk.{LeftAt}
 
 -- where a talk stands: what is held, the bytes since the last line feed, and whether no line feed was read yet
@@ -34,16 +34,20 @@ pub record CarriesOut {X : Type 0} (rule : Rule X) (old new : Point X) (bytes : 
   pub ends : EndsLine whole
   pub part : IsPart new.pending
   pub fresh : new.fresh ≡ (old.fresh && is_empty whole)
-  pub state : new.state ≡ after rule old.state (lines_from old.fresh whole)
-  pub wrote : Appends before now (replies rule old.state (lines_from old.fresh whole))
+  pub text : List ℕ
+  pub said : Prints rule old.state (lines_from old.fresh whole) text new.state
+  pub wrote : Appends before now text
 
 -- The talk halts among the lines of the bytes.
 pub record Breaks {X : Type 0} (rule : Rule X) (Stops : X → List ℕ → X → Type 0) (old : Point X) (x' : X) (bytes : List ℕ) (before now : Option (List ℕ)) : Type 0 where
   pub done : List (List ℕ)
   pub more : List (List ℕ)
   pub cut : done ++ more ≡ lines_from old.fresh (old.pending ++ bytes)
-  pub left : LeftAt Stops (after rule old.state done) more x'
-  pub wrote : AppendsFront before now (replies rule old.state done)
+  pub text : List ℕ
+  pub held : X
+  pub said : Prints rule old.state done text held
+  pub left : LeftAt Stops held more x'
+  pub wrote : AppendsFront before now text
 
 -- the prompt was written
 pub record Asks {X : Type 0} (rule : Rule X) (x : X) (over : Bool) (before now : Option (List ℕ)) : Type 0 where
@@ -52,13 +56,14 @@ pub record Asks {X : Type 0} (rule : Rule X) (x : X) (over : Bool) (before now :
 
 -- a line was carried out, and what it prints was written with the prompt after it
 pub record CarriesLine {X : Type 0} (rule : Rule X) (x x' : X) (line : List ℕ) (over : Bool) (before now : Option (List ℕ)) : Type 0 where
-  pub next_is : x' ≡ rule.next x line
+  pub text : List ℕ
+  pub replies : rule.Replies x line text x'
   pub over_is : over ≡ rule.is_over x'
-  pub wrote : Appends before now (rule.reply x line ++ rule.prompt x')
+  pub wrote : Appends before now (text ++ rule.prompt x')
 
 -- the reply to a line halts and writes nothing, or it is carried out and a front of what it prints was written
 abbrev pub StopsAt : {X : Type 0} → Rule X → (X → List ℕ → X → Type 0) → X → X → List ℕ → Option (List ℕ) → Option (List ℕ) → Type 0
-StopsAt rule Stops x x' line before now = (Stops x line x' × Appends before now []) ⊎ ((x' ≡ rule.next x line) × AppendsFront before now (rule.reply x line ++ rule.prompt x'))
+StopsAt rule Stops x x' line before now = (Stops x line x' × Appends before now []) ⊎ ((text : List ℕ) × rule.Replies x line text x' × AppendsFront before now (text ++ rule.prompt x'))
 
 -- A front of the bytes was carried out, after which no line is taken any more.
 pub record EndsWithin {X : Type 0} (rule : Rule X) (old new : Point X) (bytes : List ℕ) (before now : Option (List ℕ)) : Type 0 where
@@ -108,8 +113,9 @@ Probes left left' false = (read : List ℕ) × Consumes left left' read × (leng
 
 -- The last line, which no line feed ends, was carried out if it isn't empty.
 pub record Finishes {X : Type 0} (rule : Rule X) (at : Point X) (x' : X) (before now : Option (List ℕ)) : Type 0 where
-  pub state : x' ≡ after rule at.state (lines_from at.fresh at.pending)
-  pub wrote : Appends before now (replies rule at.state (lines_from at.fresh at.pending))
+  pub text : List ℕ
+  pub said : Prints rule at.state (lines_from at.fresh at.pending) text x'
+  pub wrote : Appends before now text
 
 -- nothing was read
 abbrev pub fresh_point : {X : Type 0} → X → Point X
@@ -120,9 +126,10 @@ pub record Feeds {X : Type 0} (rule : Rule X) (at : Point X) (x' : X) (most : �
   pub read : List ℕ
   pub took : Consumes left left' read
   pub within : length read ≤ most
-  pub state : x' ≡ after rule at.state (lines_from at.fresh (at.pending ++ read))
-  pub wrote : Appends before now (replies rule at.state (lines_from at.fresh (at.pending ++ read)))
-  pub ended : IsAtEnd left' ⊎ (IsOver rule x' × ((more : List ℕ) → replies rule at.state (lines_from at.fresh (at.pending ++ (read ++ more))) ≡ replies rule at.state (lines_from at.fresh (at.pending ++ read))))
+  pub text : List ℕ
+  pub said : Prints rule at.state (lines_from at.fresh (at.pending ++ read)) text x'
+  pub wrote : Appends before now text
+  pub ended : IsAtEnd left' ⊎ (IsOver rule x' × ((more : List ℕ) → Prints rule at.state (lines_from at.fresh (at.pending ++ (read ++ more))) text x'))
 
 -- where the talk halts from a point on
 abbrev pub FeedBreaksAt : {X : Type 0} → Rule X → (X → List ℕ → X → Type 0) → Point X → Point X → ℕ → List ℕ → Option (List ℕ) → Option (List ℕ) → Halt → Type 0

@@ -6,17 +6,12 @@ use Rattle.opa_io.specs.Outside.{AppendsFront}
 use Rattle.opa_talk.specs.declared.halt.Halt.{Halt}
 use Rattle.opa_talk.specs.declared.halt.Halt.TheVariants as halt
 use Rattle.opa_talk.specs.Lines.{input_lines, IsWhole}
-use Rattle.opa_talk.specs.Transcript.{Rule, IsGoing, IsOver, transcript, after}
+use Rattle.opa_talk.specs.Transcript.{Rule, IsGoing, IsOver, IsTranscript}
 
 -- this stands before the next line
 pub record IsPrompt {X : Type 0} (rule : Rule X) (x : X) (text : List ℕ) (over : Bool) : Type 0 where
   pub text_is : text ≡ rule.prompt x
   pub over_is : over ≡ rule.is_over x
-
--- a line was carried out, and this is what it prints
-pub record Replies {X : Type 0} (rule : Rule X) (x x' : X) (line text : List ℕ) : Type 0 where
-  pub text_is : text ≡ rule.reply x line
-  pub next_is : x' ≡ rule.next x line
 
 -- What is held where a talk halts after lines: what they leave, or what the reply to the next line may leave.
 abbrev pub LeftAt : {X : Type 0} → (X → List ℕ → X → Type 0) → X → List (List ℕ) → X → Type 0
@@ -27,29 +22,34 @@ pub record Halted {X : Type 0} (rule : Rule X) (Stops : X → List ℕ → X →
   pub done : List (List ℕ)
   pub more : List (List ℕ)
   pub cut : done ++ more ≡ lines
-  pub left : LeftAt Stops (after rule x done) more x'
-  pub wrote : AppendsFront before now (transcript rule x done)
+  pub text : List ℕ
+  pub held : X
+  pub said : IsTranscript rule x done text held
+  pub left : LeftAt Stops held more x'
+  pub wrote : AppendsFront before now text
 
 -- The lines whose line feed is among the bytes were carried out, their whole transcript was written, and the talk isn't over.
 pub record Paused {X : Type 0} (rule : Rule X) (x x' : X) (bytes : List ℕ) (before now : Option (List ℕ)) : Type 0 where
   pub whole : List ℕ
   pub is_whole : IsWhole whole bytes
-  pub state : x' ≡ after rule x (input_lines whole)
-  pub wrote : Appends before now (transcript rule x (input_lines whole))
+  pub text : List ℕ
+  pub said : IsTranscript rule x (input_lines whole) text x'
+  pub wrote : Appends before now text
   pub going : IsGoing rule x'
 
 -- what ends a talk: the input is at its end, or no line is taken any more, whatever bytes come
-abbrev pub IsEnded : {X : Type 0} → Rule X → X → X → List ℕ → Option (List ℕ) → Type 0
-IsEnded rule x x' read left = IsAtEnd left ⊎ (IsOver rule x' × ((more : List ℕ) → transcript rule x (input_lines (read ++ more)) ≡ transcript rule x (input_lines read)))
+abbrev pub IsEnded : {X : Type 0} → Rule X → X → X → List ℕ → List ℕ → Option (List ℕ) → Type 0
+IsEnded rule x x' read text left = IsAtEnd left ⊎ (IsOver rule x' × ((more : List ℕ) → IsTranscript rule x (input_lines (read ++ more)) text x'))
 
 -- The input was read up to where the talk ends, at most so many bytes of it, and its transcript was written.
 pub record Converses {X : Type 0} (rule : Rule X) (x x' : X) (most : ℕ) (left left' before now : Option (List ℕ)) : Type 0 where
   pub read : List ℕ
   pub took : Consumes left left' read
   pub within : length read ≤ most
-  pub state : x' ≡ after rule x (input_lines read)
-  pub wrote : Appends before now (transcript rule x (input_lines read))
-  pub ended : IsEnded rule x x' read left'
+  pub text : List ℕ
+  pub said : IsTranscript rule x (input_lines read) text x'
+  pub wrote : Appends before now text
+  pub ended : IsEnded rule x x' read text left'
 
 -- What was read, written and left where a talk halts: a source that fails, and an input that is too long, leave the lines
 -- carried out whose line feed was read, of a too long input among the most bytes that are read.

@@ -1,18 +1,16 @@
--- What a talk prints. A rule says what stands before a line, when no line is taken any more, what a line prints, and what
--- is held after it; a transcript is the fold of a rule over lines.
-use Rattle.std.specs.Prelude.{ℕ, ◌≡◌, Bool, true, false, List, [], ◌∷◌, ◌++◌, if◌then◌else◌}
+-- What a talk prints. A rule says what stands before a line, when no line is taken any more, and what a line may print and
+-- leave; a transcript is what lines print, one after another.
+use Rattle.std.specs.Prelude.{ℕ, ◌≡◌, ◌⊎◌, Bool, true, false, List, [], ◌∷◌, ◌++◌}
 use Rattle.std.specs.Str.Lines.{lines}
 use Rattle.opa_talk.specs.Lines.{input_lines}
 
-pub record Rule (X : Type 0) : Type 0 where
+pub record Rule (X : Type 0) : Type 1 where
   -- what stands before the next line
   pub prompt : X → List ℕ
   -- no line is taken any more
   pub is_over : X → Bool
-  -- what a line prints
-  pub reply : X → List ℕ → List ℕ
-  -- what is held after a line
-  pub next : X → List ℕ → X
+  -- a line prints this, and this is held after it
+  pub Replies : X → List ℕ → List ℕ → X → Type 0
 
 -- a further line is taken
 abbrev pub IsGoing : {X : Type 0} → Rule X → X → Type 0
@@ -22,23 +20,29 @@ IsGoing rule x = rule.is_over x ≡ false
 abbrev pub IsOver : {X : Type 0} → Rule X → X → Type 0
 IsOver rule x = rule.is_over x ≡ true
 
--- what lines print, one after another, each with the prompt that follows it
-abbrev pub replies : {X : Type 0} → Rule X → X → List (List ℕ) → List ℕ
-replies rule x [] = []
-replies rule x (line ∷ more) = if rule.is_over x then [] else rule.reply x line ++ (rule.prompt (rule.next x line) ++ replies rule (rule.next x line) more)
+-- Lines print this, one after another, each with the prompt that follows it, and leave this. Where no line is taken any
+-- more they print nothing.
+abbrev pub Prints : {X : Type 0} → Rule X → X → List (List ℕ) → List ℕ → X → Type 0
+Prints rule x [] text y = (text ≡ []) × (y ≡ x)
+Prints {X} rule x (line ∷ more) text y =
+    (IsOver rule x × (text ≡ []) × (y ≡ x))
+    ⊎ (IsGoing rule x × ((said : List ℕ) × (next : X) × (rest : List ℕ) × rule.Replies x line said next × Prints rule next more rest y × (text ≡ said ++ (rule.prompt next ++ rest))))
 
 -- the first prompt, and what the lines print
-abbrev pub transcript : {X : Type 0} → Rule X → X → List (List ℕ) → List ℕ
-transcript rule x more = rule.prompt x ++ replies rule x more
+abbrev pub IsTranscript : {X : Type 0} → Rule X → X → List (List ℕ) → List ℕ → X → Type 0
+IsTranscript rule x more text y = (rest : List ℕ) × Prints rule x more rest y × (text ≡ rule.prompt x ++ rest)
 
--- what is held after lines
-abbrev pub after : {X : Type 0} → Rule X → X → List (List ℕ) → X
-after rule x [] = x
-after rule x (line ∷ more) = if rule.is_over x then x else after rule (rule.next x line) more
+-- where this is so, a line prints one text, one thing is held after it, and it is so again
+abbrev pub IsDecided : {X : Type 0} → Rule X → (X → Bool) → Type 0
+IsDecided {X} rule is_so = (x y y' : X) (line said said' : List ℕ) → is_so x ≡ true → rule.Replies x line said y → rule.Replies x line said' y' → (said ≡ said') × (y ≡ y') × (is_so y ≡ true)
 
--- Cutting an input at any line feed, its transcript is that of the first part, and then the replies to the rest from what
--- the first part leaves.
+-- Cutting an input at any line feed, its transcript is that of the first part, and then what the rest prints from what the
+-- first part leaves.
 abbrev pub CutsAnywhere : {X : Type 0} → Rule X → Type 0
-CutsAnywhere {X} rule = (x : X) (front rest : List ℕ) →
-    transcript rule x (input_lines (front ++ 10 ∷ rest))
-    ≡ transcript rule x (input_lines (front ++ 10 ∷ [])) ++ replies rule (after rule x (input_lines (front ++ 10 ∷ []))) (lines rest)
+CutsAnywhere {X} rule = (x y : X) (front rest text : List ℕ) → IsTranscript rule x (input_lines (front ++ 10 ∷ rest)) text y
+    → (first : List ℕ) × (held : X) × (second : List ℕ) × IsTranscript rule x (input_lines (front ++ 10 ∷ [])) first held × Prints rule held (lines rest) second y × (text ≡ first ++ second)
+
+-- Where each line prints one text, lines have one transcript, and leave one thing.
+abbrev pub HasOneTranscript : {X : Type 0} → Rule X → Type 0
+HasOneTranscript {X} rule = (is_so : X → Bool) → IsDecided rule is_so
+    → (x y y' : X) (more : List (List ℕ)) (text text' : List ℕ) → is_so x ≡ true → IsTranscript rule x more text y → IsTranscript rule x more text' y' → (text ≡ text') × (y ≡ y')

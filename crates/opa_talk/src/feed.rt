@@ -4,14 +4,14 @@ ghost use Rattle.std.specs.Io.KnownBytes.{Keeps};
 ghost use Rattle.opa_io.specs.Outside.{Reads, HasCause};
 ghost use Rattle.opa_talk.specs.Halt.{IsCause};
 ghost use Rattle.opa_talk.specs.Lines.{IsPart};
-ghost use Rattle.opa_talk.specs.Transcript.{IsGoing, CutsAnywhere};
+ghost use Rattle.opa_talk.specs.Transcript.{IsGoing, CutsAnywhere, HasOneTranscript};
 ghost use Rattle.opa_talk.specs.Talk.{Converses, Halts};
 ghost use Rattle.opa_talk.specs.Points.{point_of, fresh_point, Probes, TakesTurn, TakesLines, BreaksPart, Feeds, FeedBreaks};
 
 use crate::halt::Halt;
 use crate::replier::Replier;
 use crate::talk::{Pending, ask, finish, take_piece};
-use opa_io::{Failed, Sink, Source};
+use opa_io::{Failed, Shelf, Sink, Source};
 use std::alloc::{AllocError, Global};
 
 /// How many bytes an input may have.
@@ -48,24 +48,25 @@ fn read_into<S: Source>(input: &mut S, buf: &mut Vec<u8>) -> Result<usize, Faile
 }
 
 /// Reads a piece of the input, and carries out the lines that are whole then.
-fn take_turn<T: Replier, S: Source, K: Sink>(
+fn take_turn<T: Replier, F: Shelf, S: Source, K: Sink>(
     alloc: Global,
     replier: &mut T,
+    shelf: &mut F,
     pending: &mut Pending,
     buf: &mut Vec<u8>,
     input: &mut S,
     out: &mut K,
 ) -> Result<Turn, Halt>
-    requires going { IsGoing T.rule (T.state replier.old) }
+    requires going { IsGoing T.rule (T.state replier.old, F.files shelf.old) }
     requires part { IsPart pending.old.bytes.items }
     requires room { 0 < vec_len buf.old }
-    ensures ok { IfOk result (TakesTurn T.rule (point_of (T.state replier.old) pending.old) (point_of (T.state replier.new) pending.new) (vec_len buf.old) (S.left input.old) (S.left input.new) (K.written out.old) (K.written out.new)) }
-    ensures err { IfErr result (BreaksPart T.rule T.Stops (point_of (T.state replier.old) pending.old) (point_of (T.state replier.new) pending.new) (vec_len buf.old) (S.left input.old) (S.left input.new) (K.written out.old) (K.written out.new)) }
-    ensures cause { IfErr result (IsCause (T.take_faults replier.old) (T.take_faults replier.new) (T.keep_faults replier.old) (T.keep_faults replier.new) (K.faults out.old) (K.faults out.new) (S.faults input.old) (S.faults input.new)) }
+    ensures ok { IfOk result (TakesTurn T.rule (point_of (T.state replier.old, F.files shelf.old) pending.old) (point_of (T.state replier.new, F.files shelf.new) pending.new) (vec_len buf.old) (S.left input.old) (S.left input.new) (K.written out.old) (K.written out.new)) }
+    ensures err { IfErr result (BreaksPart T.rule T.Stops (point_of (T.state replier.old, F.files shelf.old) pending.old) (point_of (T.state replier.new, F.files shelf.new) pending.new) (vec_len buf.old) (S.left input.old) (S.left input.new) (K.written out.old) (K.written out.new)) }
+    ensures cause { IfErr result (IsCause (F.take_faults shelf.old) (F.take_faults shelf.new) (F.keep_faults shelf.old) (F.keep_faults shelf.new) (K.faults out.old) (K.faults out.new) (S.faults input.old) (S.faults input.new)) }
     ensures later_input { S.faults input.old ≤ S.faults input.new }
     ensures later { K.faults out.old ≤ K.faults out.new }
-    ensures later_take { T.take_faults replier.old ≤ T.take_faults replier.new }
-    ensures later_keep { T.keep_faults replier.old ≤ T.keep_faults replier.new }
+    ensures later_take { F.take_faults shelf.old ≤ F.take_faults shelf.new }
+    ensures later_keep { F.keep_faults shelf.old ≤ F.keep_faults shelf.new }
     ensures room { vec_len buf.new ≡ vec_len buf.old }
 {
     let Ok(count) = read_into(input, buf) else {
@@ -74,7 +75,7 @@ fn take_turn<T: Replier, S: Source, K: Sink>(
     if count == 0 {
         return Ok(Turn::End);
     }
-    let over = take_piece(alloc, replier, pending, &buf[..count], out)?;
+    let over = take_piece(alloc, replier, shelf, pending, &buf[..count], out)?;
     if over {
         Ok(Turn::Over)
     } else {
@@ -83,29 +84,30 @@ fn take_turn<T: Replier, S: Source, K: Sink>(
 }
 
 /// Reads the input up to its end, or to the most that is read, and carries out each line that is whole.
-fn take_lines<T: Replier, S: Source, K: Sink>(
+fn take_lines<T: Replier, F: Shelf, S: Source, K: Sink>(
     alloc: Global,
     replier: &mut T,
+    shelf: &mut F,
     pending: &mut Pending,
     buf: &mut Vec<u8>,
     input: &mut S,
     out: &mut K,
 ) -> Result<Ending, Halt>
-    requires going { IsGoing T.rule (T.state replier.old) }
+    requires going { IsGoing T.rule (T.state replier.old, F.files shelf.old) }
     requires part { IsPart pending.old.bytes.items }
     requires room { 0 < vec_len buf.old }
-    ensures ok { IfOk result (TakesLines T.rule (point_of (T.state replier.old) pending.old) (point_of (T.state replier.new) pending.new) LIMIT (S.left input.old) (S.left input.new) (K.written out.old) (K.written out.new)) }
-    ensures err { IfErr result (BreaksPart T.rule T.Stops (point_of (T.state replier.old) pending.old) (point_of (T.state replier.new) pending.new) LIMIT (S.left input.old) (S.left input.new) (K.written out.old) (K.written out.new)) }
-    ensures cause { IfErr result (IsCause (T.take_faults replier.old) (T.take_faults replier.new) (T.keep_faults replier.old) (T.keep_faults replier.new) (K.faults out.old) (K.faults out.new) (S.faults input.old) (S.faults input.new)) }
+    ensures ok { IfOk result (TakesLines T.rule (point_of (T.state replier.old, F.files shelf.old) pending.old) (point_of (T.state replier.new, F.files shelf.new) pending.new) LIMIT (S.left input.old) (S.left input.new) (K.written out.old) (K.written out.new)) }
+    ensures err { IfErr result (BreaksPart T.rule T.Stops (point_of (T.state replier.old, F.files shelf.old) pending.old) (point_of (T.state replier.new, F.files shelf.new) pending.new) LIMIT (S.left input.old) (S.left input.new) (K.written out.old) (K.written out.new)) }
+    ensures cause { IfErr result (IsCause (F.take_faults shelf.old) (F.take_faults shelf.new) (F.keep_faults shelf.old) (F.keep_faults shelf.new) (K.faults out.old) (K.faults out.new) (S.faults input.old) (S.faults input.new)) }
     ensures later_input { S.faults input.old ≤ S.faults input.new }
     ensures later { K.faults out.old ≤ K.faults out.new }
-    ensures later_take { T.take_faults replier.old ≤ T.take_faults replier.new }
-    ensures later_keep { T.keep_faults replier.old ≤ T.keep_faults replier.new }
+    ensures later_take { F.take_faults shelf.old ≤ F.take_faults shelf.new }
+    ensures later_keep { F.keep_faults shelf.old ≤ F.keep_faults shelf.new }
 {
     let mut left = LIMIT;
     while left > 0 {
         buf.truncate(left);
-        match take_turn(alloc, replier, pending, buf, input, out)? {
+        match take_turn(alloc, replier, shelf, pending, buf, input, out)? {
             Turn::End => return Ok(Ending::End),
             Turn::Over => return Ok(Ending::Over),
             Turn::Read(count) => left -= count,
@@ -132,34 +134,35 @@ fn buffer(alloc: Global) -> Result<Vec<u8>, AllocError>
 }
 
 /// Reads the input from a point on to where the talk ends, and writes what its lines print.
-fn go_on<T: Replier, S: Source, K: Sink>(
+fn go_on<T: Replier, F: Shelf, S: Source, K: Sink>(
     alloc: Global,
     replier: &mut T,
+    shelf: &mut F,
     pending: &mut Pending,
     buf: &mut Vec<u8>,
     input: &mut S,
     out: &mut K,
 ) -> Result<(), Halt>
-    requires going { IsGoing T.rule (T.state replier.old) }
+    requires going { IsGoing T.rule (T.state replier.old, F.files shelf.old) }
     requires part { IsPart pending.old.bytes.items }
     requires room { 0 < vec_len buf.old }
-    ensures ok { OnOk result (Feeds T.rule (point_of (T.state replier.old) pending.old) (T.state replier.new) LIMIT (S.left input.old) (S.left input.new) (K.written out.old) (K.written out.new)) }
-    ensures err { IfErr result (FeedBreaks T.rule T.Stops (point_of (T.state replier.old) pending.old) (point_of (T.state replier.new) pending.new) LIMIT (S.left input.old) (S.left input.new) (K.written out.old) (K.written out.new)) }
-    ensures cause { IfErr result (IsCause (T.take_faults replier.old) (T.take_faults replier.new) (T.keep_faults replier.old) (T.keep_faults replier.new) (K.faults out.old) (K.faults out.new) (S.faults input.old) (S.faults input.new)) }
+    ensures ok { OnOk result (Feeds T.rule (point_of (T.state replier.old, F.files shelf.old) pending.old) (T.state replier.new, F.files shelf.new) LIMIT (S.left input.old) (S.left input.new) (K.written out.old) (K.written out.new)) }
+    ensures err { IfErr result (FeedBreaks T.rule T.Stops (point_of (T.state replier.old, F.files shelf.old) pending.old) (point_of (T.state replier.new, F.files shelf.new) pending.new) LIMIT (S.left input.old) (S.left input.new) (K.written out.old) (K.written out.new)) }
+    ensures cause { IfErr result (IsCause (F.take_faults shelf.old) (F.take_faults shelf.new) (F.keep_faults shelf.old) (F.keep_faults shelf.new) (K.faults out.old) (K.faults out.new) (S.faults input.old) (S.faults input.new)) }
     ensures later_input { S.faults input.old ≤ S.faults input.new }
     ensures later { K.faults out.old ≤ K.faults out.new }
-    ensures later_take { T.take_faults replier.old ≤ T.take_faults replier.new }
-    ensures later_keep { T.keep_faults replier.old ≤ T.keep_faults replier.new }
+    ensures later_take { F.take_faults shelf.old ≤ F.take_faults shelf.new }
+    ensures later_keep { F.keep_faults shelf.old ≤ F.keep_faults shelf.new }
 {
-    match take_lines(alloc, replier, pending, buf, input, out)? {
+    match take_lines(alloc, replier, shelf, pending, buf, input, out)? {
         Ending::Over => Ok(()),
-        Ending::End => finish(alloc, replier, pending, out),
+        Ending::End => finish(alloc, replier, shelf, pending, out),
         Ending::Full => {
             let Ok(ended) = is_at_end(input) else {
                 return Err(Halt::Input);
             };
             if ended {
-                finish(alloc, replier, pending, out)
+                finish(alloc, replier, shelf, pending, out)
             } else {
                 Err(Halt::Limit)
             }
@@ -168,33 +171,36 @@ fn go_on<T: Replier, S: Source, K: Sink>(
 }
 
 /// Reads the input to where the talk ends, and writes its transcript.
-pub fn converse<T: Replier, S: Source, K: Sink>(
+pub fn converse<T: Replier, F: Shelf, S: Source, K: Sink>(
     alloc: Global,
     replier: &mut T,
+    shelf: &mut F,
     input: &mut S,
     out: &mut K,
 ) -> Result<(), Halt>
-    ensures ok { OnOk result (Converses T.rule (T.state replier.old) (T.state replier.new) LIMIT (S.left input.old) (S.left input.new) (K.written out.old) (K.written out.new)) }
-    ensures err { IfErr result (Halts T.rule T.Stops (T.state replier.old) (T.state replier.new) LIMIT (S.left input.old) (S.left input.new) (K.written out.old) (K.written out.new)) }
-    ensures cause { IfErr result (IsCause (T.take_faults replier.old) (T.take_faults replier.new) (T.keep_faults replier.old) (T.keep_faults replier.new) (K.faults out.old) (K.faults out.new) (S.faults input.old) (S.faults input.new)) }
+    ensures ok { OnOk result (Converses T.rule (T.state replier.old, F.files shelf.old) (T.state replier.new, F.files shelf.new) LIMIT (S.left input.old) (S.left input.new) (K.written out.old) (K.written out.new)) }
+    ensures err { IfErr result (Halts T.rule T.Stops (T.state replier.old, F.files shelf.old) (T.state replier.new, F.files shelf.new) LIMIT (S.left input.old) (S.left input.new) (K.written out.old) (K.written out.new)) }
+    ensures cause { IfErr result (IsCause (F.take_faults shelf.old) (F.take_faults shelf.new) (F.keep_faults shelf.old) (F.keep_faults shelf.new) (K.faults out.old) (K.faults out.new) (S.faults input.old) (S.faults input.new)) }
     ensures later_input { S.faults input.old ≤ S.faults input.new }
     ensures later { K.faults out.old ≤ K.faults out.new }
-    ensures later_take { T.take_faults replier.old ≤ T.take_faults replier.new }
-    ensures later_keep { T.keep_faults replier.old ≤ T.keep_faults replier.new }
+    ensures later_take { F.take_faults shelf.old ≤ F.take_faults shelf.new }
+    ensures later_keep { F.keep_faults shelf.old ≤ F.keep_faults shelf.new }
 {
     let mut pending = Pending {
         bytes: Vec::new(alloc),
         fresh: true,
     };
     let mut buf = buffer(alloc)?;
-    let over = ask(alloc, replier, out)?;
+    let over = ask(alloc, replier, shelf, out)?;
     if over {
         return Ok(());
     }
-    go_on(alloc, replier, &mut pending, &mut buf, input, out)
+    go_on(alloc, replier, shelf, &mut pending, &mut buf, input, out)
 }
 
-/// A law over the transcripts of what answers lines: an input may be cut at any line feed.
+/// Laws over the transcripts of what answers lines: an input may be cut at any line feed, and where each line prints one text,
+/// lines have one transcript.
 pub fn cut_anywhere<T: Replier>()
-    ensures { CutsAnywhere T.rule }
+    ensures anywhere { CutsAnywhere T.rule }
+    ensures one { HasOneTranscript T.rule }
 {}

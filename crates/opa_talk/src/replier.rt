@@ -1,11 +1,12 @@
 // What answers lines.
-ghost use Rattle.std.specs.Prelude.{◌≡◌, ◌≤◌, List, ℕ, IfOk, IfErr, OnErr};
+ghost use Rattle.std.specs.Prelude.{◌≡◌, ◌≤◌, List, ℕ, Option, IfOk, IfErr, OnErr};
+ghost use Rattle.opa_io.specs.Outside.{Files};
 ghost use Rattle.opa_talk.specs.Halt.{IsReplyCause};
 ghost use Rattle.opa_talk.specs.Transcript.{Rule};
-ghost use Rattle.opa_talk.specs.Talk.{IsPrompt, Replies};
+ghost use Rattle.opa_talk.specs.Talk.{IsPrompt};
 
 use crate::halt::Halt;
-use opa_io::NoMemory;
+use opa_io::{NoMemory, Shelf};
 use std::alloc::Global;
 
 /// What stands before a line, and whether no line is taken any more.
@@ -15,35 +16,34 @@ pub struct Prompt {
     pub is_over: bool,
 }
 
-/// What answers lines, one after another.
+/// What answers lines, one after another, beside a shelf of files.
 pub trait Replier {
-    /// What is held between two lines.
+    /// What is held between two lines, but for the files.
     ghost State: { Type 0 };
 
-    /// What is printed, and what is held afterwards.
-    ghost rule: { Rule State };
+    /// What may be printed, and what is held afterwards.
+    ghost rule: { Rule (State × Option Files) };
 
     /// What may be held where the reply to a line halts.
-    ghost Stops: { State → List ℕ → State → Type 0 };
+    ghost Stops: { State × Option Files → List ℕ → State × Option Files → Type 0 };
 
     /// What is held now.
     ghost state: { Self → State };
 
-    /// How often taking a file has failed.
-    ghost take_faults: { Self → ℕ };
-
-    /// How often keeping a file has failed.
-    ghost keep_faults: { Self → ℕ };
-
-    /// What stands before the next line.
+    /// What stands before the next line, whatever the files.
     fn prompt(&self, alloc: Global) -> Result<Prompt, NoMemory>
-        ensures { IfOk result (λ prompt. IsPrompt rule (state self.now) prompt.text.items prompt.is_over) };
+        ensures { IfOk result (λ prompt. (files : Option Files) → IsPrompt rule (state self.now, files) prompt.text.items prompt.is_over) };
 
     /// Carries out a line, and answers what it prints.
-    fn reply(&mut self, alloc: Global, line: &[u8]) -> Result<Vec<u8>, Halt>
-        ensures ok { IfOk result (λ text. Replies rule (state self.old) (state self.new) line.now text.items) }
-        ensures err { OnErr result (Stops (state self.old) line.now (state self.new)) }
-        ensures cause { IfErr result (IsReplyCause (take_faults self.old) (take_faults self.new) (keep_faults self.old) (keep_faults self.new)) }
-        ensures later_take { take_faults self.old ≤ take_faults self.new }
-        ensures later_keep { keep_faults self.old ≤ keep_faults self.new };
+    fn reply<F: Shelf>(
+        &mut self,
+        alloc: Global,
+        shelf: &mut F,
+        line: &[u8],
+    ) -> Result<Vec<u8>, Halt>
+        ensures ok { IfOk result (λ text. rule.Replies (state self.old, F.files shelf.old) line.now text.items (state self.new, F.files shelf.new)) }
+        ensures err { OnErr result (Stops (state self.old, F.files shelf.old) line.now (state self.new, F.files shelf.new)) }
+        ensures cause { IfErr result (IsReplyCause (F.take_faults shelf.old) (F.take_faults shelf.new) (F.keep_faults shelf.old) (F.keep_faults shelf.new)) }
+        ensures later_take { F.take_faults shelf.old ≤ F.take_faults shelf.new }
+        ensures later_keep { F.keep_faults shelf.old ≤ F.keep_faults shelf.new };
 }

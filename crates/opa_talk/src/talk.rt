@@ -9,7 +9,7 @@ ghost use Rattle.opa_talk.specs.Points.{point_of, Asks, CarriesLine, CarriesOut,
 use crate::halt::Halt;
 use crate::line::{without_mark, without_return};
 use crate::replier::Replier;
-use opa_io::{Sink, write_all_of};
+use opa_io::{Shelf, Sink, write_all_of};
 use std::alloc::Global;
 
 /// The bytes since the last line feed, and whether no line feed was read yet.
@@ -51,9 +51,14 @@ fn say<K: Sink>(out: &mut K, text: &[u8]) -> Result<(), Halt>
 }
 
 /// Writes what stands before the next line, and answers whether no line is taken any more.
-pub fn ask<T: Replier, K: Sink>(alloc: Global, replier: &T, out: &mut K) -> Result<bool, Halt>
-    ensures ok { IfOk result (λ over. Asks T.rule (T.state replier.now) over (K.written out.old) (K.written out.new)) }
-    ensures err { OnErr result (AppendsFront (K.written out.old) (K.written out.new) (T.rule.prompt (T.state replier.now))) }
+pub fn ask<T: Replier, F: Shelf, K: Sink>(
+    alloc: Global,
+    replier: &T,
+    shelf: &F,
+    out: &mut K,
+) -> Result<bool, Halt>
+    ensures ok { IfOk result (λ over. Asks T.rule (T.state replier.now, F.files shelf.now) over (K.written out.old) (K.written out.new)) }
+    ensures err { OnErr result (AppendsFront (K.written out.old) (K.written out.new) (T.rule.prompt (T.state replier.now, F.files shelf.now))) }
     ensures cause { IfErr result (λ halt. IsLineCause 0 0 0 0 (K.faults out.old) (K.faults out.new) halt) }
     ensures later { K.faults out.old ≤ K.faults out.new }
 {
@@ -64,70 +69,73 @@ pub fn ask<T: Replier, K: Sink>(alloc: Global, replier: &T, out: &mut K) -> Resu
 
 /// Carries out a line, and writes what it prints and what stands before the next one. It answers whether no line is taken
 /// any more.
-fn carry_out<T: Replier, K: Sink>(
+fn carry_out<T: Replier, F: Shelf, K: Sink>(
     alloc: Global,
     replier: &mut T,
+    shelf: &mut F,
     line: &[u8],
     out: &mut K,
 ) -> Result<bool, Halt>
-    ensures ok { IfOk result (λ over. CarriesLine T.rule (T.state replier.old) (T.state replier.new) line.now over (K.written out.old) (K.written out.new)) }
-    ensures err { OnErr result (StopsAt T.rule T.Stops (T.state replier.old) (T.state replier.new) line.now (K.written out.old) (K.written out.new)) }
-    ensures cause { IfErr result (IsLineCause (T.take_faults replier.old) (T.take_faults replier.new) (T.keep_faults replier.old) (T.keep_faults replier.new) (K.faults out.old) (K.faults out.new)) }
+    ensures ok { IfOk result (λ over. CarriesLine T.rule (T.state replier.old, F.files shelf.old) (T.state replier.new, F.files shelf.new) line.now over (K.written out.old) (K.written out.new)) }
+    ensures err { OnErr result (StopsAt T.rule T.Stops (T.state replier.old, F.files shelf.old) (T.state replier.new, F.files shelf.new) line.now (K.written out.old) (K.written out.new)) }
+    ensures cause { IfErr result (IsLineCause (F.take_faults shelf.old) (F.take_faults shelf.new) (F.keep_faults shelf.old) (F.keep_faults shelf.new) (K.faults out.old) (K.faults out.new)) }
     ensures later { K.faults out.old ≤ K.faults out.new }
-    ensures later_take { T.take_faults replier.old ≤ T.take_faults replier.new }
-    ensures later_keep { T.keep_faults replier.old ≤ T.keep_faults replier.new }
+    ensures later_take { F.take_faults shelf.old ≤ F.take_faults shelf.new }
+    ensures later_keep { F.keep_faults shelf.old ≤ F.keep_faults shelf.new }
 {
-    let text = replier.reply(alloc, line)?;
+    let text = replier.reply(alloc, shelf, line)?;
     say(out, &text)?;
-    ask(alloc, replier, out)
+    ask(alloc, replier, shelf, out)
 }
 
 /// Takes the rest of a line, and carries it out.
-fn take_line<T: Replier, K: Sink>(
+fn take_line<T: Replier, F: Shelf, K: Sink>(
     alloc: Global,
     replier: &mut T,
+    shelf: &mut F,
     pending: &mut Pending,
     bytes: &[u8],
     out: &mut K,
 ) -> Result<bool, Halt>
-    requires going { IsGoing T.rule (T.state replier.old) }
+    requires going { IsGoing T.rule (T.state replier.old, F.files shelf.old) }
     requires part { IsPart (pending.old.bytes.items ++ bytes.now) }
-    ensures over { IfOk result (λ over. over ≡ T.rule.is_over (T.state replier.new)) }
-    ensures ok { OnOk result (CarriesOut T.rule (point_of (T.state replier.old) pending.old) (point_of (T.state replier.new) pending.new) (bytes.now ++ 10 ∷ []) (K.written out.old) (K.written out.new)) }
-    ensures err { OnErr result (Breaks T.rule T.Stops (point_of (T.state replier.old) pending.old) (T.state replier.new) (bytes.now ++ 10 ∷ []) (K.written out.old) (K.written out.new)) }
-    ensures cause { IfErr result (IsLineCause (T.take_faults replier.old) (T.take_faults replier.new) (T.keep_faults replier.old) (T.keep_faults replier.new) (K.faults out.old) (K.faults out.new)) }
+    ensures over { IfOk result (λ over. over ≡ T.rule.is_over (T.state replier.new, F.files shelf.new)) }
+    ensures ok { OnOk result (CarriesOut T.rule (point_of (T.state replier.old, F.files shelf.old) pending.old) (point_of (T.state replier.new, F.files shelf.new) pending.new) (bytes.now ++ 10 ∷ []) (K.written out.old) (K.written out.new)) }
+    ensures err { OnErr result (Breaks T.rule T.Stops (point_of (T.state replier.old, F.files shelf.old) pending.old) (T.state replier.new, F.files shelf.new) (bytes.now ++ 10 ∷ []) (K.written out.old) (K.written out.new)) }
+    ensures cause { IfErr result (IsLineCause (F.take_faults shelf.old) (F.take_faults shelf.new) (F.keep_faults shelf.old) (F.keep_faults shelf.new) (K.faults out.old) (K.faults out.new)) }
     ensures later { K.faults out.old ≤ K.faults out.new }
-    ensures later_take { T.take_faults replier.old ≤ T.take_faults replier.new }
-    ensures later_keep { T.keep_faults replier.old ≤ T.keep_faults replier.new }
+    ensures later_take { F.take_faults shelf.old ≤ F.take_faults shelf.new }
+    ensures later_keep { F.keep_faults shelf.old ≤ F.keep_faults shelf.new }
 {
     pending.bytes.extend_from_slice(bytes)?;
     let line = without_return(line_at(pending.fresh, &pending.bytes));
-    let over = carry_out(alloc, replier, line, out)?;
+    let over = carry_out(alloc, replier, shelf, line, out)?;
     pending.bytes.clear();
     pending.fresh = false;
     Ok(over)
 }
 
 /// Takes a piece of the input, and carries out each line that is whole now. It answers whether no line is taken any more.
-pub fn take_piece<T: Replier, K: Sink>(
+pub fn take_piece<T: Replier, F: Shelf, K: Sink>(
     alloc: Global,
     replier: &mut T,
+    shelf: &mut F,
     pending: &mut Pending,
     piece: &[u8],
     out: &mut K,
 ) -> Result<bool, Halt>
-    requires going { IsGoing T.rule (T.state replier.old) }
+    requires going { IsGoing T.rule (T.state replier.old, F.files shelf.old) }
     requires part { IsPart pending.old.bytes.items }
-    ensures ok { IfOk result (TakesPiece T.rule (point_of (T.state replier.old) pending.old) (point_of (T.state replier.new) pending.new) piece.now (K.written out.old) (K.written out.new)) }
-    ensures err { OnErr result (Breaks T.rule T.Stops (point_of (T.state replier.old) pending.old) (T.state replier.new) piece.now (K.written out.old) (K.written out.new)) }
-    ensures cause { IfErr result (IsLineCause (T.take_faults replier.old) (T.take_faults replier.new) (T.keep_faults replier.old) (T.keep_faults replier.new) (K.faults out.old) (K.faults out.new)) }
+    ensures ok { IfOk result (TakesPiece T.rule (point_of (T.state replier.old, F.files shelf.old) pending.old) (point_of (T.state replier.new, F.files shelf.new) pending.new) piece.now (K.written out.old) (K.written out.new)) }
+    ensures err { OnErr result (Breaks T.rule T.Stops (point_of (T.state replier.old, F.files shelf.old) pending.old) (T.state replier.new, F.files shelf.new) piece.now (K.written out.old) (K.written out.new)) }
+    ensures cause { IfErr result (IsLineCause (F.take_faults shelf.old) (F.take_faults shelf.new) (F.keep_faults shelf.old) (F.keep_faults shelf.new) (K.faults out.old) (K.faults out.new)) }
     ensures later { K.faults out.old ≤ K.faults out.new }
-    ensures later_take { T.take_faults replier.old ≤ T.take_faults replier.new }
-    ensures later_keep { T.keep_faults replier.old ≤ T.keep_faults replier.new }
+    ensures later_take { F.take_faults shelf.old ≤ F.take_faults shelf.new }
+    ensures later_keep { F.keep_faults shelf.old ≤ F.keep_faults shelf.new }
 {
     let mut rest = piece;
     while let Some((bytes, after)) = cut(rest) {
-        let over = take_line(alloc, replier, pending, bytes, out)?;
+        let over = take_line(alloc, replier, shelf, pending, bytes, out)?;
         if over {
             return Ok(true);
         }
@@ -138,25 +146,26 @@ pub fn take_piece<T: Replier, K: Sink>(
 }
 
 /// Carries out the last line, which no line feed ends, if it isn't empty.
-pub fn finish<T: Replier, K: Sink>(
+pub fn finish<T: Replier, F: Shelf, K: Sink>(
     alloc: Global,
     replier: &mut T,
+    shelf: &mut F,
     pending: &Pending,
     out: &mut K,
 ) -> Result<(), Halt>
-    requires going { IsGoing T.rule (T.state replier.old) }
+    requires going { IsGoing T.rule (T.state replier.old, F.files shelf.old) }
     requires part { IsPart pending.now.bytes.items }
-    ensures ok { OnOk result (Finishes T.rule (point_of (T.state replier.old) pending.now) (T.state replier.new) (K.written out.old) (K.written out.new)) }
-    ensures err { OnErr result (Breaks T.rule T.Stops (point_of (T.state replier.old) pending.now) (T.state replier.new) [] (K.written out.old) (K.written out.new)) }
-    ensures cause { IfErr result (IsLineCause (T.take_faults replier.old) (T.take_faults replier.new) (T.keep_faults replier.old) (T.keep_faults replier.new) (K.faults out.old) (K.faults out.new)) }
+    ensures ok { OnOk result (Finishes T.rule (point_of (T.state replier.old, F.files shelf.old) pending.now) (T.state replier.new, F.files shelf.new) (K.written out.old) (K.written out.new)) }
+    ensures err { OnErr result (Breaks T.rule T.Stops (point_of (T.state replier.old, F.files shelf.old) pending.now) (T.state replier.new, F.files shelf.new) [] (K.written out.old) (K.written out.new)) }
+    ensures cause { IfErr result (IsLineCause (F.take_faults shelf.old) (F.take_faults shelf.new) (F.keep_faults shelf.old) (F.keep_faults shelf.new) (K.faults out.old) (K.faults out.new)) }
     ensures later { K.faults out.old ≤ K.faults out.new }
-    ensures later_take { T.take_faults replier.old ≤ T.take_faults replier.new }
-    ensures later_keep { T.keep_faults replier.old ≤ T.keep_faults replier.new }
+    ensures later_take { F.take_faults shelf.old ≤ F.take_faults shelf.new }
+    ensures later_keep { F.keep_faults shelf.old ≤ F.keep_faults shelf.new }
 {
     let line = line_at(pending.fresh, &pending.bytes);
     if line.is_empty() {
         return Ok(());
     }
-    carry_out(alloc, replier, line, out)?;
+    carry_out(alloc, replier, shelf, line, out)?;
     Ok(())
 }

@@ -1,7 +1,7 @@
 ghost use Rattle.std.specs.Prelude.{◌≡◌, ℕ, ◌-◌, ◌==◌, ◌++◌, [], ◌∷◌};
 
 use crate::{Halt, Prompt, Replier, converse, cut, cut_anywhere, without_mark, without_return};
-use opa_io::{MemSink, MemSource, NoMemory};
+use opa_io::{MemShelf, MemSink, MemSource, NoMemory, Shelf};
 use std::alloc::Global;
 use std::test::Fail;
 
@@ -14,15 +14,11 @@ struct Echo {
 impl Replier for Echo {
     ghost State = { ℕ };
 
-    ghost rule = { record { prompt = λ n. 62 ∷ 32 ∷ []; is_over = λ n. n == 0; reply = λ n line. line ++ 10 ∷ []; next = λ n line. n - 1 } };
+    ghost rule = { record { prompt = λ x. 62 ∷ 32 ∷ []; is_over = λ x. x.0 == 0; Replies = λ x line text y. (text ≡ line ++ 10 ∷ []) × (y ≡ (x.0 - 1, x.1)) } };
 
     ghost Stops = { λ old line new. new ≡ old };
 
     ghost state = { λ e. e.left };
-
-    ghost take_faults = { λ e. 0 };
-
-    ghost keep_faults = { λ e. 0 };
 
     fn prompt(&self, alloc: Global) -> Result<Prompt, NoMemory> {
         Ok(Prompt {
@@ -31,7 +27,12 @@ impl Replier for Echo {
         })
     }
 
-    fn reply(&mut self, alloc: Global, line: &[u8]) -> Result<Vec<u8>, Halt> {
+    fn reply<F: Shelf>(
+        &mut self,
+        alloc: Global,
+        _shelf: &mut F,
+        line: &[u8],
+    ) -> Result<Vec<u8>, Halt> {
         let mut text = line.to_vec(alloc)?;
         text.push(b'\n')?;
         self.left = self.left.saturating_sub(1);
@@ -53,9 +54,13 @@ fn talks(rt: HostRuntime) -> Result<(), Fail> {
     let alloc = rt.alloc();
     for (left, input, output) in TALKS {
         let mut echo = Echo { left };
+        let mut shelf = MemShelf::new(alloc, Vec::new(alloc), Vec::new(alloc), Vec::new(alloc));
         let mut source = MemSource::new(input.as_bytes().to_vec(alloc)?, Vec::new(alloc), 2);
         let mut sink = MemSink::new(alloc, Vec::new(alloc), 3);
-        assert_eq!(rt; converse(alloc, &mut echo, &mut source, &mut sink), Ok(()));
+        assert_eq!(rt;
+            converse(alloc, &mut echo, &mut shelf, &mut source, &mut sink),
+            Ok(())
+        );
         assert_eq!(rt; sink.bytes(), output.as_bytes());
     }
     Ok(())
@@ -65,10 +70,11 @@ fn talks(rt: HostRuntime) -> Result<(), Fail> {
 fn a_source_that_fails(rt: HostRuntime) -> Result<(), Fail> {
     let alloc = rt.alloc();
     let mut echo = Echo { left: 9 };
+    let mut shelf = MemShelf::new(alloc, Vec::new(alloc), Vec::new(alloc), Vec::new(alloc));
     let mut source = MemSource::new(b"a\nb\n".to_vec(alloc)?, vec![in alloc; 2]?, 3);
     let mut sink = MemSink::new(alloc, Vec::new(alloc), 9);
     assert_eq!(rt;
-        converse(alloc, &mut echo, &mut source, &mut sink),
+        converse(alloc, &mut echo, &mut shelf, &mut source, &mut sink),
         Err(Halt::Input)
     );
     assert_eq!(rt; sink.bytes(), b"> a\n> ".as_slice());

@@ -7,12 +7,12 @@ use Rattle.opa_talk.proofs.feed.take_lines.Given as goal
 abbrev pub invariant-loop-left : goal.invariant-loop-left
 invariant-loop-left g l = record {
   talked : (read : List ℕ) × Consumes (g.S.Source.left l.fn.input) (g.S.Source.left l.input) read × (length read + l.left ≡ 67108864)
-      × GoesOn g.T.Replier.rule (point_of (g.T.Replier.state l.fn.replier) l.fn.pending) (point_of (g.T.Replier.state l.replier) l.pending) read (g.K.Sink.written l.fn.out) (g.K.Sink.written l.out);
+      × GoesOn g.T.Replier.rule (point_of (g.T.Replier.state l.fn.replier, g.F.Shelf.files l.fn.shelf) l.fn.pending) (point_of (g.T.Replier.state l.replier, g.F.Shelf.files l.shelf) l.pending) read (g.K.Sink.written l.fn.out) (g.K.Sink.written l.out);
   room : 0 < vec_len l.buf;
   later_input : g.S.Source.faults l.fn.input ≤ g.S.Source.faults l.input;
   later : g.K.Sink.faults l.fn.out ≤ g.K.Sink.faults l.out;
-  later_take : g.T.Replier.take_faults l.fn.replier ≤ g.T.Replier.take_faults l.replier;
-  later_keep : g.T.Replier.keep_faults l.fn.replier ≤ g.T.Replier.keep_faults l.replier;
+  later_take : g.F.Shelf.take_faults l.fn.shelf ≤ g.F.Shelf.take_faults l.shelf;
+  later_keep : g.F.Shelf.keep_faults l.fn.shelf ≤ g.F.Shelf.keep_faults l.shelf;
 }
 
 abbrev pub decreases-loop-left : goal.decreases-loop-left

@@ -8,7 +8,7 @@ use Rattle.opa_talk.proofs.talk.take_piece.Goals as goal
 
 pub loop-bytes-init : goal.loop-bytes-init
 loop-bytes-init g c = record {
-  done = ([], refl, carries_none g.T.Replier.rule (point_of (g.T.Replier.state c.args.replier.now) c.args.pending.now) _ c.requires.part);
+  done = ([], refl, carries_none g.T.Replier.rule (point_of (g.T.Replier.state c.args.replier.now, g.F.Shelf.files c.args.shelf.now) c.args.pending.now) _ c.requires.part);
   going = c.requires.going;
   part = c.requires.part;
   later = omega arith;
@@ -26,7 +26,7 @@ loop-bytes-preserved g c =
       done = (
         done.0 ++ (c.in-Some.bytes.now ++ 10 ∷ []),
         joined done.0 _ _ _ _ done.1 c.in-Some.ensures.1,
-        carries-append g.T.Replier.rule _ (point_of (g.T.Replier.state c.loop-bytes.replier) c.loop-bytes.pending) _ _ _ _ _ _ done.2 c.in_ok-over.ensures.ok,
+        carries-append g.T.Replier.rule _ (point_of (g.T.Replier.state c.loop-bytes.replier, g.F.Shelf.files c.loop-bytes.shelf) c.loop-bytes.pending) _ _ _ _ _ _ done.2 c.in_ok-over.ensures.ok,
       );
       going = sym c.in_ok-over.ensures.over ∙ c.if-over.false;
       part = c.in_ok-over.ensures.ok.part;
@@ -43,7 +43,7 @@ returns-then-over-clause-ok g c =
       rest = c.in-Some.after.now;
       cut = joined done.0 _ _ _ _ done.1 c.in-Some.ensures.1;
       over = sym c.in_ok-over.ensures.over ∙ c.if-over.true;
-      carried = carries-append g.T.Replier.rule _ (point_of (g.T.Replier.state c.loop-bytes.replier) c.loop-bytes.pending) _ _ _ _ _ _ done.2 c.in_ok-over.ensures.ok;
+      carried = carries-append g.T.Replier.rule _ (point_of (g.T.Replier.state c.loop-bytes.replier, g.F.Shelf.files c.loop-bytes.shelf) c.loop-bytes.pending) _ _ _ _ _ _ done.2 c.in_ok-over.ensures.ok;
     }
 
 pub returns-in_err-over-clause-err : goal.returns-in_err-over-clause-err
@@ -51,7 +51,7 @@ returns-in_err-over-clause-err g c =
     let done = c.loop-bytes.invariant.done in
     let p = err_from_is_err_and c.from_residual.result c.from_residual.ensures.1 in
     rw p.1 (breaks_is g.T.Replier.rule g.T.Replier.Stops _ _ _ _ _ _ (joined_whole done.0 _ _ _ _ done.1 c.in-Some.ensures.1)
-    (breaks_after g.T.Replier.rule g.T.Replier.Stops _ (point_of (g.T.Replier.state c.loop-bytes.replier) c.loop-bytes.pending) _ _ _ _ _ _ done.2
+    (breaks_after g.T.Replier.rule g.T.Replier.Stops _ (point_of (g.T.Replier.state c.loop-bytes.replier, g.F.Shelf.files c.loop-bytes.shelf) c.loop-bytes.pending) _ _ _ _ _ _ done.2
     (breaks_more g.T.Replier.rule g.T.Replier.Stops _ _ c.in-Some.bytes.now c.in-Some.after.now _ _ c.in_err-over.ensures.err)))
 
 pub returns-in_err-extend_from_slice-clause-err : goal.returns-in_err-extend_from_slice-clause-err
@@ -59,5 +59,5 @@ returns-in_err-extend_from_slice-clause-err g c =
     let done = c.loop-bytes.invariant.done in
     let p = err_from_is_err_and c.from_residual-in_err-extend_from_slice.result c.from_residual-in_err-extend_from_slice.ensures.1 in
     rw p.1 (breaks_is g.T.Replier.rule g.T.Replier.Stops _ _ _ _ _ _ done.1
-    (breaks_after g.T.Replier.rule g.T.Replier.Stops _ (point_of (g.T.Replier.state c.loop-bytes.replier) c.loop-bytes.pending) _ _ _ _ _ _ done.2
-    (breaks_none g.T.Replier.rule g.T.Replier.Stops (point_of (g.T.Replier.state c.loop-bytes.replier) c.loop-bytes.pending) c.loop-bytes.rest.now _)))
+    (breaks_after g.T.Replier.rule g.T.Replier.Stops _ (point_of (g.T.Replier.state c.loop-bytes.replier, g.F.Shelf.files c.loop-bytes.shelf) c.loop-bytes.pending) _ _ _ _ _ _ done.2
+    (breaks_none g.T.Replier.rule g.T.Replier.Stops (point_of (g.T.Replier.state c.loop-bytes.replier, g.F.Shelf.files c.loop-bytes.shelf) c.loop-bytes.pending) c.loop-bytes.rest.now _)))

@@ -8,12 +8,12 @@ use Rattle.opa_talk.proofs.talk.take_piece.Given as goal
 abbrev pub invariant-loop-bytes : goal.invariant-loop-bytes
 invariant-loop-bytes g l = record {
   done : (front : List ℕ) × (front ++ l.rest ≡ l.piece)
-      × CarriesOut g.T.Replier.rule (point_of (g.T.Replier.state l.fn.replier) l.fn.pending) (point_of (g.T.Replier.state l.replier) l.pending) front (g.K.Sink.written l.fn.out) (g.K.Sink.written l.out);
-  going : IsGoing g.T.Replier.rule (g.T.Replier.state l.replier);
+      × CarriesOut g.T.Replier.rule (point_of (g.T.Replier.state l.fn.replier, g.F.Shelf.files l.fn.shelf) l.fn.pending) (point_of (g.T.Replier.state l.replier, g.F.Shelf.files l.shelf) l.pending) front (g.K.Sink.written l.fn.out) (g.K.Sink.written l.out);
+  going : IsGoing g.T.Replier.rule (g.T.Replier.state l.replier, g.F.Shelf.files l.shelf);
   part : IsPart l.pending.bytes.items;
   later : g.K.Sink.faults l.fn.out ≤ g.K.Sink.faults l.out;
-  later_take : g.T.Replier.take_faults l.fn.replier ≤ g.T.Replier.take_faults l.replier;
-  later_keep : g.T.Replier.keep_faults l.fn.replier ≤ g.T.Replier.keep_faults l.replier;
+  later_take : g.F.Shelf.take_faults l.fn.shelf ≤ g.F.Shelf.take_faults l.shelf;
+  later_keep : g.F.Shelf.keep_faults l.fn.shelf ≤ g.F.Shelf.keep_faults l.shelf;
 }
 
 abbrev pub decreases-loop-bytes : goal.decreases-loop-bytes
