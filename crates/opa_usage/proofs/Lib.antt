@@ -1,0 +1,2 @@
+pub mod ClapLaws
+pub mod AskedLaws

@@ -1,0 +1,62 @@
+// The mode that words ask for.
+ghost use Rattle.std.specs.Prelude.{◌≡◌, map, Option, None, Some, List, ℕ, IfOk, IsErrOf, string_bytes};
+ghost use Rattle.std.specs.Option.{option_map};
+ghost use Rattle.opa_usage.specs.Asked.{mode_named as named, asked_of, asked_by};
+
+use crate::clapped::{Positionals, WordsFault, read_positionals};
+use std::alloc::Global;
+
+/// What the program does.
+#[derive(Clone, Copy, Debug, PartialEq, Eq)]
+pub enum Mode {
+    Run,
+    Check,
+}
+
+/// A mode, and the name of its rulebase.
+#[derive(Drop)]
+pub struct Asked<'a> {
+    pub mode: Mode,
+    pub name: &'a str,
+}
+
+/// The mode of this name.
+fn mode_named(word: &str) -> Option<Mode>
+    ensures { result ≡ named word.now }
+{
+    match word {
+        "run" => Some(Mode::Run),
+        "check" => Some(Mode::Check),
+        _ => None,
+    }
+}
+
+/// What the positional words ask for.
+fn positional<'a>(words: &Positionals<'a>) -> Option<Asked<'a>>
+    ensures { option_map (λ a. (a.mode, a.name.now)) result ≡ asked_by (option_map (λ s. s.now) words.now.mode) (option_map (λ s. s.now) words.now.rulebase) (option_map (λ s. s.now) words.now.name) }
+{
+    match (words.mode, words.rulebase, words.name) {
+        (Some(mode), Some(name), None) => {
+            let mode = mode_named(mode)?;
+            Some(Asked { mode, name })
+        }
+        _ => None,
+    }
+}
+
+/// The mode that the words of the command line ask for; the first word is the program's name.
+pub fn read_words<'a>(alloc: Global, words: &'a [String]) -> Result<Asked<'a>, WordsFault>
+    ensures asked { IfOk result (λ a. asked_of (map string_bytes words.now) ≡ Some (a.mode, a.name.now)) }
+    ensures usage { IsErrOf result WordsFault.Usage → asked_of (map string_bytes words.now) ≡ None }
+{
+    if words.is_empty() {
+        return Err(WordsFault::Usage);
+    }
+    match read_positionals(alloc, words) {
+        Err(fault) => Err(fault),
+        Ok(found) => match positional(&found) {
+            Some(asked) => Ok(asked),
+            None => Err(WordsFault::Usage),
+        },
+    }
+}
