@@ -1,3 +1,12 @@
 pub mod Digests
 pub mod Saved
 pub mod Told
+pub mod Texts
+pub mod Forms
+pub mod Loading
+pub mod Faults
+pub mod Points
+pub mod Whole
+pub mod Building
+pub mod LoadLaws
+pub mod RoundTrip

@@ -3,16 +3,16 @@ ghost use Rattle.std.specs.Prelude.{◌≡◌, ◌<◌, ◌++◌, length, map, f
 ghost use Rattle.serde_json.specs.View.{view};
 ghost use Rattle.opa_model.specs.Models.{HasRelation};
 ghost use Rattle.opa_case.specs.Cases.{list_of};
-ghost use Rattle.opa_case.specs.Shapes.{relation_or};
 ghost use Rattle.opa_saved.specs.Saved as meant;
 ghost use Rattle.opa_saved.specs.Told.{lists_told, told_upto};
 
+use crate::declared::relation_of;
 use crate::order::members_of;
 use crate::values::names_json;
 use opa_case::Case;
 use opa_cells::InstanceId;
 use opa_io::{List, NoMemory, Txt, front};
-use opa_model::{Model, RelId, Relation};
+use opa_model::{Model, RelId};
 use serde_json::{Value as Json, json};
 use std::alloc::Global;
 
@@ -64,13 +64,6 @@ fn add_lists(
     Ok(())
 }
 
-fn declared(model: &Model, rel: RelId) -> &Relation
-    requires { HasRelation model.now rel }
-    ensures { result.now ≡ relation_or model.now rel }
-{
-    model.relation(rel)
-}
-
 /// Adds the lists of a relation, unless it is declared with `every`.
 fn add_relation(
     alloc: Global,
@@ -84,7 +77,7 @@ fn add_relation(
     requires order { order.now ≡ case.now.live }
     ensures { OnOk result (map view out.new.items ≡ map view out.old.items ++ lists_told model.now case.now rel.0) }
 {
-    let relation = declared(model, rel);
+    let relation = relation_of(model, rel);
     if relation.every {
         return Ok(());
     }

@@ -1,6 +1,7 @@
 // A case as a text.
-ghost use Rattle.std.specs.Prelude.{◌≡◌, map, IfOk};
+ghost use Rattle.std.specs.Prelude.{◌≡◌, map, length, IfOk};
 ghost use Rattle.serde_json.specs.View.{view};
+ghost use Rattle.opa_saved.specs.RoundTrip.{HaveLines, LoadsBack};
 ghost use Rattle.opa_saved.specs.Saved.{list_data, whole_data, saved_data, saved_text as meant, ReadsAs};
 ghost use Rattle.opa_saved.specs.Told.{FitsModel};
 
@@ -21,6 +22,7 @@ pub fn saved_text(alloc: Global, model: &Model, case: &Case) -> Result<Vec<u8>, 
     requires { FitsModel model.now case.now }
     ensures text { IfOk result (λ b. b.items ≡ meant model.now case.now) }
     ensures back { IfOk result (λ b. ReadsAs b.items (saved_data model.now case.now)) }
+    ensures loads { IfOk result (λ b. LoadsBack model.now case.now b.items) }
 {
     // The count shows the model's form.
     let _count = model.entity_count();
@@ -37,11 +39,13 @@ fn saved_json(
 ) -> Result<Json, NoMemory>
     requires fits { FitsModel model.now case.now }
     requires order { order.now ≡ case.now.live }
-    ensures { IfOk result (λ v. view v ≡ saved_data model.now case.now) }
+    ensures data { IfOk result (λ v. view v ≡ saved_data model.now case.now) }
+    ensures lines { IfOk result (λ v. HaveLines model.now case.now (length model.now.attributes)) }
 {
     let answers = answers(alloc, model, case, order)?;
     let lists = lists(alloc, model, case, order)?;
-    whole(alloc, answers, lists, digest(model))
+    let json = whole(alloc, answers, lists, digest(model))?;
+    Ok(json)
 }
 
 /// The object of answers, lists and a digest.

@@ -5,6 +5,7 @@ ghost use Rattle.opa_text.specs.Samples.{IsGlobalNumber, IsGlobalList};
 
 use super::*;
 use crate::digest::digest_on;
+use crate::load_tests::first_wrong;
 use opa_case::Case;
 use opa_cells::InstanceId;
 use opa_io::{List, NoMemory, Txt};
@@ -215,4 +216,38 @@ fn one_list(rt: HostRuntime) -> Result<(), Fail> {
 #[test]
 fn digests(rt: HostRuntime) {
     assert_eq!(rt; digest_on(0, b"n\n"), 3420);
+}
+
+/// The claimant's file of each version, with a line of version 1 whose days are raised, and the file of a model with one number.
+const CLAIMANTS: [(&str, u8); 5] = [
+    (
+        "{\"answers\":[{\"attribute\":\"the claimant is an adult\",\"line\":[[0,\"b:false\"]],\"of\":\"\"}],\"format\":\"policy-case\",\"lists\":[],\"model\":1462910158,\"version\":2}\n",
+        10,
+    ),
+    (
+        "{\"answers\":[{\"attribute\":\"the claimant is an adult\",\"line\":[[0,\"b:false\"]],\"of\":\"\"}],\"format\":\"policy-case\",\"lists\":[],\"version\":1}\n",
+        12,
+    ),
+    (
+        "{\"answers\":[{\"attribute\":\"the claimant is an adult\",\"line\":[[0,\"b:false\"],[1,\"b:true\"]],\"of\":\"\"}],\"format\":\"policy-case\",\"lists\":[],\"version\":1}\n",
+        12,
+    ),
+    (
+        "{\"answers\":[{\"attribute\":\"the claimant is an adult\",\"line\":[[0,\"b:false\"],[146097,\"b:true\"]],\"of\":\"\"}],\"format\":\"policy-case\",\"lists\":[],\"version\":1}\n",
+        2,
+    ),
+    (
+        "{\"answers\":[],\"format\":\"policy-case\",\"lists\":[],\"model\":3420,\"version\":2}\n",
+        11,
+    ),
+];
+
+#[test]
+fn claimants(rt: HostRuntime) -> Result<(), Fail> {
+    let model = small_model(rt.alloc())?;
+    assert_eq!(rt;
+        first_wrong(rt.alloc(), &model, &CLAIMANTS)?,
+        CLAIMANTS.len()
+    );
+    Ok(())
 }

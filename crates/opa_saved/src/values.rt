@@ -1,8 +1,11 @@
 // Values, lines and names as JSON.
-ghost use Rattle.std.specs.Prelude.{◌≡◌, ◌++◌, IfOk};
+ghost use Rattle.std.specs.Prelude.{◌≡◌, ◌++◌, ℕ, IfOk};
+ghost use Rattle.std.specs.List.{AllByRecursion};
 ghost use Rattle.serde_json.specs.View.{view};
 ghost use Rattle.opa_text.specs.Texts.{IsOfCalendar, value_text as printed};
 ghost use Rattle.opa_model.specs.declared.things.Kind.TheVariants as kinds;
+ghost use Rattle.opa_value.specs.declared.value.Value.{Value as ValueView};
+ghost use Rattle.opa_saved.specs.RoundTrip.{IsValue, IsLineOfValues};
 ghost use Rattle.opa_saved.specs.Saved as meant;
 ghost use Rattle.opa_saved.specs.Told.{AreOfCalendar};
 
@@ -44,10 +47,21 @@ fn plain(alloc: Global, value: &Value) -> Result<Txt, NoMemory>
     opa_text::value_text(alloc, Kind::Number, value)
 }
 
+/// Shows that a number is in its range.
+fn show_range(value: &Value)
+    ensures { IsValue value.now }
+{
+    if let Value::Num(number) = value {
+        let _count = number.count();
+    }
+}
+
 fn pair_json(alloc: Global, pair: &(u32, Value)) -> Result<Json, NoMemory>
     requires { IsOfCalendar pair.now.1 }
-    ensures { IfOk result (λ v. view v ≡ meant.pair_data pair.now) }
+    ensures data { IfOk result (λ v. view v ≡ meant.pair_data pair.now) }
+    ensures range { IfOk result (λ v. IsValue pair.now.1) }
 {
+    show_range(&pair.1);
     let text = value_text(alloc, &pair.1)?;
     Ok(json!(in alloc; [pair.0, text.as_str()])?)
 }
@@ -55,14 +69,17 @@ fn pair_json(alloc: Global, pair: &(u32, Value)) -> Result<Json, NoMemory>
 /// A line as a list of days and values.
 pub(crate) fn line_json(alloc: Global, line: &Line<Value>) -> Result<Json, NoMemory>
     requires { AreOfCalendar line.now }
-    ensures { IfOk result (λ v. view v ≡ meant.line_data line.now) }
+    ensures data { IfOk result (λ v. view v ≡ meant.line_data line.now) }
+    ensures line { IfOk result (λ v. IsLineOfValues line.now) }
 {
-    pairs_json(alloc, line.segments())
+    let json = pairs_json(alloc, line.segments())?;
+    Ok(json)
 }
 
 fn pairs_json(alloc: Global, pairs: &[(u32, Value)]) -> Result<Json, NoMemory>
     requires { AreOfCalendar pairs.now }
-    ensures { IfOk result (λ v. view v ≡ meant.line_data pairs.now) }
+    ensures data { IfOk result (λ v. view v ≡ meant.line_data pairs.now) }
+    ensures range { IfOk result (λ v. AllByRecursion (λ (p : ℕ × ValueView). IsValue p.1) pairs.now) }
 {
     let mut items = Vec::new(alloc);
     let mut rest = pairs;
