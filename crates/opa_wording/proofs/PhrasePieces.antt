@@ -1,5 +1,5 @@
 -- A phrase is written as the Words and Numbers that it is cut into.
-use Rattle.std.proofs.Common.{◌≡◌, ◌≤◌, ◌<◌, ℕ, List, [], ◌∷◌, ◌++◌, length, map, Bool, true, false, cond, All, refl, sym, ap, ap₂, subst, ◌∙◌, arith, append_assoc, append-nil, inl, inr}
+use Rattle.std.proofs.Common.{◌≡◌, ◌≤◌, ◌<◌, ℕ, List, [], ◌∷◌, ◌++◌, Bool, true, false, cond, All, refl, sym, ap, ap₂, subst, ◌∙◌, arith, append_assoc, append-nil, inl, inr}
 use Rattle.std.specs.Prelude.{codes, not, ◌==◌, ◌||◌, ◌&&◌, ◌/◌, ◌+◌}
 use Rattle.std.specs.List.{list_all, list_any}
 use Rattle.std.specs.Char.{is_ascii_digit}
@@ -15,9 +15,9 @@ use Rattle.opa_words.specs.declared.kinds.Token.{Token}
 use Rattle.opa_words.specs.declared.kinds.TokenKind.{TokenKind}
 use Rattle.opa_words.specs.declared.kinds.TokenKind.TheVariants as kind
 use Rattle.opa_words.specs.Characters.{begins_word, continues_word, is_digit}
-use Rattle.opa_words.specs.Kinds.{is_word, IsNumber, IsToken}
+use Rattle.opa_words.specs.Kinds.{is_word, IsNumber}
 use Rattle.opa_words.specs.Places.{IsWithin, IsOfKind, token_text}
-use Rattle.opa_words.specs.Reserved.{joined, phrase_text, are_phrase, begins_well, ends_badly, is_phrase_kind, is_word_kind, is_reserved}
+use Rattle.opa_words.specs.Reserved.{phrase_text, begins_well, ends_badly, is_phrase_kind, is_word_kind, is_reserved}
 use Rattle.opa_words.proofs.Letters.{left, right, both}
 use Rattle.opa_words.proofs.PlaceLaws.{tokens_within, tokens_of_kind}
 use Rattle.opa_pieces.specs.Pieces.{Piece, IsPiece, word, number, piece, pieces}
@@ -32,7 +32,7 @@ use Rattle.opa_wording.specs.Wordings.{token, phrase, phrase_word, words_from}
 abbrev pub not_space : ℕ → Bool
 not_space b = not (b == 32)
 
-not_true : (b : Bool) → not b ≡ true → b ≡ false
+pub not_true : (b : Bool) → not b ≡ true → b ≡ false
 not_true true h = absurd (cc h)
 not_true false h = refl
 
@@ -204,7 +204,7 @@ no_digits (inl h) = let n = h.1 in absurd (omega (arith, n))
 no_digits (inr ([], part, a, b, m, e)) = absurd (cc e)
 no_digits (inr (d ∷ whole, part, a, b, m, e)) = absurd (cc e)
 
-of_number : (t : List ℕ) → IsPiece (number t) → (cs : List ℕ) → chars t ≡ cs → IsNumber cs → IsWordPiece (number t)
+pub of_number : (t : List ℕ) → IsPiece (number t) → (cs : List ℕ) → chars t ≡ cs → IsNumber cs → IsWordPiece (number t)
 of_number t is [] q h = absurd (no_digits h)
 of_number t is (c ∷ cs) q h =
     made (number t) (c ∷ cs) is (sym (ap encodes q) ∙ encodes-chars t is.utf8) (number_unspaced (c ∷ cs) h) number refl (number_begins c (encodes cs) (first_digit c cs h))
@@ -227,7 +227,7 @@ of_tokens bytes (t ∷ ts) u w k h =
       of_tokens bytes ts u (All-tail (IsWithin bytes) t ts w) (All-tail (IsOfKind bytes) t ts k) p.1,
     )
 
-text_led : (bytes : List ℕ) (t : Token) (ts : List Token) → phrase_text bytes (t ∷ ts) ≡ token_text bytes t ++ led (pieces bytes ts)
+pub text_led : (bytes : List ℕ) (t : Token) (ts : List Token) → phrase_text bytes (t ∷ ts) ≡ token_text bytes t ++ led (pieces bytes ts)
 text_led bytes t [] = sym (append-nil (token_text bytes t))
 text_led bytes t (u ∷ ts) = ap (λ r. token_text bytes t ++ 32 ∷ r) (text_led bytes u ts)
 

@@ -1,24 +1,21 @@
 -- The phrases of a model that can be read are written as tokens.
-use Rattle.std.proofs.Common.{◌≡◌, ◌<◌, ℕ, zero, suc, List, [], ◌∷◌, length, map, All, slice_get, arith}
+use Rattle.std.proofs.Common.{◌<◌, ℕ, zero, suc, List, [], ◌∷◌, length, map, All, slice_get, arith}
 use Rattle.std.specs.Str.{IsUtf8}
 use Rattle.std.proofs.lemmas.List.Elements.{All-head, All-tail}
 use Rattle.opa_model.specs.declared.things.Attribute.{Attribute}
 use Rattle.opa_model.specs.declared.things.Relation.{Relation}
-use Rattle.opa_model.specs.declared.lists.Lists.{Lists}
 use Rattle.opa_model.specs.Lookups.{attribute_at, relation_at}
-use Rattle.opa_tree.specs.declared.rules.Inferred.{Inferred}
-use Rattle.opa_parse.specs.Phrasing.{IsPhrase, IsReadable}
+use Rattle.opa_parse.specs.Phrasing.{IsPhrase}
 use Rattle.opa_wording.specs.Wordings.{phrase_of_attribute, phrase_of_relation}
-use Rattle.opa_wording.specs.Told.{AreTexts, PhrasesAreWritten}
 use Rattle.opa_wording.specs.Laws.{ReadableIsWritten}
 use Rattle.opa_wording.proofs.PhrasePieces.{phrase_is_written}
 
-attribute_held : (P : List ℕ → Type 0) (xs : List Attribute) (i : ℕ) → i < length xs → All P (map (λ a. a.phrase) xs) → P (phrase_of_attribute (slice_get xs i))
+pub attribute_held : (P : List ℕ → Type 0) (xs : List Attribute) (i : ℕ) → i < length xs → All P (map (λ a. a.phrase) xs) → P (phrase_of_attribute (slice_get xs i))
 attribute_held P [] i lt h = absurd (omega (arith, lt))
 attribute_held P (x ∷ xs) zero lt h = All-head P x.phrase (map (λ (a : Attribute). a.phrase) xs) h
 attribute_held P (x ∷ xs) (suc i) lt h = attribute_held P xs i (omega (arith, lt)) (All-tail P x.phrase (map (λ (a : Attribute). a.phrase) xs) h)
 
-relation_held : (P : List ℕ → Type 0) (xs : List Relation) (i : ℕ) → i < length xs → All P (map (λ r. r.phrase) xs) → P (phrase_of_relation (slice_get xs i))
+pub relation_held : (P : List ℕ → Type 0) (xs : List Relation) (i : ℕ) → i < length xs → All P (map (λ r. r.phrase) xs) → P (phrase_of_relation (slice_get xs i))
 relation_held P [] i lt h = absurd (omega (arith, lt))
 relation_held P (x ∷ xs) zero lt h = All-head P x.phrase (map (λ (r : Relation). r.phrase) xs) h
 relation_held P (x ∷ xs) (suc i) lt h = relation_held P xs i (omega (arith, lt)) (All-tail P x.phrase (map (λ (r : Relation). r.phrase) xs) h)

@@ -37,7 +37,7 @@ pub ruleset line_steps = (line_written, then_text, then_texts)
 
 -- ---- each sort of tree
 
-opened : (x : Expr-F Expr Row) (e : Expr) → roll-Expr x ≡ e → out-Expr e ≡ x
+pub opened : (x : Expr-F Expr Row) (e : Expr) → roll-Expr x ≡ e → out-Expr e ≡ x
 opened x e is = ap out-Expr (sym is) ∙ out-roll-Expr x
 
 pub group-Const : (m : Lists) (indent : List ℕ) (v : Value) → group_text m indent (V.Const v) ≡ written indent (line_text m (V.Const v)) []

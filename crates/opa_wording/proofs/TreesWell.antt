@@ -57,7 +57,7 @@ words_lead w (c ∷ cs) p rest = go (c == 32) (words_lead (w ++ c ∷ []) cs p r
     go true h = refl
     go false h = h
 
-phrase_well : (t : List ℕ) → AreWritten (phrase false t) → (s : Bool) → Well (phrase s t)
+pub phrase_well : (t : List ℕ) → AreWritten (phrase false t) → (s : Bool) → Well (phrase s t)
 phrase_well t h s = before_well (phrase s t) (words_moved s [] t h)
 
 -- ---- literals
@@ -65,7 +65,7 @@ phrase_well t h s = before_well (phrase s t) (words_moved s [] t h)
 digits_well : (s : Bool) (n : ℕ) → CanBeWritten kinds.Number (value.Num (pos n)) → Well (token s (number (plain_text (pos n))) ∷ [])
 digits_well s n c rest a r = (number_piece n c.0, apart_ends (number (plain_text (pos n))) rest a, r)
 
-literal_well : (v : Value) → CanBeWritten kinds.Number v → (s : Bool) → Well (literal s v)
+pub literal_well : (v : Value) → CanBeWritten kinds.Number v → (s : Bool) → Well (literal s v)
 literal_well value.Unknown c s rest a r = value_written s kinds.Number value.Unknown rest c a r
 literal_well value.Uncertain c s rest a r = value_written s kinds.Number value.Uncertain rest c a r
 literal_well (value.Bool b) c s rest a r = value_written s kinds.Number (value.Bool b) rest c a r
@@ -104,14 +104,14 @@ operation_well k ws n l h = go (is_infix k) refl
     go true i = subst (λ b. IsWell (if b then apart (λ s. together (between.Sign k) s true ws) else alike (λ s. call s (op_piece k) ws))) (sym i) (infix_well k i ws n l h)
     go false i = subst (λ b. IsWell (if b then apart (λ s. together (between.Sign k) s true ws) else alike (λ s. call s (op_piece k) ws))) (sym i) (call_well (op_piece k) (call_piece k i) ws h)
 
-mapped_length : {A B : Type 0} (f : A → B) (xs : List A) → length (map f xs) ≡ length xs
+pub mapped_length : {A B : Type 0} (f : A → B) (xs : List A) → length (map f xs) ≡ length xs
 mapped_length f [] = refl
 mapped_length f (x ∷ xs) = ap suc (mapped_length f xs)
 
-abbrev IsMore : ℕ → Type 0
+abbrev pub IsMore : ℕ → Type 0
 IsMore c = (n : ℕ) × (c ≡ suc n)
 
-some_operands : (k : OpKind) → IsMore (op_arity k)
+pub some_operands : (k : OpKind) → IsMore (op_arity k)
 some_operands op.Neg = (0, refl)
 some_operands op.YearOf = (0, refl)
 some_operands op.MonthOf = (0, refl)

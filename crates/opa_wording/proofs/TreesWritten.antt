@@ -34,11 +34,11 @@ pub not_word : is_word (codes "not") ≡ true
 unfolding ucd_derived
 not_word = refl
 
-and_word : is_word (codes "and") ≡ true
+pub and_word : is_word (codes "and") ≡ true
 unfolding ucd_derived
 and_word = refl
 
-or_word : is_word (codes "or") ≡ true
+pub or_word : is_word (codes "or") ≡ true
 unfolding ucd_derived
 or_word = refl
 

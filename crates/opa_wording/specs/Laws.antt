@@ -11,8 +11,9 @@ use Rattle.opa_sentence.specs.Lexemes.{Lexeme}
 use Rattle.opa_sentence.specs.Grammar.{FACTOR, LINE}
 use Rattle.opa_wording.specs.Wordings.{wording}
 use Rattle.opa_wording.specs.Grammatical.{IsGrammatical}
-use Rattle.opa_wording.specs.Told.{all_told, ends, SpellsTree, PhrasesAreRead, PhrasesAreWritten, AreTexts}
+use Rattle.opa_wording.specs.Told.{all_told, ends, SpellsTree, PhrasesAreRead, PhrasesAreWritten, AreTexts, OthersAreTexts}
 use Rattle.opa_tree.specs.declared.rules.Inferred.{Inferred}
+use Rattle.opa_parse.specs.Naming.{names_in}
 use Rattle.opa_parse.specs.Phrasing.{IsReadable}
 use Rattle.opa_wording.specs.Lines.{line_text}
 
@@ -31,3 +32,7 @@ LinesAreCut = (m : Lists) → PhrasesAreWritten m → (e : Expr) → IsGrammatic
 -- The phrases of a model that rules can read are written as tokens.
 abbrev pub ReadableIsWritten : Type 0
 ReadableIsWritten = (m : Lists) (inferences : List Inferred) → IsReadable m inferences → AreTexts m → PhrasesAreWritten m
+
+-- The phrases of a model that rules can read are read as what they are declared for.
+abbrev pub ReadableIsRead : Type 0
+ReadableIsRead = (m : Lists) (inferences : List Inferred) → IsReadable m inferences → AreTexts m → OthersAreTexts m inferences → PhrasesAreRead m (names_in m inferences)

@@ -4,4 +4,8 @@ pub mod Grammatical
 pub mod Lines
 pub mod Rules
 pub mod Told
+pub mod Laid
+pub mod Given
+pub mod Limits
+pub mod ReadBack
 pub mod Laws

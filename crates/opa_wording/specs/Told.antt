@@ -1,5 +1,5 @@
 -- What written tokens say to the grammar of a line.
-use Rattle.std.specs.Prelude.{◌≡◌, ◌≤◌, ℕ, Bool, true, false, List, [], ◌∷◌, ◌++◌, map, Some, codes, ◌==◌, ◌&&◌, All}
+use Rattle.std.specs.Prelude.{◌≡◌, ◌≤◌, ℕ, Bool, true, false, List, [], ◌∷◌, ◌++◌, map, Some, codes, ◌==◌, ◌&&◌, All, flat_map}
 use Rattle.std.specs.Str.{IsUtf8}
 use Rattle.std.specs.List.{list_any}
 use Rattle.opa_model.specs.declared.ids.AttrId.{AttrId}
@@ -10,6 +10,8 @@ use Rattle.opa_model.specs.Models.{HasAttribute, HasRelation}
 use Rattle.opa_pieces.specs.Written.{Written, AreWritten}
 use Rattle.opa_tree.specs.declared.expr.Expr.{Expr}
 use Rattle.opa_tree.specs.declared.expr.Expr.TheVariants as expr
+use Rattle.opa_tree.specs.declared.rules.Inferred.{Inferred}
+use Rattle.opa_parse.specs.Naming.{denials, inferred_phrases}
 use Rattle.opa_sentence.specs.declared.class.Class.{Class}
 use Rattle.opa_sentence.specs.declared.class.Class.TheVariants as class
 use Rattle.opa_sentence.specs.declared.names.Names.{Names}
@@ -69,3 +71,8 @@ pub record PhrasesAreWritten (m : Lists) : Type 0 where
 pub record AreTexts (m : Lists) : Type 0 where
   pub attributes : All IsUtf8 (attribute_phrases m)
   pub relations : All IsUtf8 (relation_phrases m)
+
+-- What denies attributes, and the phrases of inferred relations, are texts.
+pub record OthersAreTexts (m : Lists) (inferences : List Inferred) : Type 0 where
+  pub denied : All IsUtf8 (flat_map (denials m) m.attributes)
+  pub inferred : All IsUtf8 (inferred_phrases inferences)

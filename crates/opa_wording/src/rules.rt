@@ -3,6 +3,7 @@ ghost use Rattle.std.specs.Prelude.{◌≡◌, ◌++◌, map, codes, OnOk, IfOk,
 ghost use Rattle.std.specs.String.{string_bytes};
 ghost use Rattle.opa_wording.specs.Lines.{line_text as line_text_of};
 ghost use Rattle.opa_wording.specs.Rules.{written, items, ending as ending_of, group_text, cases, concluded, conditioned, rule_text as rule_text_of};
+ghost use Rattle.opa_wording.specs.ReadBack.{ReadsBack};
 
 use crate::lines::{attribute_phrase, line_text};
 use opa_io::{NoMemory, front};
@@ -204,7 +205,9 @@ fn push_rule(alloc: Global, out: &mut String, model: &Model, rule: &Rule) -> Res
 /// The text of a rule: its phrase and what it concludes. A rule with conditions has them line by line below its phrase, and
 /// so has a table its cases.
 pub fn rule_text(alloc: Global, model: &Model, rule: &Rule) -> Result<Vec<u8>, NoMemory>
-    ensures { IfOk result (λ text. text.items ≡ rule_text_of model.now rule.now) }
+    ensures written { IfOk result (λ text. text.items ≡ rule_text_of model.now rule.now) }
+    // It reads back as that rule, where the rule is one that the grammar gives, and its text is within the limits.
+    ensures back { IfOk result (λ text. ReadsBack model.now rule.now text.items) }
 {
     let mut out = String::new(alloc);
     push_rule(alloc, &mut out, model, rule)?;
