@@ -105,3 +105,8 @@ tables_placed n total (f ∷ fs) h = All-append (λ (x : TableFile). x.file < to
 
 pub tables_end : (old : List TableFile) (n : ℕ) (rest : List SourceFile) (all : List TableFile) → rest ≡ [] → old ++ table_files n rest ≡ all → old ≡ all
 tables_end old n rest all e h = sym (append-nil old) ∙ ap (λ x. old ++ table_files n x) (sym e) ∙ h
+
+-- what holds of every rulebase holds of the one that is loaded
+pub ok_has : {P : Rulebase → Type 0} (r : Result Rulebase LoadError) → ((base : Rulebase) → P base) → IfOk r P
+ok_has (Ok base) h = h base
+ok_has (Err error) h = tt

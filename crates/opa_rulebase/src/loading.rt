@@ -1,6 +1,7 @@
 // A rulebase is loaded from a shelf.
 ghost use Rattle.std.specs.Prelude.{◌≡◌, ◌≤◌, length, Ok, All, IfOk, IfErr, IfSome};
 ghost use Rattle.opa_files.specs.declared.source.SourceFile.{SourceFile as FileView};
+ghost use Rattle.opa_kinds.specs.Memberships.{MembershipsCount};
 ghost use Rattle.opa_rulebase.specs.Loading.{Opens, HasLoadError, IsUntaken, IsUnacceptedAs, IsRefusedAs, IsAccepted, name_at};
 
 use crate::accepting::accept;
@@ -8,6 +9,7 @@ use crate::fault::{LoadError, Refusal, Unaccepted};
 use crate::printed::refusal_text;
 use opa_files::{SourceFile, TakeError, take_files};
 use opa_io::Shelf;
+use opa_kinds::memberships_count;
 use opa_tree::Rulebase;
 use std::alloc::Global;
 
@@ -79,11 +81,15 @@ pub fn load_rulebase<F: Shelf>(
     ensures accepted { IfSome (F.files shelf.old) (λ files. IfOk result (λ base. Opens files name.now (Ok base))) }
     ensures refused { IfErr result (HasLoadError (F.files shelf.old) name.now (F.take_faults shelf.old) (F.take_faults shelf.new)) }
 
+    // In what is accepted, over every case, trees that stand for quantifiers over an inferred relationship count its members alone.
+    ensures memberships { IfOk result MembershipsCount }
+
     // The shelf is as it was.
     ensures files { F.files shelf.new ≡ F.files shelf.old }
     ensures later { F.take_faults shelf.old ≤ F.take_faults shelf.new }
     ensures kept { F.keep_faults shelf.new ≡ F.keep_faults shelf.old }
 {
+    memberships_count();
     match take_files(alloc, shelf, name) {
         Ok(files) => load_files(alloc, files.as_slice()),
         Err(error) => Err(untaken(alloc, error)),

@@ -1,6 +1,6 @@
 use Rattle.std.proofs.Common.{◌≡◌, IfOk, IfErr, subst}
 use Rattle.opa_rulebase.specs.Loading.{IsAccepted, IsRefusedAs}
-use Rattle.opa_rulebase.proofs.LoadLaws.{load_untaken, load_opens, load_fails}
+use Rattle.opa_rulebase.proofs.LoadLaws.{load_untaken, load_opens, load_fails, ok_has}
 use Rattle.opa_rulebase.proofs.loading.load_rulebase.Goals as goal
 
 pub returns-in-Ok-clause-accepted : goal.returns-in-Ok-clause-accepted
@@ -13,3 +13,6 @@ returns-in-Ok-clause-refused g c =
 
 pub returns-in-Err-clause-refused : goal.returns-in-Err-clause-refused
 returns-in-Err-clause-refused g c = load_untaken (g.F.Shelf.files c.args.shelf.now) c.args.name.now _ _ c.in-Err.error c.untaken.result c.in-Err.ensures.fault c.untaken.ensures
+
+pub returns-in-Ok-clause-memberships : goal.returns-in-Ok-clause-memberships
+returns-in-Ok-clause-memberships g c = ok_has c.load_files.result c.memberships_count.ensures
