@@ -1,0 +1,5 @@
+mod Changing
+mod Days
+mod LoadLaws
+mod ReplyLaws
+mod Saving

@@ -1,0 +1,32 @@
+-- What keeping the case under a name leaves.
+use Rattle.std.proofs.Common.{◌≡◌, inl, inr, List, [], ◌∷◌, ◌++◌, codes, ℕ, Ok, Err, refl, ap, subst}
+use Rattle.std.specs.Prelude.{Option, None, Some}
+use Rattle.opa_io.specs.Outside.{Files, Keeps}
+use Rattle.opa_case.specs.Cases.{CaseView}
+use Rattle.opa_script.specs.declared.command.Command.TheVariants as command
+use Rattle.opa_saved.specs.Saved.{saved_text}
+use Rattle.opa_tree.specs.declared.rulebase.Rulebase.{Rulebase}
+use Rattle.opa_reply.specs.Held.{Held, held}
+use Rattle.opa_reply.specs.Replies.{HasKept, OthersStay, Saves, HaltsAt}
+
+has_kept : (E : Type 0) (old new : Option Files) (name bytes : List ℕ) (u : Unit {0}) → Keeps {E = E} old new name bytes (Ok u) → HasKept name bytes old new
+has_kept E None new name bytes u k = tt
+has_kept E (Some old) None name bytes u k = absurd k
+has_kept E (Some old) (Some new) name bytes u k = ap Some k
+
+others_stay : (E : Type 0) (old new : Option Files) (name bytes : List ℕ) (e : E) → Keeps {E = E} old new name bytes (Err e) → OthersStay name old new
+others_stay E None new name bytes e k = tt
+others_stay E (Some old) None name bytes e k = absurd k
+others_stay E (Some old) (Some new) name bytes e k = k
+
+module _ (E : Type 0) (r : Rulebase) (c : CaseView) (old new : Option Files) (name bytes : List ℕ) (is : bytes ≡ saved_text r.model c) where
+  pub saves : (u : Unit {0}) (text : List ℕ) → text ≡ codes "saved" ++ 10 ∷ [] → Keeps {E = E} old new name bytes (Ok u) → Saves (held r c old) name text (held r c new)
+  saves u text says k = record { says = says; others = refl; kept = subst (λ b. HasKept name b old new) is (has_kept E old new name bytes u k) }
+
+pub halts : (E : Type 0) (r : Rulebase) (c : CaseView) (old new : Option Files) (name bytes : List ℕ) (e : E) → Keeps {E = E} old new name bytes (Err e) → HaltsAt (command.Save name) (held r c old) (held r c new)
+halts E r c old new name bytes e k = inr (refl, others_stay E old new name bytes e k)
+
+pub as_it_was : (x : Held) (name : List ℕ) → HaltsAt (command.Save name) x x
+as_it_was x name = inl refl
+
+pub ruleset saving = (saves, halts, as_it_was)

@@ -1,0 +1,5 @@
+pub mod Held
+pub mod Refused
+pub mod Loads
+pub mod Shown
+pub mod Replies

@@ -1,0 +1,36 @@
+// A case is kept under a name.
+ghost use Rattle.std.specs.Prelude.{◌≡◌, ◌≤◌, IfOk, OnErr, IfErr};
+ghost use Rattle.opa_talk.specs.Halt.{IsReplyCause};
+ghost use Rattle.opa_session.specs.Sessions.{rules_of, held_of};
+ghost use Rattle.opa_script.specs.declared.command.Command.TheVariants as commands;
+ghost use Rattle.opa_reply.specs.Held.{held};
+ghost use Rattle.opa_reply.specs.Replies.{CarriesOut, HaltsAt};
+
+use opa_io::{Shelf, Txt};
+use opa_saved::saved_text;
+use opa_session::Session;
+use opa_talk::Halt;
+use std::alloc::Global;
+
+/// Keeps the case under a name. All memory is taken before.
+#[tactic(auto, using(crate::proofs::Saving::saving))]
+pub(crate) fn save<F: Shelf>(
+    alloc: Global,
+    session: &Session,
+    shelf: &mut F,
+    name: &Txt,
+) -> Result<Vec<u8>, Halt>
+    ensures ok { IfOk result (λ t. CarriesOut (commands.Save name.now) (held (rules_of session.now) (held_of session.now) (F.files shelf.old)) t.items (held (rules_of session.now) (held_of session.now) (F.files shelf.new))) }
+    ensures err { OnErr result (HaltsAt (commands.Save name.now) (held (rules_of session.now) (held_of session.now) (F.files shelf.old)) (held (rules_of session.now) (held_of session.now) (F.files shelf.new))) }
+    ensures cause { IfErr result (IsReplyCause (F.take_faults shelf.old) (F.take_faults shelf.new) (F.keep_faults shelf.old) (F.keep_faults shelf.new)) }
+    ensures later_take { F.take_faults shelf.old ≤ F.take_faults shelf.new }
+    ensures later_keep { F.keep_faults shelf.old ≤ F.keep_faults shelf.new }
+{
+    let base = session.base();
+    let said = b"saved\n".to_vec(alloc)?;
+    let text = saved_text(alloc, &base.model, session.case())?;
+    match shelf.keep(name.as_str(), text.as_slice()) {
+        Ok(()) => Ok(said),
+        Err(_) => Err(Halt::Keep),
+    }
+}
