@@ -1,22 +1,12 @@
 -- The mode `check`: whether a rulebase is accepted.
-use Rattle.std.specs.Prelude.{ℕ, ◌≡◌, ◌⊎◌, List, [], ◌∷◌, ◌++◌, length, codes, not, ◌&&◌, Option, Some, None, IfSome, Result, Ok, Err, if◌then◌else◌}
+use Rattle.std.specs.Prelude.{ℕ, ◌≡◌, ◌⊎◌, List, [], ◌∷◌, ◌++◌, length, codes, Option, IfSome, Result, Ok, Err}
 use Rattle.std.specs.Fmt.{decimal}
-use Rattle.std.specs.Str.{bytes_eq}
 use Rattle.std.specs.Io.KnownBytes.{Appends}
 use Rattle.opa_io.specs.Outside.{Files, Rose, AppendsFront}
 use Rattle.opa_io.specs.declared.fault.Status.{Status}
 use Rattle.opa_io.specs.declared.fault.Status.TheVariants as status
 use Rattle.opa_tree.specs.declared.rulebase.Rulebase.{Rulebase}
 use Rattle.opa_rulebase.specs.Loading.{Opens}
-use Rattle.opa_top.specs.Run.{begins_with_dash}
-
--- the name of the main file, where the words are those of `check`
-abbrev pub checked_of : List (List ℕ) → Option (List ℕ)
-checked_of [] = None
-checked_of (program ∷ []) = None
-checked_of (program ∷ mode ∷ []) = None
-checked_of (program ∷ mode ∷ name ∷ []) = if (bytes_eq mode (codes "check") && not (begins_with_dash name)) then Some name else None
-checked_of (program ∷ mode ∷ name ∷ word ∷ words) = None
 
 -- what is written of an accepted rulebase
 abbrev pub accepted_text : ℕ → ℕ → List ℕ

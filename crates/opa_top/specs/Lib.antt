@@ -1,11 +1,3 @@
 pub mod Checking
-pub mod Command
-pub mod First
-pub mod Meaning
-pub mod Opening
-pub mod Parts
-pub mod Phrases
-pub mod Reply
-pub mod Run
-pub mod Sets
-pub mod Trees
+pub mod Running
+pub mod Statuses

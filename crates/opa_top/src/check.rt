@@ -27,7 +27,7 @@ fn accepted_text(alloc: Global, base: &Rulebase) -> Result<Txt, NoMemory>
 }
 
 /// Writes a text, and answers how that ended.
-fn tell<K: Sink>(good: Status, out: &mut K, text: &str) -> Status
+pub(crate) fn tell<K: Sink>(good: Status, out: &mut K, text: &str) -> Status
     ensures { IsTold good text.now (K.written out.old) (K.written out.new) (K.faults out.old) (K.faults out.new) result }
 {
     match write_all_of(out, text.as_bytes()) {

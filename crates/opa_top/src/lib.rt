@@ -1,20 +1,23 @@
-//! The top call: from the words of the command line and the bytes of one file and one input to the transcript.
+//! The top call: from the words of the command line, the files of a shelf and one input to the transcript.
 #![tactic(auto)]
 
-mod bytes;
-mod case;
 mod check;
-mod command;
-mod first;
-mod load;
-mod loading;
-mod meaning;
-mod reply;
-mod session;
+mod talk;
 mod top;
 
-pub use command::Command;
 pub use top::run;
 
 #[cfg(test)]
+mod amounts_tests;
+#[cfg(test)]
+mod claimant_tests;
+#[cfg(test)]
+mod family_tests;
+#[cfg(test)]
+mod refused_tests;
+#[cfg(test)]
+mod saved_tests;
+#[cfg(test)]
 mod tests;
+#[cfg(test)]
+mod times_tests;

@@ -1,0 +1,64 @@
+// The mode `run`.
+ghost use Rattle.std.specs.Prelude.{◌≡◌, ◌≤◌, IfErr, OnOk};
+ghost use Rattle.opa_talk.specs.Halt.{IsCause};
+ghost use Rattle.opa_top.specs.Checking.{IsTold};
+ghost use Rattle.opa_top.specs.Running.{counts, outside, Runs, TalksAll, TalksPart, end_of};
+
+use crate::check::tell;
+use opa_io::{Shelf, Sink, Source, Status};
+use opa_reply::Conversation;
+use opa_rulebase::{LoadError, load_rulebase};
+use opa_talk::{Halt, converse};
+use opa_tree::Rulebase;
+use std::alloc::Global;
+
+/// Carries out the lines of the input over a rulebase.
+fn talk<S: Source, F: Shelf, K: Sink>(
+    alloc: Global,
+    base: Rulebase,
+    shelf: &mut F,
+    input: &mut S,
+    out: &mut K,
+) -> Result<(), Halt>
+    ensures all { OnOk result (TalksAll base (outside F.files S.left K.written shelf.old input.old out.old) (outside F.files S.left K.written shelf.new input.new out.new)) }
+    ensures part { IfErr result (TalksPart base (outside F.files S.left K.written shelf.old input.old out.old) (outside F.files S.left K.written shelf.new input.new out.new)) }
+    ensures cause { IfErr result (IsCause (F.take_faults shelf.old) (F.take_faults shelf.new) (F.keep_faults shelf.old) (F.keep_faults shelf.new) (K.faults out.old) (K.faults out.new) (S.faults input.old) (S.faults input.new)) }
+{
+    let mut conversation = Conversation::start(alloc, base)?;
+    converse(alloc, &mut conversation, shelf, input, out)
+}
+
+/// How a run ends that was fed.
+fn end_of(fed: Result<(), Halt>) -> Status
+    ensures { result ≡ end_of fed }
+{
+    match fed {
+        Ok(()) => Status::Done,
+        Err(Halt::Input) => Status::ReadFault,
+        Err(Halt::Output) => Status::WriteFault,
+        Err(Halt::Take) => Status::ReadFault,
+        Err(Halt::Keep) => Status::WriteFault,
+        Err(Halt::Memory) => Status::NoMemory,
+        Err(Halt::Limit) => Status::InputLimit,
+    }
+}
+
+/// Loads a rulebase, and carries out the lines of the input over it.
+pub(crate) fn open_and_talk<S: Source, F: Shelf, K: Sink>(
+    alloc: Global,
+    name: &str,
+    shelf: &mut F,
+    input: &mut S,
+    out: &mut K,
+) -> Status
+    ensures { Runs name.now (outside F.files S.left K.written shelf.old input.old out.old) (outside F.files S.left K.written shelf.new input.new out.new) (counts F.take_faults F.keep_faults S.faults K.faults shelf.old shelf.new input.old input.new out.old out.new) result }
+{
+    match load_rulebase(alloc, shelf, name) {
+        Ok(base) => end_of(talk(alloc, base, shelf, input, out)),
+        Err(error) => match error {
+            LoadError::Refused { text, .. } => tell(Status::Refused, out, text.as_str()),
+            LoadError::ReadFault => Status::ReadFault,
+            LoadError::NoMemory => Status::NoMemory,
+        },
+    }
+}
