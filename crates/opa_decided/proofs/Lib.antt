@@ -1,0 +1,7 @@
+mod Carrying
+mod FileLoading
+mod LawsHold
+mod LineFaults
+mod Replying
+mod Showing
+mod Transcripts
