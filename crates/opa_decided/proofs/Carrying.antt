@@ -36,7 +36,7 @@ changes_one x y z t u (Err e) h k = both (refused_change e) t u x y z h k
 
 -- what is held, of its two parts
 held_one : (y z : Held) → y.0 ≡ z.0 → y.1 ≡ z.1 → y ≡ z
-held_one y z e f = ap (λ p. let h : Held = (p, y.1) in h) e ∙ ap (λ o. let h : Held = (z.0, o) in h) f
+held_one y z e f = ap (λ (p : Rulebase × CaseView). let h : Held = (p, y.1) in h) e ∙ ap (λ (o : Option Files). let h : Held = (z.0, o) in h) f
 
 -- the files after the case was kept
 files_kept : (x y : Held) (name t : List ℕ) (told : IsTold x) → Saves x name t y → files_in y ≡ Some (map.insert told.0 name (saved_text (base_in x).model (case_in x)))

@@ -28,15 +28,15 @@ module _ (r : Rulebase) (c : CaseView) where
   one_of_bytes bytes (LoadsBytes.refuses f n h) (LoadsBytes.refuses g o k) = (ap (λ x. refused_load (fault_number x)) (one_fault r.model r.ruled bytes f g n o h k), refl)
 
   one_of_file : (files : Files) (name : List ℕ) {t u : List ℕ} {d e : CaseView} → Loads r c (Some files) name t d → Loads r c (Some files) name u e → (t ≡ u) × (d ≡ e)
-  one_of_file files name (Loads.of_bytes bs t d is few h) (Loads.of_bytes cs u e at less k) =
-      let same = one_file (map.get files name) cs bs at is in
+  one_of_file files name (Loads.of_bytes bs t d is few h) (Loads.of_bytes cs u e found short k) =
+      let same = one_file (map.get files name) cs bs found is in
       one_of_bytes bs h (subst (λ x. LoadsBytes r c x u e) same k)
   one_of_file files name (Loads.of_bytes bs t d is few h) (Loads.too_long k) = absurd (not_long bs k.0 (one_file (map.get files name) bs k.0 is k.1) few k.2)
   one_of_file files name (Loads.of_bytes bs t d is few h) (Loads.missing k) = absurd (no_file (map.get files name) bs is k)
-  one_of_file files name (Loads.too_long h) (Loads.of_bytes cs u e at less k) = absurd (not_long cs h.0 (one_file (map.get files name) cs h.0 at h.1) less h.2)
+  one_of_file files name (Loads.too_long h) (Loads.of_bytes cs u e found short k) = absurd (not_long cs h.0 (one_file (map.get files name) cs h.0 found h.1) short h.2)
   one_of_file files name (Loads.too_long h) (Loads.too_long k) = (refl, refl)
   one_of_file files name (Loads.too_long h) (Loads.missing k) = absurd (no_file (map.get files name) h.0 h.1 k)
-  one_of_file files name (Loads.missing h) (Loads.of_bytes cs u e at less k) = absurd (no_file (map.get files name) cs at h)
+  one_of_file files name (Loads.missing h) (Loads.of_bytes cs u e found short k) = absurd (no_file (map.get files name) cs found h)
   one_of_file files name (Loads.missing h) (Loads.too_long k) = absurd (no_file (map.get files name) k.0 k.1 h)
   one_of_file files name (Loads.missing h) (Loads.missing k) = (refl, refl)
 

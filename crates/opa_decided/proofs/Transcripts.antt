@@ -1,5 +1,5 @@
 -- Lines have one transcript.
-use Rattle.std.proofs.Common.{◌≡◌, ℕ, List, [], ◌∷◌, ◌++◌, inl, inr, sym, ap, subst, ◌∙◌}
+use Rattle.std.proofs.Common.{◌≡◌, ℕ, true, false, List, [], ◌∷◌, ◌++◌, inl, inr, sym, ap, subst, ◌∙◌}
 use Rattle.opa_model.specs.Models.{IsModel}
 use Rattle.opa_tree.specs.declared.rulebase.Rulebase.{Rulebase}
 use Rattle.opa_talk.specs.Transcript.{Prints}
@@ -10,8 +10,8 @@ use Rattle.opa_decided.proofs.Replying.{one_reply_holds, same_base_holds, stays_
 
 prints_one : (x y z : Held) (lines : List (List ℕ)) (t u : List ℕ) → HasModel x → IsTold x → Prints conversation x lines t y → Prints conversation x lines u z → (t ≡ u) × (y ≡ z)
 prints_one x y z [] t u is told p q = (p.0 ∙ sym q.0, p.1 ∙ sym q.1)
-prints_one x y z (line ∷ more) t u is told (inl p) q = absurd (cc p.0)
-prints_one x y z (line ∷ more) t u is told (inr p) (inl q) = absurd (cc q.0)
+prints_one x y z (line ∷ more) t u is told (inl p) q = let over : false ≡ true = p.0 in absurd (cc over)
+prints_one x y z (line ∷ more) t u is told (inr p) (inl q) = let over : false ≡ true = q.0 in absurd (cc over)
 prints_one x y z (line ∷ more) t u is told (inr p) (inr q) =
     let a = p.1 in
     let b = q.1 in
