@@ -1,6 +1,5 @@
 mod Carrying
 mod FileLoading
-mod LawsHold
 mod LineFaults
 mod Replying
 mod Showing

@@ -3,27 +3,23 @@ ghost use Rattle.opa_script.specs.Laws.{RefusedOrRead};
 ghost use Rattle.opa_decided.specs.Laws as law;
 
 /// A line is refused for one reason, and a line that is a command for none.
-#[tactic(auto, using(crate::proofs::LawsHold::laws))]
 pub fn one_command_fault()
     ensures fault { law.OneCommandFault }
     ensures apart { RefusedOrRead }
 {}
 
 /// `show` prints one text, of an attribute and of a list.
-#[tactic(auto, using(crate::proofs::LawsHold::laws))]
 pub fn one_shown()
     ensures value { law.OneShown }
     ensures list { law.OneListShown }
 {}
 
 /// Where files are told, loading a file prints one text, and leaves one case.
-#[tactic(auto, using(crate::proofs::LawsHold::laws))]
 pub fn one_loaded()
     ensures { law.OneLoaded }
 {}
 
 /// Where files are told, a line prints one text and leaves one thing; the rulebase stays, and files are told again.
-#[tactic(auto, using(crate::proofs::LawsHold::laws))]
 pub fn one_reply()
     ensures reply { law.OneReply }
     ensures base { law.SameBase }
@@ -31,7 +27,6 @@ pub fn one_reply()
 {}
 
 /// Where files are told, lines have one transcript, and leave one thing.
-#[tactic(auto, using(crate::proofs::LawsHold::laws))]
 pub fn one_transcript()
     ensures { law.OneTranscript }
 {}
