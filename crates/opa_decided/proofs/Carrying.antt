@@ -1,12 +1,11 @@
 -- A command is carried out in one way.
-use Rattle.std.proofs.Common.{◌≡◌, ℕ, List, [], Result, Ok, Err, refl, sym, ap, subst, ◌∙◌}
+use Rattle.std.proofs.Common.{◌≡◌, ℕ, List, [], Result, Ok, Err, sym, ap, subst, ◌∙◌}
 use Rattle.std.specs.Prelude.{Option, Some, MatchResult}
 use Rattle.std.specs.FinMap as map
 use Rattle.opa_io.specs.Outside.{Files}
 use Rattle.opa_case.specs.Cases.{CaseView}
 use Rattle.opa_case.specs.Shapes.{shape_of}
 use Rattle.opa_case.specs.Steps.{step}
-use Rattle.opa_case.specs.declared.change.ChangeCommand.{ChangeCommand}
 use Rattle.opa_case.specs.declared.change.Refusal.{Refusal}
 use Rattle.opa_tree.specs.declared.rulebase.Rulebase.{Rulebase}
 use Rattle.opa_script.specs.declared.command.Command.{Command}

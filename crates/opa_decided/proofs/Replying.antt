@@ -1,5 +1,5 @@
 -- A line has one reply.
-use Rattle.std.proofs.Common.{◌≡◌, ℕ, List, inl, inr, sym, ap, subst, ◌∙◌}
+use Rattle.std.proofs.Common.{ℕ, List, inl, inr, sym, ap, subst, ◌∙◌}
 use Rattle.opa_script.specs.declared.command.Command.{Command}
 use Rattle.opa_script.proofs.LawsHold.{refused_or_read_holds}
 use Rattle.opa_script.proofs.OneCommand.{one_command_holds}

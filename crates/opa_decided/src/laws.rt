@@ -2,7 +2,7 @@
 ghost use Rattle.opa_script.specs.Laws.{RefusedOrRead};
 ghost use Rattle.opa_decided.specs.Laws as law;
 
-/// A line is refused for one reason, and a line that is a command for none.
+/// A line has at most one fault but for want of memory, and a line that is a command has none.
 pub fn one_command_fault()
     ensures fault { law.OneCommandFault }
     ensures apart { RefusedOrRead }
