@@ -1,0 +1,6 @@
+mod Carrying
+mod FileLoading
+mod LineFaults
+mod Replying
+mod Showing
+mod Transcripts
