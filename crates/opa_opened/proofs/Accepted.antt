@@ -1,6 +1,6 @@
 -- Files spell one rulebase.
-use Rattle.std.proofs.Common.{◌≡◌, ◌∙◌, ◌<◌, ℕ, Bool, true, false, List, length, refl, sym, ap, ap₂, subst, ext_get_or, arith}
-use Rattle.std.specs.Prelude.{Option, is_some, slice_index_or}
+use Rattle.std.proofs.Common.{◌≡◌, ◌∙◌, ◌<◌, ℕ, Bool, false, List, length, refl, sym, ap, ap₂, subst, subst₂, ext_get_or, arith}
+use Rattle.std.specs.Prelude.{slice_index_or}
 use Rattle.std.proofs.Props.{props}
 use Rattle.opa_model.specs.declared.ids.AttrId.{AttrId}
 use Rattle.opa_model.specs.declared.lists.Lists.{Lists}
@@ -8,10 +8,7 @@ use Rattle.opa_tree.specs.declared.rulebase.Rulebase.{Rulebase}
 use Rattle.opa_tree.specs.declared.rules.Rule.{Rule}
 use Rattle.opa_tree.specs.Accepted.{AreSound, HaveForm, AreShallow, AreFiled}
 use Rattle.opa_tree.specs.Ranks.{AreRanks, AreRuled}
-use Rattle.opa_tree.specs.Rules.{rule_of}
 use Rattle.opa_tree.proofs.LawsHold.{ranks_are_unique_holds}
-use Rattle.opa_files.specs.declared.source.SourceFile.{SourceFile}
-use Rattle.opa_rulebase.specs.Loading.{IsAccepted}
 use Rattle.opa_opened.specs.Opening.{OneBase}
 use Rattle.opa_opened.proofs.Refused.{same_model, same_rules}
 
@@ -91,9 +88,8 @@ same_base a b e = sym (made_again a) ∙ same_made (held a) (held b) e (keeps a)
 alike : (a b : Rulebase) → a.model ≡ b.model → a.rules ≡ b.rules → a.files ≡ b.files → a ≡ b
 unfolding held
 alike a b p q r =
-    let count : length a.model.attributes ≡ length b.model.attributes = ap (λ (m : Lists). length m.attributes) p in
-    let ranked : AreRanks (length b.model.attributes) b.rules a.ranks = subst (λ n. AreRanks n b.rules a.ranks) count (subst (λ rs. AreRanks (length a.model.attributes) rs a.ranks) q a.ranked) in
-    let ruled : AreRuled (length b.model.attributes) b.rules a.ruled = subst (λ n. AreRuled n b.rules a.ruled) count (subst (λ rs. AreRuled (length a.model.attributes) rs a.ruled) q a.ruled_by) in
+    let ranked : AreRanks (length b.model.attributes) b.rules a.ranks = subst₂ (λ (m : Lists) (rs : List Rule). AreRanks (length m.attributes) rs a.ranks) p q a.ranked in
+    let ruled : AreRuled (length b.model.attributes) b.rules a.ruled = subst₂ (λ (m : Lists) (rs : List Rule). AreRuled (length m.attributes) rs a.ruled) p q a.ruled_by in
     same_base a b
     (same_held (held a) (held b) p q (ranks_are_unique_holds (length b.model.attributes) b.rules a.ranks b.ranks b.sound.attributes_declared ranked b.ranked)
     (one_ruled (length b.model.attributes) b.rules a.ruled b.ruled ruled b.ruled_by) r)

@@ -1,7 +1,6 @@
 -- Membership blocks, and rules, are found in one way.
-use Rattle.std.proofs.Common.{◌≡◌, ◌≢◌, ◌∙◌, ℕ, List, [], ◌∷◌, ◌++◌, length, Option, Some, None, refl, sym, ap, ap₂, subst}
+use Rattle.std.proofs.Common.{◌≡◌, ◌∙◌, ℕ, List, [], ◌∷◌, length, Option, Some, None, refl, sym, ap, ap₂, subst}
 use Rattle.std.specs.Str.{chars}
-use Rattle.opa_words.specs.declared.kinds.Token.{Token}
 use Rattle.opa_words.specs.Cuts.{Cuts}
 use Rattle.opa_words.specs.Places.{token_text}
 use Rattle.opa_words.proofs.OneCut.{one_cut_holds}

@@ -1,21 +1,18 @@
 -- Rules are refused for one fault.
-use Rattle.std.proofs.Common.{◌≡◌, ◌∙◌, ◌<◌, ◌≤◌, ◌⊎◌, inl, inr, ℕ, Bool, true, false, List, [], ◌∷◌, ◌++◌, Contains, All, refl, sym, ap, ap₂, subst, arith}
-use Rattle.std.specs.Prelude.{Option, Some, None, length}
+use Rattle.std.proofs.Common.{◌≡◌, ◌∙◌, ◌<◌, ◌≤◌, ◌⊎◌, inl, inr, ℕ, List, [], ◌∷◌, ◌++◌, Contains, All, refl, sym, ap, ap₂, subst, arith}
+use Rattle.std.specs.Prelude.{Option, Some, None}
 use Rattle.std.proofs.lemmas.Bool.{false≢true, cases_lt}
 use Rattle.std.proofs.lemmas.List.Elements.{All-head, All-tail}
 use Rattle.opa_model.specs.declared.ids.AttrId.{AttrId}
-use Rattle.opa_model.specs.declared.lists.Lists.{Lists}
 use Rattle.opa_tree.specs.declared.faults.RbFault.{RbFault}
 use Rattle.opa_tree.specs.declared.faults.RbKind.{RbKind}
-use Rattle.opa_tree.specs.declared.rulebase.Rulebase.{Rulebase}
 use Rattle.opa_tree.specs.declared.rules.Rule.{Rule}
 use Rattle.opa_tree.specs.FirstFaults.{first_fault}
-use Rattle.opa_tree.specs.Ranks.{mentions_of}
 use Rattle.opa_tree.specs.Rules.{rule_of}
 use Rattle.opa_check.specs.Circles as c
 use Rattle.opa_check.specs.Circles.{IsLeft, IsTaken, IsFirstLeft, Circles, IsLeastLeft, HasCircle, from_visit}
 use Rattle.opa_check.specs.Faults.{rule_faults}
-use Rattle.opa_check.specs.Refused.{IsRefused, IsRefusedBy}
+use Rattle.opa_check.specs.Refused.{IsRefusedBy}
 use Rattle.opa_check.proofs.AcceptedLaws.{accepted_are_not_refused_holds}
 use Rattle.opa_opened.specs.Checking.{OneCircle, OneCheckFault, RulebasesAreNotRefused}
 
@@ -34,7 +31,8 @@ one_least rules a b h k = go (cases_lt a.0 b.0) (cases_lt b.0 a.0)
 
 -- ---- the first mention that is left
 
-first_of_split : (rules : List Rule) (before others after rest : List AttrId) (a b : AttrId) → before ++ a ∷ after ≡ others ++ b ∷ rest → IsLeft rules a → IsLeft rules b → All (IsTaken rules) before → All (IsTaken rules) others → a ≡ b
+first_of_split : (rules : List Rule) (before others after rest : List AttrId) (a b : AttrId) → before ++ a ∷ after ≡ others ++ b ∷ rest
+    → IsLeft rules a → IsLeft rules b → All (IsTaken rules) before → All (IsTaken rules) others → a ≡ b
 first_of_split rules [] [] after rest a b e p q r s = cc e
 first_of_split rules [] (y ∷ others) after rest a b e p q r s =
     let same : a ≡ y = cc e in absurd (not_both rules y (subst (IsLeft rules) same p) (All-head (IsTaken rules) y others s))
@@ -58,7 +56,8 @@ module _ (rules : List Rule) where
 
   goes_on : (walk circle : List AttrId) (a b : AttrId) → (Contains walk a → ⊥) → IsFirstLeft rules a b → Only (walk ++ a ∷ []) b circle → Only walk a circle
   goes_on walk circle a b fresh next one other (c.Circles.again _ _ there) = absurd (fresh there)
-  goes_on walk circle a b fresh next one other (c.Circles.goes_on _ _ _ d also after more) = one other (subst (λ z. Circles rules (walk ++ a ∷ []) z other) (sym (one_next rules a b d next after)) more)
+  goes_on walk circle a b fresh next one other (c.Circles.goes_on _ _ _ d also after more) =
+      one other (subst (λ z. Circles rules (walk ++ a ∷ []) z other) (sym (one_next rules a b d next after)) more)
 
   only : {walk : List AttrId} {a : AttrId} {circle : List AttrId} → Circles rules walk a circle → Only walk a circle
   only (c.Circles.again walk a there) = comes_again walk a there

@@ -1,6 +1,6 @@
 -- Declarations have one first fault.
-use Rattle.std.proofs.Common.{◌≡◌, ℕ, List, [], ◌∷◌, ◌++◌, Bool, true, false, not, refl, sym, subst}
-use Rattle.std.specs.Prelude.{Option, Some, None, flat_map, length, nat_lt, nat_le, ◌&&◌, ◌||◌, if◌then◌else◌}
+use Rattle.std.proofs.Common.{ℕ, List, [], ◌∷◌, ◌++◌, Bool, true, false, refl, subst}
+use Rattle.std.specs.Prelude.{Option, Some, None, flat_map, if◌then◌else◌}
 use Rattle.opa_model.specs.declared.things.Attribute.{Attribute}
 use Rattle.opa_tree.specs.declared.faults.RbFault.{RbFault}
 use Rattle.opa_tree.specs.declared.faults.RbKind.{RbKind}
@@ -16,7 +16,8 @@ use Rattle.opa_decl.specs.declared.items.Sort.TheVariants as sort
 use Rattle.opa_decl.specs.declared.numbered.Counts.{Counts}
 use Rattle.opa_decl.specs.declared.numbered.Numbered.{Numbered}
 use Rattle.opa_decl.specs.Declarations.{first_place, unspelled, syntax_faults, items_of, item_faults, faults_of}
-use Rattle.opa_decl.specs.Faults.{fault_at, when, over, over_parent, long_names, too_many, limit_faults, unknown, unknown_parent, unknown_verb, unknown_item, unknown_names, name_faults, scope_faults, stands, repeated, twice_faults, faults_by}
+use Rattle.opa_decl.specs.Faults.{fault_at, when, over, over_parent, long_names, too_many, limit_faults, unknown_parent}
+use Rattle.opa_decl.specs.Faults.{unknown_verb, unknown_item, unknown_names, name_faults, scope_faults, stands, repeated, twice_faults, faults_by}
 use Rattle.opa_decl.specs.Lists.{attribute_in}
 use Rattle.opa_decl.specs.Names.{Tables, tables_of, verb_name, verb_in, entity_name, goal_name, screen_name, file_name, forms}
 use Rattle.opa_decl.specs.Numbering.{numbered, no_counts}
@@ -107,9 +108,10 @@ plain_twice t items =
 plain_by : (t : Tables) (items : List Item) (ns : List Numbered) → ArePlain (faults_by t items ns)
 unfolding faults_by
 plain_by t items ns =
+    let scoped : Name → List RbFault = scope_faults t (flat_map (attribute_in t) ns) in
     plain_append (flat_map limit_faults ns) _ (plain_flat limit_faults plain_limits ns)
     (plain_append (flat_map (name_faults t) ns) _ (plain_flat (name_faults t) (plain_named t) ns)
-    (plain_append (flat_map (scope_faults t (flat_map (attribute_in t) ns)) (flat_map goal_name items)) _ (plain_flat (scope_faults t (flat_map (attribute_in t) ns)) (plain_scopes t (flat_map (attribute_in t) ns)) (flat_map goal_name items))
+    (plain_append (flat_map scoped (flat_map goal_name items)) _ (plain_flat scoped (plain_scopes t (flat_map (attribute_in t) ns)) (flat_map goal_name items))
     (plain_twice t items)))
 
 plain_items : (items : List Item) → ArePlain (item_faults items)

@@ -1,5 +1,5 @@
 -- Faults without a circle have one first.
-use Rattle.std.proofs.Common.{◌≡◌, ◌∙◌, inl, inr, ℕ, ◌⊎◌, List, [], ◌∷◌, ◌++◌, Bool, true, false, Contains, refl, sym, ap, ap₂, subst, arith}
+use Rattle.std.proofs.Common.{◌≡◌, ◌∙◌, inl, inr, ℕ, ◌⊎◌, List, [], ◌∷◌, ◌++◌, Bool, false, Contains, refl, sym, ap, ap₂, subst, arith}
 use Rattle.std.specs.Prelude.{Some, nat_lt, ◌==◌, flat_map, if◌then◌else◌}
 use Rattle.opa_model.specs.declared.ids.AttrId.{AttrId}
 use Rattle.opa_tree.specs.declared.faults.RbFault.{RbFault}

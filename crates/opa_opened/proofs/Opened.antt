@@ -1,5 +1,5 @@
 -- The files of a shelf open one thing.
-use Rattle.std.proofs.Common.{◌≡◌, ◌∙◌, ℕ, List, [], Result, Ok, Err, refl, sym, ap, ap₂, subst}
+use Rattle.std.proofs.Common.{◌≡◌, ◌∙◌, ℕ, List, [], Result, Ok, Err, ap, ap₂, subst}
 use Rattle.opa_io.specs.Outside.{Files}
 use Rattle.opa_tree.specs.declared.faults.RbFault.{RbFault}
 use Rattle.opa_tree.specs.declared.rulebase.Rulebase.{Rulebase}
@@ -38,7 +38,8 @@ module _ (files : Files) (name : List ℕ) where
   after_untaken u is b (l.Opens.refuses gs fault circle also k) = absurd (not_both gs u also is)
 
   after_refused : (fs : List SourceFile) (fault : RbFault) (circle : List (List ℕ)) → AreFiles files name (Ok fs) → IsRefused fs fault circle → Only (Err (refusal_in fs fault circle))
-  after_refused fs fault circle are is b (l.Opens.accepts gs other also k) = absurd (accepted_or_refused_hold gs other fault circle k (subst (λ x. IsRefused x fault circle) (same_sources fs gs are also) is))
+  after_refused fs fault circle are is b (l.Opens.accepts gs other also k) =
+      absurd (accepted_or_refused_hold gs other fault circle k (subst (λ x. IsRefused x fault circle) (same_sources fs gs are also) is))
   after_refused fs fault circle are is b (l.Opens.cannot_take u k) = absurd (not_both fs u are k)
   after_refused fs fault circle are is b (l.Opens.refuses gs other round also k) =
       let sources : fs ≡ gs = same_sources fs gs are also in

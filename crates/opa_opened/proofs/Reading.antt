@@ -1,18 +1,16 @@
 -- What is read of blocks and tables is one thing.
-use Rattle.std.proofs.Common.{◌≡◌, ◌∙◌, ℕ, List, [], ◌∷◌, ◌++◌, Option, Some, None, sym, ap, ap₂}
+use Rattle.std.proofs.Common.{◌≡◌, ◌∙◌, List, [], ◌∷◌, ◌++◌, Some, None, sym, ap, ap₂}
 use Rattle.opa_model.specs.declared.lists.Lists.{Lists}
 use Rattle.opa_layout.specs.declared.block.Block.{Block}
 use Rattle.opa_tree.specs.declared.faults.RbFault.{RbFault}
 use Rattle.opa_tree.specs.declared.rules.Inferred.{Inferred}
 use Rattle.opa_tree.specs.FirstFaults.{first_fault}
-use Rattle.opa_sentence.specs.declared.names.Names.{Names}
 use Rattle.opa_parse.specs.declared.block.RuleBlock.{RuleBlock}
-use Rattle.opa_parse.specs.declared.block.MemberBlock.{MemberBlock}
-use Rattle.opa_parse.specs.Memberships.{inferred_in, member_faults, names_alone, AreInferences, AreRefused}
+use Rattle.opa_parse.specs.Memberships.{inferred_in, member_faults, names_alone}
 use Rattle.opa_parse.specs.Naming.{names_in}
 use Rattle.opa_parse.specs.Rules.{AreRuleBlocks, rule_faults, rules_in}
 use Rattle.opa_table.specs.declared.whole.TableFile.{TableFile}
-use Rattle.opa_table.specs.Whole.{AreTabled, AreAllRules, AreAllRefused}
+use Rattle.opa_table.specs.Whole.{AreTabled}
 use Rattle.opa_table.proofs.LawsHold.{one_table_holds}
 use Rattle.opa_opened.specs.Reading.{OneTabling, OneInferences, OneMemberFault, InferencesOrFault, OneRuleList, OneRuleFault, RulesOrFault}
 use Rattle.opa_opened.proofs.Blocks.{one_member_blocks_hold, one_rule_blocks_hold}
@@ -45,9 +43,11 @@ one_tabling_holds m ns (t ∷ tables) xs ys h k =
     h.4 ∙ ap₂ (λ (own more : List RuleBlock). own ++ more) (one_table_holds m ns t.file t.bytes h.0 k.0 h.2 k.2) (one_tabling_holds m ns tables h.1 k.1 h.3 k.3) ∙ sym k.4
 
 module _ (m : Lists) (inferences : List Inferred) (blocks : List Block) (tables : List TableFile) (found others tabled also : List RuleBlock) where
-  same_found : AreRuleBlocks m (names_in m inferences) blocks found → AreRuleBlocks m (names_in m inferences) blocks others → AreTabled m (names_in m inferences) tables tabled → AreTabled m (names_in m inferences) tables also
+  same_found : AreRuleBlocks m (names_in m inferences) blocks found → AreRuleBlocks m (names_in m inferences) blocks others
+      → AreTabled m (names_in m inferences) tables tabled → AreTabled m (names_in m inferences) tables also
       → found ++ tabled ≡ others ++ also
-  same_found p q r s = ap₂ (λ (xs ys : List RuleBlock). xs ++ ys) (one_rule_blocks_hold m (names_in m inferences) blocks found others p q) (one_tabling_holds m (names_in m inferences) tables tabled also r s)
+  same_found p q r s =
+      ap₂ (λ (xs ys : List RuleBlock). xs ++ ys) (one_rule_blocks_hold m (names_in m inferences) blocks found others p q) (one_tabling_holds m (names_in m inferences) tables tabled also r s)
 
 pub one_rule_list_holds : OneRuleList
 one_rule_list_holds m inferences blocks tables rs ss h k =

@@ -1,6 +1,5 @@
 -- The first phase that has a fault decides.
-use Rattle.std.proofs.Common.{◌≡◌, ◌∙◌, ℕ, List, [], ◌∷◌, refl, sym, ap, ap₂, subst}
-use Rattle.opa_model.specs.declared.ids.AttrId.{AttrId}
+use Rattle.std.proofs.Common.{◌≡◌, ◌∙◌, ℕ, List, [], ◌∷◌, refl, sym, ap₂, subst}
 use Rattle.opa_model.specs.declared.lists.Lists.{Lists}
 use Rattle.opa_layout.specs.declared.block.Block.{Block}
 use Rattle.opa_tree.specs.declared.faults.RbFault.{RbFault}
@@ -38,7 +37,8 @@ module _ (files : List SourceFile) where
   same_inferences : (bs cs : List Block) (m n : Lists) (xs ys : List Inferred) → AreInferred files bs m xs → AreInferred files cs n ys → xs ≡ ys
   same_inferences bs cs m n xs ys h k =
       one_inferences_hold n cs xs ys
-      (subst (λ x. AreInferences x cs xs) (same_model bs cs m n h.declared k.declared) (subst (λ x. AreInferences m x xs) (same_blocks bs cs h.declared.blocks_are k.declared.blocks_are) h.inferences_are)) k.inferences_are
+      (subst (λ x. AreInferences x cs xs) (same_model bs cs m n h.declared k.declared)
+      (subst (λ x. AreInferences m x xs) (same_blocks bs cs h.declared.blocks_are k.declared.blocks_are) h.inferences_are)) k.inferences_are
 
   abbrev pub AreRead : List Block → Lists → List Inferred → List Rule → Type 0
   AreRead bs m xs rs = AreAllRules m xs bs (table_files 0 files) rs
@@ -49,9 +49,11 @@ module _ (files : List SourceFile) where
   -- what holds at what one reading found holds at what another found
   carried : (P : List Block → Lists → List Inferred → Type 0) (bs cs : List Block) (m n : Lists) (xs ys : List Inferred) → AreInferred files bs m xs → AreInferred files cs n ys → P bs m xs → P cs n ys
   carried P bs cs m n xs ys h k p =
-      subst (P cs n) (same_inferences bs cs m n xs ys h k) (subst (λ x. P cs x xs) (same_model bs cs m n h.declared k.declared) (subst (λ x. P x m xs) (same_blocks bs cs h.declared.blocks_are k.declared.blocks_are) p))
+      subst (P cs n) (same_inferences bs cs m n xs ys h k)
+      (subst (λ x. P cs x xs) (same_model bs cs m n h.declared k.declared) (subst (λ x. P x m xs) (same_blocks bs cs h.declared.blocks_are k.declared.blocks_are) p))
 
-  pub same_rules : (bs cs : List Block) (m n : Lists) (xs ys : List Inferred) (rs ss : List Rule) → AreInferred files bs m xs → AreInferred files cs n ys → AreRead bs m xs rs → AreRead cs n ys ss → rs ≡ ss
+  pub same_rules : (bs cs : List Block) (m n : Lists) (xs ys : List Inferred) (rs ss : List Rule)
+      → AreInferred files bs m xs → AreInferred files cs n ys → AreRead bs m xs rs → AreRead cs n ys ss → rs ≡ ss
   same_rules bs cs m n xs ys rs ss h k p q = one_rule_list_holds n ys cs (table_files 0 files) rs ss (carried (λ x y z. AreRead x y z rs) bs cs m n xs ys h k p) q
 
   -- ---- a phase that has a fault is the last
@@ -68,7 +70,8 @@ module _ (files : List SourceFile) where
   not_inferred : (bs cs : List Block) (m n : Lists) (ys : List Inferred) (f : RbFault) → IsDeclared files bs m → IsMemberFault m bs f → AreInferred files cs n ys → ⊥
   not_inferred bs cs m n ys f h p k = inferences_or_fault_hold n cs ys f k.inferences_are (same_member_fault bs cs m n f h k.declared p)
 
-  not_read : (bs cs : List Block) (m n : Lists) (xs ys : List Inferred) (ss : List Rule) (f : RbFault) → AreInferred files bs m xs → AreUnread bs m xs f → AreInferred files cs n ys → AreRead cs n ys ss → ⊥
+  not_read : (bs cs : List Block) (m n : Lists) (xs ys : List Inferred) (ss : List Rule) (f : RbFault)
+      → AreInferred files bs m xs → AreUnread bs m xs f → AreInferred files cs n ys → AreRead cs n ys ss → ⊥
   not_read bs cs m n xs ys ss f h p k q = rules_or_fault_hold n ys cs (table_files 0 files) ss f q (carried (λ x y z. AreUnread x y z f) bs cs m n xs ys h k p)
 
   -- ---- one refusal
@@ -101,7 +104,8 @@ module _ (files : List SourceFile) where
   rules_first f bs m xs is h g other (l.IsRefused.at_layout k) = absurd (not_laid bs g k is.declared.blocks_are)
   rules_first f bs m xs is h g other (l.IsRefused.at_declarations cs are k) = absurd (not_declared cs bs m g are k is.declared)
   rules_first f bs m xs is h g other (l.IsRefused.at_members cs n are k) = absurd (not_inferred cs bs n m xs g are k is)
-  rules_first f bs m xs is h g other (l.IsRefused.at_rules cs n ys are k) = (one_rule_fault_holds n ys cs (table_files 0 files) f g (carried (λ x y z. AreUnread x y z f) bs cs m n xs ys is are h) k, refl)
+  rules_first f bs m xs is h g other (l.IsRefused.at_rules cs n ys are k) =
+      (one_rule_fault_holds n ys cs (table_files 0 files) f g (carried (λ x y z. AreUnread x y z f) bs cs m n xs ys is are h) k, refl)
   rules_first f bs m xs is h g other (l.IsRefused.at_check cs n ys ss are all k) = absurd (not_read bs cs m n xs ys ss f is h are all)
 
   check_first : (f : RbFault) (bs : List Block) (m : Lists) (xs : List Inferred) (rs : List Rule) → AreInferred files bs m xs → AreRead bs m xs rs → IsCheckFault m rs f → Only f (phrases_of m f.cycle)

@@ -1,8 +1,7 @@
 -- Files are taken in one way.
-use Rattle.std.proofs.Common.{◌≡◌, ◌∙◌, ℕ, ◌≤◌, ◌<◌, List, [], ◌∷◌, ◌++◌, length, Bool, true, false, Option, Some, None, Result, Ok, Err, refl, sym, ap, ap₂, subst, slice_get, arith}
+use Rattle.std.proofs.Common.{◌≡◌, ◌∙◌, ℕ, ◌≤◌, ◌<◌, List, [], ◌∷◌, length, Bool, true, false, Some, Result, Ok, Err, refl, sym, ap, ap₂, subst, slice_get, arith}
 use Rattle.std.proofs.lemmas.Option.{slice_get_within}
 use Rattle.opa_io.specs.Outside.{Files}
-use Rattle.opa_words.specs.Kinds.{quoted}
 use Rattle.opa_words.proofs.QuoteLaws.{quoted_tells_apart}
 use Rattle.opa_pieces.specs.Pieces.{Piece, word, text}
 use Rattle.opa_pieces.proofs.LawsHold.{one_cutting_holds}
@@ -28,8 +27,7 @@ same_sort false false e = refl
 
 one_named : (number : ℕ) (line : List ℕ) (x y : FileLine) → NamesFile number line x → NamesFile number line y → x ≡ y
 one_named number line x y h k =
-    let whole : word (first_word x.is_table) ∷ text x.name ∷ [] ≡ word (first_word y.is_table) ∷ text y.name ∷ [] =
-        one_cutting_holds line (word (first_word x.is_table) ∷ text x.name ∷ []) (word (first_word y.is_table) ∷ text y.name ∷ []) h.tokens k.tokens in
+    let whole : word (first_word x.is_table) ∷ text x.name ∷ [] ≡ word (first_word y.is_table) ∷ text y.name ∷ [] = one_cutting_holds line _ _ h.tokens k.tokens in
     let words : word (first_word x.is_table) ≡ word (first_word y.is_table) = cc whole in
     let texts : text x.name ≡ text y.name = cc whole in
     let sort : x.is_table ≡ y.is_table = same_sort x.is_table y.is_table (ap (λ (p : Piece). p.text) words) in

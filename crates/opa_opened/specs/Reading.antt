@@ -1,5 +1,5 @@
--- What blocks and tables say is read in one way, and it is faultless or has one first fault.
-use Rattle.std.specs.Prelude.{ℕ, ◌≡◌, List}
+-- What blocks and tables say is read in at most one way, and where it is read, it has no fault.
+use Rattle.std.specs.Prelude.{◌≡◌, List}
 use Rattle.opa_layout.specs.declared.block.Block.{Block}
 use Rattle.opa_model.specs.declared.lists.Lists.{Lists}
 use Rattle.opa_tree.specs.declared.faults.RbFault.{RbFault}
@@ -14,13 +14,13 @@ use Rattle.opa_parse.specs.Rules.{AreRuleBlocks}
 use Rattle.opa_table.specs.declared.whole.TableFile.{TableFile}
 use Rattle.opa_table.specs.Whole.{AreTabled, AreAllRules, AreAllRefused}
 
--- declaration blocks have one first fault
+-- declaration blocks have at most one first fault
 abbrev pub OneDeclarationFault : Type 0
 OneDeclarationFault = (blocks : List Block) (f g : RbFault) → IsFirstFault blocks f → IsFirstFault blocks g → f ≡ g
 
 -- ---- what is found
 
--- the membership blocks among blocks are found in one way
+-- the membership blocks among blocks are found in at most one way
 abbrev pub OneMemberBlocks : Type 0
 OneMemberBlocks = (m : Lists) (ns : Names) (blocks : List Block) (xs ys : List MemberBlock) → AreMemberBlocks m ns blocks xs → AreMemberBlocks m ns blocks ys → xs ≡ ys
 
@@ -34,11 +34,11 @@ OneTabling = (m : Lists) (ns : Names) (tables : List TableFile) (xs ys : List Ru
 
 -- ---- inferred relations
 
--- blocks have one list of inferred relations
+-- blocks have at most one list of inferred relations
 abbrev pub OneInferences : Type 0
 OneInferences = (m : Lists) (blocks : List Block) (xs ys : List Inferred) → AreInferences m blocks xs → AreInferences m blocks ys → xs ≡ ys
 
--- their membership blocks have one first fault
+-- their membership blocks have at most one first fault
 abbrev pub OneMemberFault : Type 0
 OneMemberFault = (m : Lists) (blocks : List Block) (f g : RbFault) → AreRefused m blocks f → AreRefused m blocks g → f ≡ g
 
@@ -48,12 +48,12 @@ InferencesOrFault = (m : Lists) (blocks : List Block) (xs : List Inferred) (f : 
 
 -- ---- rules
 
--- blocks and tables have one list of rules
+-- blocks and tables have at most one list of rules
 abbrev pub OneRuleList : Type 0
 OneRuleList = (m : Lists) (inferences : List Inferred) (blocks : List Block) (tables : List TableFile) (rs ss : List Rule)
     → AreAllRules m inferences blocks tables rs → AreAllRules m inferences blocks tables ss → rs ≡ ss
 
--- their rules have one first fault
+-- their rules have at most one first fault
 abbrev pub OneRuleFault : Type 0
 OneRuleFault = (m : Lists) (inferences : List Inferred) (blocks : List Block) (tables : List TableFile) (f g : RbFault)
     → AreAllRefused m inferences blocks tables f → AreAllRefused m inferences blocks tables g → f ≡ g
