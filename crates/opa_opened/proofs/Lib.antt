@@ -1,0 +1,11 @@
+mod Accepted
+mod Blocks
+mod Checked
+mod Declared
+mod FirstOfFaults
+mod Laid
+mod LawsHold
+mod Opened
+mod Reading
+mod Refused
+mod Taken

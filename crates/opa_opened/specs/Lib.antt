@@ -1,0 +1,4 @@
+pub mod Checking
+pub mod Opening
+pub mod Reading
+pub mod Taking
