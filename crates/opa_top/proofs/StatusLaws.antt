@@ -44,7 +44,7 @@ module _ (name : List ℕ) (old new : Outside) where
   opens_refusal : (text : List ℕ) → IsOpened old.files name (Err text) → OpensRefusal name old new
   opens_refusal text o = told_with (λ files. Opens files name (Err text)) Refused old.files o (λ files h. (text, h))
 
-  all_read : (bytes read : List ℕ) (l' : Option (List ℕ)) → Consumes (Some bytes) l' read → IsAtEnd l' → read ≡ bytes
+  pub all_read : (bytes read : List ℕ) (l' : Option (List ℕ)) → Consumes (Some bytes) l' read → IsAtEnd l' → read ≡ bytes
   all_read bytes read None took end = absurd took
   all_read bytes read (Some rest) took end = search (append-nil, took, end)
 
@@ -118,7 +118,7 @@ module _ (name : List ℕ) (old new : Outside) where
     told_refusal s text o u (inr h) = subst (Wrote name old new) (sym h.0) (wrote_refused text o u h.2)
 
     pub run_wrote : (s : Status) → Runs name old new n s → Wrote name old new s
-    run_wrote s (Runs.talks base o t) = talked s base o t
+    run_wrote s (Runs.talks base m o t) = talked s base o t
     run_wrote s (Runs.refuses text o u told) = told_refusal s text o u told
     run_wrote status.ReadFault (Runs.cannot_take rose u none) = wrote_nothing u none
     run_wrote status.NoMemory (Runs.cannot_hold u none) = wrote_nothing u none
@@ -144,7 +144,7 @@ module _ (name : List ℕ) (old new : Outside) where
     refusal_left_off s text (inr h) = subst (LeftOff name old new n) (sym h.0) tt
 
     pub run_left_off : (s : Status) → Runs name old new n s → LeftOff name old new n s
-    run_left_off s (Runs.talks base o t) = talk_left_off s base o t
+    run_left_off s (Runs.talks base m o t) = talk_left_off s base o t
     run_left_off s (Runs.refuses text o u told) = refusal_left_off s text told
     run_left_off status.ReadFault (Runs.cannot_take rose u none) = λ calm. absurd (calm rose)
     run_left_off status.NoMemory (Runs.cannot_hold u none) = tt
@@ -166,7 +166,7 @@ module _ (name : List ℕ) (old new : Outside) where
     refusal_cause s text o u (inr h) = subst (HasCause name old new n) (sym h.0) (inl h.1, none_read u)
 
     pub run_cause : (s : Status) → Runs name old new n s → HasCause name old new n s
-    run_cause s (Runs.talks base o t) = talk_cause s base o t
+    run_cause s (Runs.talks base m o t) = talk_cause s base o t
     run_cause s (Runs.refuses text o u told) = refusal_cause s text o u told
     run_cause status.ReadFault (Runs.cannot_take rose u none) = (inl rose, none_read u)
     run_cause status.NoMemory (Runs.cannot_hold u none) = none_read u
@@ -200,7 +200,7 @@ module _ (name : List ℕ) (files : Files) (bytes : List ℕ) (new : Outside) (w
   refusal_decided s text w' o (inr h) = absurd (calm.write h.1)
 
   decided : (s : Status) → Runs name there new n s → s ≢ status.NoMemory → Decided s
-  decided s (Runs.talks base o t) some = talk_decided s base o t some
+  decided s (Runs.talks base m o t) some = talk_decided s base o t some
   decided s (Runs.refuses text o u told) some = refusal_decided s text new.written o told
   decided status.ReadFault (Runs.cannot_take rose u none) some = absurd (calm.take rose)
   decided status.NoMemory (Runs.cannot_hold u none) some = absurd (some refl)

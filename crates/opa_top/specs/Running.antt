@@ -9,6 +9,7 @@ use Rattle.opa_talk.specs.declared.halt.Halt.TheVariants as halt
 use Rattle.opa_talk.specs.Lines.{input_lines, IsWhole}
 use Rattle.opa_talk.specs.Transcript.{IsTranscript}
 use Rattle.opa_talk.specs.Talk.{Halted, Converses, Halts}
+use Rattle.opa_model.specs.Models.{IsModel}
 use Rattle.opa_tree.specs.declared.rulebase.Rulebase.{Rulebase}
 use Rattle.opa_reply.specs.Held.{Held, at_first, files_in}
 use Rattle.opa_reply.specs.Replies.{conversation, Stops}
@@ -92,7 +93,7 @@ pub record IsUnused (old new : Outside) : Type 0 where
 -- A run over what the name opens: the rulebase is accepted, and the lines of the input are carried out; or it is refused, which is
 -- printed; or nothing was loaded, for a fault of the shelf or for want of memory.
 pub data Runs (name : List ℕ) (old new : Outside) (n : Counts) : Status → Type 0 where
-  talks : {result : Status} (base : Rulebase) → IsOpened old.files name (Ok base) → Talks base old new n result → Runs name old new n result
+  talks : {result : Status} (base : Rulebase) → IsModel base.model → IsOpened old.files name (Ok base) → Talks base old new n result → Runs name old new n result
   refuses : {result : Status} (text : List ℕ) → IsOpened old.files name (Err text) → IsUnused old new → IsTold status.Refused text old.written new.written n.write_before n.write_now result → Runs name old new n result
   cannot_take : Rose n.take_before n.take_now → IsUnused old new → Appends old.written new.written [] → Runs name old new n status.ReadFault
   cannot_hold : IsUnused old new → Appends old.written new.written [] → Runs name old new n status.NoMemory

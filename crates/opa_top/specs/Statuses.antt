@@ -6,7 +6,11 @@ use Rattle.std.specs.Io.KnownBytes.{Consumes, Appends, IsAtEnd}
 use Rattle.opa_io.specs.Outside.{Rose, AppendsFront}
 use Rattle.opa_io.specs.declared.fault.Status.{Status}
 use Rattle.opa_io.specs.declared.fault.Status.TheVariants as status
+use Rattle.opa_talk.specs.Lines.{input_lines}
+use Rattle.opa_talk.specs.Transcript.{IsTranscript}
 use Rattle.opa_tree.specs.declared.rulebase.Rulebase.{Rulebase}
+use Rattle.opa_reply.specs.Held.{Held, at_first, files_in}
+use Rattle.opa_reply.specs.Replies.{conversation}
 use Rattle.opa_rulebase.specs.Loading.{Opens}
 use Rattle.opa_usage.specs.declared.reading.Mode.{Mode}
 use Rattle.opa_usage.specs.Asked.{asked_of}
@@ -58,6 +62,22 @@ module _ (name : List ℕ) (old new : Outside) where
   Wrote status.WriteFault = WroteFront
   Wrote status.NoMemory = WroteFront
   Wrote status.InputLimit = WroteFront
+
+  -- whatever transcript the bytes have over the rulebase was written, and the files are those that it leaves
+  abbrev pub WroteWhatever : Rulebase → List ℕ → Type 0
+  WroteWhatever base bytes = (text : List ℕ) (held : Held) → IsTranscript conversation (at_first base old.files) (input_lines bytes) text held → Appends old.written new.written text × (new.files ≡ files_in held)
+
+  -- Where contents are told, nothing else could have been written. With Done, whatever the files open is a rulebase, and whatever
+  -- transcript the input has over it was written; with Refused, whatever they open is a refusal, which was written.
+  abbrev pub IsOnly : Status → Type 0
+  IsOnly status.Done =
+      IfSome old.files (λ files. IfSome old.left (λ bytes. (opened : Result Rulebase (List ℕ)) → Opens files name opened → (base : Rulebase) × (opened ≡ Ok base) × WroteWhatever base bytes))
+  IsOnly status.Refused = IfSome old.files (λ files. (opened : Result Rulebase (List ℕ)) → Opens files name opened → (text : List ℕ) × (opened ≡ Err text) × Appends old.written new.written text)
+  IsOnly status.Usage = Unit {0}
+  IsOnly status.ReadFault = Unit {0}
+  IsOnly status.WriteFault = Unit {0}
+  IsOnly status.NoMemory = Unit {0}
+  IsOnly status.InputLimit = Unit {0}
 
   -- the whole transcript of the lines whose line feed is among some of the bytes that were read
   abbrev pub WroteLines : (List ℕ → List ℕ) → Type 0

@@ -1,5 +1,6 @@
 // The mode `run`.
 ghost use Rattle.std.specs.Prelude.{◌≡◌, ◌≤◌, IfErr, OnOk};
+ghost use Rattle.opa_model.specs.Models.{IsModel};
 ghost use Rattle.opa_talk.specs.Halt.{IsCause};
 ghost use Rattle.opa_top.specs.Checking.{IsTold};
 ghost use Rattle.opa_top.specs.Running.{counts, outside, Runs, TalksAll, TalksPart, end_of};
@@ -28,6 +29,13 @@ fn talk<S: Source, F: Shelf, K: Sink>(
     converse(alloc, &mut conversation, shelf, input, out)
 }
 
+/// What a rulebase declares is a model.
+fn declares_a_model(base: &Rulebase)
+    ensures { IsModel base.now.model }
+{
+    let _count = base.model.entity_count();
+}
+
 /// How a run ends that was fed.
 fn end_of(fed: Result<(), Halt>) -> Status
     ensures { result ≡ end_of fed }
@@ -54,7 +62,10 @@ pub(crate) fn open_and_talk<S: Source, F: Shelf, K: Sink>(
     ensures { Runs name.now (outside F.files S.left K.written shelf.old input.old out.old) (outside F.files S.left K.written shelf.new input.new out.new) (counts F.take_faults F.keep_faults S.faults K.faults shelf.old shelf.new input.old input.new out.old out.new) result }
 {
     match load_rulebase(alloc, shelf, name) {
-        Ok(base) => end_of(talk(alloc, base, shelf, input, out)),
+        Ok(base) => {
+            declares_a_model(&base);
+            end_of(talk(alloc, base, shelf, input, out))
+        }
         Err(error) => match error {
             LoadError::Refused { text, .. } => tell(Status::Refused, out, text.as_str()),
             LoadError::ReadFault => Status::ReadFault,

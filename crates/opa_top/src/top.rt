@@ -6,11 +6,13 @@ ghost use Rattle.opa_usage.specs.Asked.{asked_of};
 ghost use Rattle.opa_usage.specs.declared.reading.Mode.TheVariants as modes;
 ghost use Rattle.opa_top.specs.Checking.{Checks};
 ghost use Rattle.opa_top.specs.Running.{counts, outside, IsUnused, Runs};
-ghost use Rattle.opa_top.specs.Statuses.{Asks, words_of, SaysUsage, Wrote, LeftOff, HasCause, Completes};
+ghost use Rattle.opa_top.specs.Statuses.{Asks, words_of, SaysUsage, Wrote, IsOnly, LeftOff, HasCause, Completes};
 
 use crate::check::{check, tell};
 use crate::talk::open_and_talk;
+use opa_decided::one_transcript;
 use opa_io::{Shelf, Sink, Source, Status};
+use opa_opened::one_opening;
 use opa_usage::{Mode, WordsFault, read_words};
 use std::alloc::Global;
 
@@ -61,6 +63,9 @@ pub fn run<S: Source, F: Shelf, K: Sink>(
     // files are those that the lines leave.
     ensures wrote { (name : List ℕ) → Asks words.now modes.Run name → Wrote name (outside F.files S.left K.written shelf.old input.old out.old) (outside F.files S.left K.written shelf.new input.new out.new) result }
 
+    // Nothing else could have been written: files open one thing, and an input has one transcript.
+    ensures only { (name : List ℕ) → Asks words.now modes.Run name → IsOnly name (outside F.files S.left K.written shelf.old input.old out.old) (outside F.files S.left K.written shelf.new input.new out.new) result }
+
     // Where the source fails or the input is too long, the whole transcript of the whole lines was written.
     ensures left_off { (name : List ℕ) → Asks words.now modes.Run name → LeftOff name (outside F.files S.left K.written shelf.old input.old out.old) (outside F.files S.left K.written shelf.new input.new out.new) (counts F.take_faults F.keep_faults S.faults K.faults shelf.old shelf.new input.old input.new out.old out.new) result }
 
@@ -73,5 +78,7 @@ pub fn run<S: Source, F: Shelf, K: Sink>(
     // An input may be cut at any line feed: the replies to the rest go on from what the first part leaves.
     ensures parts { CutsAnywhere conversation }
 {
+    one_opening();
+    one_transcript();
     run_words(alloc, words, shelf, input, out)
 }
