@@ -78,7 +78,8 @@ with_row_calendar (Some rows) (Some c) None h p q = tt
 with_row_calendar (Some rows) (Some c) (Some v) h p q = rows_last rows (row_of c v) h (row_is c v p q)
 
 pub case_calendar : (cs : Cases) (v c : Said) → Of RowsCalendar cs.rows → Calendar v.reading.tree → Calendar c.reading.tree → Of RowsCalendar (with_case cs v c).rows
-case_calendar cs v c h q p = of_if RowsCalendar (fits (cases_measure cs c.reading.measure v.reading.measure)) (with_row cs.rows c.reading.tree v.reading.tree) (with_row_calendar cs.rows c.reading.tree v.reading.tree h p q)
+case_calendar cs v c h q p =
+    of_if RowsCalendar (fits (cases_measure cs c.reading.measure v.reading.measure)) (with_row cs.rows c.reading.tree v.reading.tree) (with_row_calendar cs.rows c.reading.tree v.reading.tree h p q)
 
 table_calendar : (rows : Option (List Row)) (v : Option Expr) → Of RowsCalendar rows → Calendar v → Calendar (table_of rows v)
 table_calendar None v h q = tt
@@ -134,7 +135,8 @@ module _ (ns : Names) (members : AreMembers ns.members) where
         let e = more_items_calendar n c.1 (one_part_calendar bounded x.reading c.0) in
         (joined_calendar j y.parts e.0, e.1)
 
-    more_items_calendar : {k : ℕ} {j : Joint} {ls : List Line} {y z : Several} {rest : List Line} → More ns k j ls y z rest → LinesCalendar ls → Calendars y.parts.trees → Calendars z.parts.trees × LinesCalendar rest
+    more_items_calendar : {k : ℕ} {j : Joint} {ls : List Line} {y z : Several} {rest : List Line} → More ns k j ls y z rest → LinesCalendar ls
+        → Calendars y.parts.trees → Calendars z.parts.trees × LinesCalendar rest
     more_items_calendar (g.More.end {y = y} {x = x} d) = λ s h. let c = item_calendar d s in (with_part_calendar bounded y.parts x.reading h c.0, c.1)
     more_items_calendar (g.More.more {y = y} {x = x} d e) = λ s h. let c = item_calendar d s in more_items_calendar e c.1 (with_part_calendar bounded y.parts x.reading h c.0)
 
@@ -186,7 +188,8 @@ module _ (m : Lists) where
   member_blocks_calendar : {bs : List Block} {xs : List MemberBlock} → members.AreMemberBlocks m (members.names_alone m) bs xs → Each Inside (members.inferred_in xs)
   member_blocks_calendar members.AreMemberBlocks.none = tt
   member_blocks_calendar (members.AreMemberBlocks.passed p d) = member_blocks_calendar d
-  member_blocks_calendar (members.AreMemberBlocks.members {b = y} {r = x} {rs = xs} is d) = each_append Inside (members.inferred_by x.membership) (members.inferred_in xs) (member_block_calendar y x.membership is.says) (member_blocks_calendar d)
+  member_blocks_calendar (members.AreMemberBlocks.members {b = y} {r = x} {rs = xs} is d) =
+      each_append Inside (members.inferred_by x.membership) (members.inferred_in xs) (member_block_calendar y x.membership is.says) (member_blocks_calendar d)
 
 pub inferences_are_of_calendar_holds : InferencesAreOfCalendar
 inferences_are_of_calendar_holds m blocks inferences a = all_of Inside inferences (subst (Each Inside) (sym a.inferences_are) (member_blocks_calendar m a.are_found))

@@ -77,7 +77,9 @@ Calendars = Of AreCalendar
 
 calendar_last : (es : List Expr) (e : Expr) → AreCalendar es → HasCalendarLiterals e → AreCalendar (es ++ e ∷ [])
 calendar_last [] e h k = both (has_calendar_literals e) true k refl
-calendar_last (x ∷ es) e h k = let parts = and_parts (has_calendar_literals x) (all_calendar es) h in both (has_calendar_literals x) (all_calendar (es ++ e ∷ [])) parts.0 (calendar_last es e parts.1 k)
+calendar_last (x ∷ es) e h k =
+    let parts = and_parts (has_calendar_literals x) (all_calendar es) h in
+    both (has_calendar_literals x) (all_calendar (es ++ e ∷ [])) parts.0 (calendar_last es e parts.1 k)
 
 with_calendars : (ts : Option (List Expr)) (t : Option Expr) → Calendars ts → Calendar t → Calendars (with_tree ts t)
 with_calendars None t h k = tt
@@ -183,17 +185,26 @@ module _ (b : Bounds) where
   met m r h k = all_calendars (says.two_parts b (says.membership b m) r) (two_parts_calendar (says.membership b m) r (membership_calendar m h) k)
 
   unmet : (m : Member) (r : Reading) → HasCalendarLiterals m.expr → Calendar r.tree → Calendar (says.any b (says.two_parts b (says.denial b (says.membership b m)) r)).tree
-  unmet m r h k = any_calendars (says.two_parts b (says.denial b (says.membership b m)) r) (two_parts_calendar (says.denial b (says.membership b m)) r (denial_calendar (says.membership b m) (membership_calendar m h)) k)
+  unmet m r h k =
+      any_calendars (says.two_parts b (says.denial b (says.membership b m)) r)
+      (two_parts_calendar (says.denial b (says.membership b m)) r (denial_calendar (says.membership b m) (membership_calendar m h)) k)
 
   over_members_calendar : (q : Quant) (m : Member) (rs : List Reading) → HasCalendarLiterals m.expr → Each rs → Calendar (says.over_members b q m rs).tree
-  over_members_calendar quant.ForAll m rs h k = listed_calendar quant.ForAll m _ (one_part_calendar (says.any b (says.two_parts b (says.denial b (says.membership b m)) (says.last_line b rs))) (unmet m (says.last_line b rs) h (last_calendar rs k)))
-  over_members_calendar quant.Exists m rs h k = listed_calendar quant.Exists m _ (one_part_calendar (says.all b (says.two_parts b (says.membership b m) (says.last_line b rs))) (met m (says.last_line b rs) h (last_calendar rs k)))
+  over_members_calendar quant.ForAll m rs h k =
+      listed_calendar quant.ForAll m _
+      (one_part_calendar (says.any b (says.two_parts b (says.denial b (says.membership b m)) (says.last_line b rs))) (unmet m (says.last_line b rs) h (last_calendar rs k)))
+  over_members_calendar quant.Exists m rs h k =
+      listed_calendar quant.Exists m _
+      (one_part_calendar (says.all b (says.two_parts b (says.membership b m) (says.last_line b rs))) (met m (says.last_line b rs) h (last_calendar rs k)))
   over_members_calendar quant.Count m rs h k = listed_calendar quant.CountIf m _ (one_part_calendar (says.membership b m) (membership_calendar m h))
-  over_members_calendar quant.CountIf m rs h k = listed_calendar quant.CountIf m _ (one_part_calendar (says.all b (says.two_parts b (says.membership b m) (says.last_line b rs))) (met m (says.last_line b rs) h (last_calendar rs k)))
+  over_members_calendar quant.CountIf m rs h k =
+      listed_calendar quant.CountIf m _
+      (one_part_calendar (says.all b (says.two_parts b (says.membership b m) (says.last_line b rs))) (met m (says.last_line b rs) h (last_calendar rs k)))
   over_members_calendar quant.Sum m rs h k = listed_calendar quant.SumIf m _ (two_parts_calendar (says.last_line b rs) (says.membership b m) (last_calendar rs k) (membership_calendar m h))
   over_members_calendar quant.SumIf m rs h k =
       listed_calendar quant.SumIf m _
-      (two_parts_calendar (says.last_line b (but_last rs)) (says.all b (says.two_parts b (says.membership b m) (says.last_line b rs))) (last_calendar (but_last rs) (but_last_calendar rs k)) (met m (says.last_line b rs) h (last_calendar rs k)))
+      (two_parts_calendar (says.last_line b (but_last rs)) (says.all b (says.two_parts b (says.membership b m) (says.last_line b rs)))
+      (last_calendar (but_last rs) (but_last_calendar rs k)) (met m (says.last_line b rs) h (last_calendar rs k)))
   over_members_calendar quant.For m rs h k = tt
   over_members_calendar quant.Maximum m rs h k = tt
   over_members_calendar quant.Minimum m rs h k = tt
@@ -211,7 +222,8 @@ module _ (b : Bounds) where
   head_relation_calendar ms q r x h k = over_relation_calendar ms q r (x ∷ []) h (k, tt)
 
   call_calendar : (k : OpKind) (n : Option ℤ) (rs : List Reading) → Each rs → Calendar (says.operation_call b k n rs).tree
-  call_calendar op.Round n rs h = operation_calendar op.Round (says.with_part b (says.lines b rs) (says.written b n)) (with_part_calendar (says.lines b rs) (says.written b n) (lines_calendar rs h) (written_calendar n))
+  call_calendar op.Round n rs h =
+      operation_calendar op.Round (says.with_part b (says.lines b rs) (says.written b n)) (with_part_calendar (says.lines b rs) (says.written b n) (lines_calendar rs h) (written_calendar n))
   call_calendar k n rs h = operation_calendar k (says.lines b rs) (lines_calendar rs h)
 
   called_calendar : (ms : List Member) (f : Function) (a : Arguments) → AreMembers ms → Each a.lines → Calendar (says.called b ms f a).tree

@@ -109,7 +109,8 @@ module _ (m : Lists) (ns : Names) (members : AreMembers ns.members) where
   words_head ws h (c.SpellsHead.condition {x = x} e k) = spelling_calendar ns OPERAND ws x members k.1
   words_head ws h (c.SpellsHead.conclusion e k) = tt
 
-  heads_calendar : (cells : List (List ℕ)) (xs : List Reading) (attrs : List (Option AttrId)) → Each (IsHeadCell m ns) cells (map (λ x. heading.Condition x) xs ++ map (λ a. heading.Conclusion a) attrs) → Readings xs
+  heads_calendar : (cells : List (List ℕ)) (xs : List Reading) (attrs : List (Option AttrId))
+      → Each (IsHeadCell m ns) cells (map (λ x. heading.Condition x) xs ++ map (λ a. heading.Conclusion a) attrs) → Readings xs
   heads_calendar cells [] attrs h = tt
   heads_calendar [] (x ∷ xs) attrs h = absurd h
   heads_calendar (cell ∷ cells) (x ∷ xs) attrs h = (words_head h.0.0 (heading.Condition x) h.0.2, heads_calendar cells xs attrs h.1)
@@ -176,7 +177,8 @@ place_calendar place [] h = tt
 place_calendar zero (x ∷ xs) h = h.0
 place_calendar (suc n) (x ∷ xs) h = place_calendar n xs h.1
 
-with_cases_calendar : (xs : List Reading) (place : ℕ) (cs : Cases) (rs : List Case) → Readings xs → Of RowsCalendar cs.rows → CasesCalendar rs → Of RowsCalendar (with_cases xs place cs rs).rows
+with_cases_calendar : (xs : List Reading) (place : ℕ) (cs : Cases) (rs : List Case)
+    → Readings xs → Of RowsCalendar cs.rows → CasesCalendar rs → Of RowsCalendar (with_cases xs place cs rs).rows
 with_cases_calendar xs place cs [] p s q = s
 with_cases_calendar xs place cs (r ∷ rs) p s q =
     let v = value_at place r.number r.values in
