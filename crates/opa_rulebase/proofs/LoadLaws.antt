@@ -23,7 +23,7 @@ use Rattle.opa_table.specs.declared.whole.TableFile.{TableFile}
 use Rattle.opa_table.specs.Whole.{AreAllRules}
 use Rattle.opa_kinds.specs.Laws.{HaveCalendarLiterals}
 use Rattle.opa_literals.specs.Laws.{InferencesAreOfCalendar, RulesAreOfCalendar}
-use Rattle.opa_rulebase.specs.Loading.{AreInferred, IsAccepted, IsRefused, HasRefusal, IsCircleRefusal, IsPlain, IsUntaken, IsUnacceptedAs, IsRefusedAs, IsRefusalOf, HasLoadError, IsFaultOf, Opens, phrases_of, refusal_in, table_in, with_listed, listed_table, table_files}
+use Rattle.opa_rulebase.specs.Loading.{AreInferred, IsAccepted, IsRefused, HasRefusal, IsCircleRefusal, IsPlain, IsUntaken, IsUnacceptedAs, IsRefusedAs, IsRefusalOf, HasLoadError, IsFaultOf, Opens, refusal_in, table_in, with_listed, listed_table, table_files}
 
 -- ---- phases
 
