@@ -1,5 +1,6 @@
 // The reply to a line.
 ghost use Rattle.std.specs.Prelude.{◌≡◌, ◌≤◌, IfOk, OnErr, IfErr};
+ghost use Rattle.opa_kinds.specs.Laws.{HaveCalendarLiterals};
 ghost use Rattle.opa_talk.specs.Halt.{IsReplyCause};
 ghost use Rattle.opa_script.specs.Laws.{HasLine, IsInRange, IsWellFormed};
 ghost use Rattle.opa_session.specs.Sessions.{rules_of, held_of};
@@ -60,12 +61,14 @@ fn carry_out<F: Shelf>(
     shelf: &mut F,
     command: Command,
 ) -> Result<Vec<u8>, Halt>
-    requires { IsInRange (rules_of session.old).model command }
+    requires command { IsInRange (rules_of session.old).model command }
+    requires literals { HaveCalendarLiterals (rules_of session.old).rules }
     ensures ok { IfOk result (λ t. CarriesOut command (held (rules_of session.old) (held_of session.old) (F.files shelf.old)) t.items (held (rules_of session.new) (held_of session.new) (F.files shelf.new))) }
     ensures err { OnErr result (HaltsAt command (held (rules_of session.old) (held_of session.old) (F.files shelf.old)) (held (rules_of session.new) (held_of session.new) (F.files shelf.new))) }
     ensures cause { IfErr result (IsReplyCause (F.take_faults shelf.old) (F.take_faults shelf.new) (F.keep_faults shelf.old) (F.keep_faults shelf.new)) }
     ensures later_take { F.take_faults shelf.old ≤ F.take_faults shelf.new }
     ensures later_keep { F.keep_faults shelf.old ≤ F.keep_faults shelf.new }
+    ensures base { rules_of session.new ≡ rules_of session.old }
 {
     match command {
         Command::Nothing => Ok(Vec::new(alloc)),
@@ -91,11 +94,13 @@ pub fn reply<F: Shelf>(
     shelf: &mut F,
     line: &[u8],
 ) -> Result<Vec<u8>, Halt>
+    requires literals { HaveCalendarLiterals (rules_of session.old).rules }
     ensures ok { IfOk result (λ t. Replies (held (rules_of session.old) (held_of session.old) (F.files shelf.old)) line.now t.items (held (rules_of session.new) (held_of session.new) (F.files shelf.new))) }
     ensures err { OnErr result (Stops (held (rules_of session.old) (held_of session.old) (F.files shelf.old)) line.now (held (rules_of session.new) (held_of session.new) (F.files shelf.new))) }
     ensures cause { IfErr result (IsReplyCause (F.take_faults shelf.old) (F.take_faults shelf.new) (F.keep_faults shelf.old) (F.keep_faults shelf.new)) }
     ensures later_take { F.take_faults shelf.old ≤ F.take_faults shelf.new }
     ensures later_keep { F.keep_faults shelf.old ≤ F.keep_faults shelf.new }
+    ensures base { rules_of session.new ≡ rules_of session.old }
 {
     match read_command(alloc, &session.base().model, line) {
         Err(fault) => {

@@ -1,20 +1,19 @@
 // What `show` prints.
-ghost use Rattle.std.specs.Prelude.{◌≡◌, ℕ, true, IfOk};
-ghost use Rattle.std.specs.List.{AllByRecursion};
-ghost use Rattle.opa_value.specs.declared.value.Value.{Value as Answer};
+ghost use Rattle.std.specs.Prelude.{◌≡◌, IfOk};
 ghost use Rattle.opa_date.specs.declared.TheConstants.{DAYS};
+ghost use Rattle.opa_kinds.specs.Laws.{HaveCalendarLiterals};
 ghost use Rattle.opa_line.specs.Lines.{StandsFor};
 ghost use Rattle.opa_model.specs.Models.{HasAttribute, HasRelation};
 ghost use Rattle.opa_mean.specs.Rulebases.{value_at};
 ghost use Rattle.opa_session.specs.Places.{has_place};
 ghost use Rattle.opa_session.specs.Sessions.{rules_of, held_of};
-ghost use Rattle.opa_text.specs.Texts.{HasDays, IsOfCalendar};
+ghost use Rattle.opa_text.specs.Texts.{HasDays};
 ghost use Rattle.opa_reply.specs.Refused.{refused_point as point_refusal};
 ghost use Rattle.opa_reply.specs.Shown.{shown as shown_of, shown_line as line_shown_of, IsShown, has_list as has_list_of, AreShown};
 
 use opa_case::{Case, InstanceId};
-use opa_date::DAYS;
-use opa_io::{NoMemory, Txt, front};
+use opa_io::{NoMemory, Txt};
+use opa_kinds::values_have_kinds;
 use opa_line::Line;
 use opa_model::{AttrId, Model, RelId};
 use opa_session::Session;
@@ -38,37 +37,15 @@ fn refused_point(alloc: Global) -> Result<Vec<u8>, NoMemory>
     Ok(b"refused: point\n".to_vec(alloc)?)
 }
 
-/// Whether a day that a value holds is of the calendar.
-fn is_of_calendar(value: &Value) -> bool
-    ensures { result ≡ true → IsOfCalendar value.now }
+/// Where a rulebase has literals of the calendar, the days that a line of an attribute has as values are of the calendar.
+fn has_days(session: &Session, attr: AttrId, inst: &InstanceId, line: &Line<Value>)
+    requires literals { HaveCalendarLiterals (rules_of session.now).rules }
+    requires line { StandsFor DAYS (value_at (rules_of session.now) (held_of session.now) attr inst.now) line.now }
+    ensures { HasDays line.now }
 {
-    match value {
-        Value::Day(day) => *day < DAYS,
-        Value::Unknown | Value::Uncertain | Value::Bool(_) | Value::Num(_) | Value::Words(_) =>
-            true,
-    }
-}
-
-/// Whether the days that pairs have as values are of the calendar.
-fn are_of_calendar(pairs: &[(u32, Value)]) -> bool
-    ensures { result ≡ true → AllByRecursion (λ (p : ℕ × Answer). IsOfCalendar p.1) pairs.now }
-{
-    let mut rest = pairs;
-    while let Some((pair, later)) = front(rest) {
-        if !is_of_calendar(&pair.1) {
-            return false;
-        }
-        rest = later;
-    }
-    true
-}
-
-/// Whether the days that a line has as values are of the calendar.
-#[tactic(auto, using(crate::proofs::Days::has_days))]
-fn has_days(line: &Line<Value>) -> bool
-    ensures { result ≡ true → HasDays line.now }
-{
-    are_of_calendar(line.segments())
+    values_have_kinds();
+    // The rulebase shows that the case fits it.
+    let _base = session.base();
 }
 
 /// `POINT: LINE`
@@ -97,6 +74,7 @@ pub(crate) fn shown_value(
     inst: &InstanceId,
 ) -> Result<Vec<u8>, NoMemory>
     requires declared { HasAttribute (rules_of session.now).model attr }
+    requires literals { HaveCalendarLiterals (rules_of session.now).rules }
     ensures { IfOk result (λ t. IsShown (rules_of session.now) (held_of session.now) attr inst.now t.items) }
 {
     match session.value(alloc, attr, inst)? {
@@ -105,9 +83,7 @@ pub(crate) fn shown_value(
             Ok(text)
         }
         Some(line) => {
-            if !has_days(&line) {
-                return Err(NoMemory);
-            }
+            has_days(session, attr, inst, &line);
             let text = line_shown(alloc, &session.base().model, attr, inst, &line)?;
             Ok(text)
         }

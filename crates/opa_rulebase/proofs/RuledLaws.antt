@@ -1,10 +1,10 @@
 -- Attributes that have a rule, as rules are taken one after another.
-use Rattle.std.proofs.Common.{◌≡◌, ◌≢◌, ◌<◌, ℕ, Bool, true, false, List, [], ◌∷◌, length, replicate, slice_index_or, slice_set, find, Option, Some, None, is_some, cond, refl, sym, ap, ◌∙◌, arith}
+use Rattle.std.proofs.Common.{◌≡◌, ◌≢◌, ◌<◌, ℕ, Bool, true, false, List, [], ◌∷◌, length, replicate, slice_index_or, slice_set, Some, is_some, refl, sym, ap, ◌∙◌, arith}
 use Rattle.std.specs.Prelude.{◌||◌, ◌==◌, if◌then◌else◌}
 use Rattle.std.proofs.lemmas.List.{get_or-set_same, get_or-set_other, get_or-replicate, length-set, length-replicate}
 use Rattle.opa_model.specs.declared.ids.AttrId.{AttrId}
 use Rattle.opa_tree.specs.declared.rules.Rule.{Rule}
-use Rattle.opa_tree.specs.Rules.{rule_of, concludes}
+use Rattle.opa_tree.specs.Rules.{rule_of}
 use Rattle.opa_tree.specs.Ranks.{AreRuled}
 
 or_true : (b : Bool) → (b || true) ≡ true

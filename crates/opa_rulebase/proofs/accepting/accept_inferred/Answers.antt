@@ -1,4 +1,4 @@
-use Rattle.std.proofs.Common.{◌≡◌, ◌<◌, length, All, ap, sym, subst, ◌∙◌}
+use Rattle.std.proofs.Common.{◌<◌, length, All, ap, sym, subst, ◌∙◌}
 use Rattle.std.proofs.lemmas.List.{length-map}
 use Rattle.opa_tree.specs.Accepted.{AreFiled}
 use Rattle.opa_files.specs.declared.source.SourceFile.{SourceFile}

@@ -1,4 +1,4 @@
-use Rattle.std.proofs.Common.{◌≡◌, ◌<◌, ◌∷◌, length, subst, All}
+use Rattle.std.proofs.Common.{◌<◌, subst, All}
 use Rattle.std.proofs.lemmas.List.Elements.{All-head, All-tail}
 use Rattle.opa_tree.specs.declared.rules.Rule.{Rule}
 use Rattle.opa_rulebase.proofs.RuledLaws.{one_more}

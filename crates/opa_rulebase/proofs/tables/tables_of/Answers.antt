@@ -1,4 +1,4 @@
-use Rattle.std.proofs.Common.{◌≡◌, ◌+◌, ◌<◌, ◌++◌, All, length, ap, ◌∙◌, sym, subst, append-nil, arith}
+use Rattle.std.proofs.Common.{◌<◌, All, length, ap, ◌∙◌, sym, subst, arith}
 use Rattle.opa_table.specs.declared.whole.TableFile.{TableFile}
 use Rattle.opa_rulebase.specs.Loading.{table_files, with_listed}
 use Rattle.opa_rulebase.proofs.LoadLaws.{tables_more, tables_placed, tables_end}

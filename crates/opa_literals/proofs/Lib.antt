@@ -1,0 +1,4 @@
+mod GroupsOfCalendar
+mod LinesOfCalendar
+mod TablesOfCalendar
+mod Trees
