@@ -124,6 +124,46 @@ fn texts(rt: HostRuntime) -> Result<(), Fail> {
     Ok(())
 }
 
+/// Bytes that are no text of JSON: a character NUL in a string, a number that is out of range, and a quote that isn't closed.
+const NO_JSON: [(&str, u8); 3] = [
+    (
+        "{\"answers\":[],\"format\":\"policy\u{0}case\",\"lists\":[],\"version\":1}",
+        1,
+    ),
+    ("{\"answers\":1e400}", 1),
+    ("{\"answers\":[],\"format\":\"policy-case", 1),
+];
+
+#[test]
+fn no_json(rt: HostRuntime) -> Result<(), Fail> {
+    let model = model(rt.alloc(), 4)?;
+    assert_eq!(rt; first_wrong(rt.alloc(), &model, &NO_JSON)?, NO_JSON.len());
+    Ok(())
+}
+
+/// So many brackets that open, and as many that close.
+fn brackets(alloc: Global, count: usize, closed: usize) -> Result<String, NoMemory> {
+    let mut text = String::new(alloc);
+    for _ in 0..count {
+        text.push_str("[")?;
+    }
+    for _ in 0..closed {
+        text.push_str("]")?;
+    }
+    Ok(text)
+}
+
+#[test]
+fn nested(rt: HostRuntime) -> Result<(), Fail> {
+    let alloc = rt.alloc();
+    let model = model(alloc, 4)?;
+    let deep = brackets(alloc, 200, 200)?;
+    assert_eq!(rt; outcome(alloc, &model, deep.as_str())?, 1);
+    let long = brackets(alloc, 8_388_608, 0)?;
+    assert_eq!(rt; outcome(alloc, &model, long.as_str())?, 1);
+    Ok(())
+}
+
 /// A text of version 2 with these answers and lists.
 fn framed(alloc: Global, answers: &str, lists: &str) -> Result<String, NoMemory> {
     let mut text = String::from_str(alloc, "{\"answers\":[")?;

@@ -4,6 +4,7 @@ ghost use Rattle.opa_case.specs.Fits.{Fits};
 ghost use Rattle.opa_case.specs.Shapes.{shape_of};
 ghost use Rattle.opa_saved.specs.Loading as meant;
 ghost use Rattle.opa_saved.specs.Loading.{IsLoaded, HasLoadFault};
+ghost use Rattle.opa_saved.specs.LoadLaws.{FirstIsRaised};
 ghost use Rattle.opa_saved.specs.Whole.{seen};
 ghost use Rattle.opa_saved.specs.declared.fault.LoadFault.TheVariants as faults;
 
@@ -11,6 +12,7 @@ use crate::build::case_of_lists;
 use crate::digest::digest;
 use crate::entries::{Entries, Version};
 use crate::fault::LoadFault;
+use crate::laws::first_is_raised;
 use crate::living::Living;
 use crate::loaded::{Loaded, Origin};
 use crate::maps::lists_of;
@@ -27,7 +29,11 @@ pub fn load(alloc: Global, model: &Model, ruled: &Ruled, bytes: &[u8]) -> Result
     ensures loaded { IfOk result (λ l. IsLoaded model.now ruled.now bytes.now l.case l.origin) }
     ensures fits { IfOk result (λ l. Fits (shape_of model.now) ruled.now l.case) }
     ensures fault { IfErr result (HasLoadFault model.now ruled.now bytes.now) }
+    // A line of version 1 has on day k + 73,049 what is written for day k, before these days what is written for day 0, and after
+    // them what is written last.
+    ensures raised { FirstIsRaised }
 {
+    first_is_raised();
     let Some(value) = value_of_bytes(alloc, bytes)? else {
         return Err(LoadFault::NotJson);
     };
