@@ -1,0 +1,70 @@
+"""Writes the rulebases and inputs that docs/PERFORMANCE.md speaks of into the folder in which it runs."""
+
+import json
+
+# 64 MiB of lines
+with open("shows_input.txt", "w") as file:
+    file.write("show the claimant is entitled\n" * (67108864 // 30))
+
+# a sum over persons
+with open("sum.txt", "w") as file:
+    file.write("global\n  number the total\nentity the person\n  in global: the persons\n  number the income\nthe total = InstanceSum(the persons, the income)\n")
+
+# persons, answered one by one, and the sum shown at the end or after each answer
+def persons(name, count, shown_each):
+    names = [f'"p{n}"' for n in range(count)]
+    with open(name, "w") as file:
+        file.write("list the persons = " + ", ".join(names) + "\n")
+        for n in range(count):
+            file.write(f"answer the income of {names[n]} = {n}; from 2020-01-01 {n + 1}; from 2022-06-01 {n + 2}\n")
+            if shown_each:
+                file.write("show the total\n")
+        file.write("show the total\n")
+
+persons("end_input.txt", 1000, False)
+for count in (250, 500, 1000):
+    persons(f"each_{count}_input.txt", count, True)
+
+# a chain of 4,000 attributes and 3,999 rules
+with open("chain.txt", "w") as file:
+    file.write("global\n" + "".join(f"  number a{n}\n" for n in range(4000)) + "".join(f"a{n} = a{n - 1} + 1\n" for n in range(1, 4000)))
+with open("chain_input.txt", "w") as file:
+    file.write("answer a0 = 0; from 2024-02-29 1\nshow a3999\n")
+
+# 4,000 attributes, each with a rule, and 196,000 nodes in all
+with open("wide.txt", "w") as file:
+    file.write("global\n" + "".join(f"  number a{n}\n" for n in range(4000)) + "".join(f"a{n} = " + " + ".join(["1"] * 25) + "\n" for n in range(4000)))
+
+# forty rules, each of which looks back a hundred years from each day
+with open("forty.txt", "w") as file:
+    file.write("verb is / is not / is /\nglobal\n  bool the claimant [is] employed\n")
+    file.write("".join(f"  bool the claimant [is] steady {n}\n" for n in range(1, 41)))
+    file.write("".join(f"the claimant is steady {n} if\n  TemporalAlwaysDays(36600, the claimant is employed)\n" for n in range(1, 41)))
+with open("forty_input.txt", "w") as file:
+    file.write("answer the claimant is employed = true\n" + "".join(f"show the claimant is steady {n}\n" for n in range(1, 41)))
+
+# saved sessions: so many persons with ten changes each, all on other days
+def saved(name, count):
+    answers = []
+    for n in range(count):
+        line = [[0, "n:1"]] + [[29000 * k + n, f"n:{k + 1}"] for k in range(1, 10)]
+        answers.append({"attribute": "the income", "line": line, "of": f"p{n}"})
+    lists = [{"list": "the persons", "names": [f"p{n}" for n in range(count)], "of": ""}]
+    with open(name, "w") as file:
+        json.dump({"answers": answers, "format": "policy-case", "lists": lists, "model": 0, "version": 2}, file, separators=(",", ":"), sort_keys=True)
+
+saved("persons_5000.json", 5000)
+saved("persons_10000.json", 10000)
+for count in (5000, 10000):
+    with open(f"load_{count}_input.txt", "w") as file:
+        file.write(f'load "persons_{count}.json"\n')
+    with open(f"sum_{count}_input.txt", "w") as file:
+        file.write(f'load "persons_{count}.json"\nshow the total\nsave "again_{count}.json"\nload "again_{count}.json"\n')
+
+# schools with one pupil each: one change of a containment list a school
+with open("schools.txt", "w") as file:
+    file.write("global\n  number the total\nentity the school\n  in global: the schools\nentity the pupil\n  in the school: the pupils\n  number the age\nthe total = InstanceCount(the schools)\n")
+for count in (250, 500, 1000, 2000):
+    with open(f"schools_{count}_input.txt", "w") as file:
+        file.write("list the schools = " + ", ".join(f'"s{n}"' for n in range(count)) + "\n")
+        file.write("".join(f'list the pupils of "s{n}" = "p{n}"\n' for n in range(count)) + "show the total\n")
