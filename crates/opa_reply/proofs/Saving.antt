@@ -1,7 +1,7 @@
 -- What keeping the case under a name leaves.
 use Rattle.std.proofs.Common.{◌≡◌, inl, inr, List, [], ◌∷◌, ◌++◌, codes, ℕ, Ok, Err, refl, ap, subst}
 use Rattle.std.specs.Prelude.{Option, None, Some}
-use Rattle.opa_io.specs.Outside.{Files, Keeps}
+use Rattle.opa_io.specs.Outside.{Files, Keeps, Rose}
 use Rattle.opa_case.specs.Cases.{CaseView}
 use Rattle.opa_script.specs.declared.command.Command.TheVariants as command
 use Rattle.opa_saved.specs.Saved.{saved_text}
@@ -23,10 +23,11 @@ module _ (E : Type 0) (r : Rulebase) (c : CaseView) (old new : Option Files) (na
   pub saves : (u : Unit {0}) (text : List ℕ) → text ≡ codes "saved" ++ 10 ∷ [] → Keeps {E = E} old new name bytes (Ok u) → Saves (held r c old) name text (held r c new)
   saves u text says k = record { says = says; others = refl; kept = subst (λ b. HasKept name b old new) is (has_kept E old new name bytes u k) }
 
-pub halts : (E : Type 0) (r : Rulebase) (c : CaseView) (old new : Option Files) (name bytes : List ℕ) (e : E) → Keeps {E = E} old new name bytes (Err e) → HaltsAt (command.Save name) (held r c old) (held r c new)
-halts E r c old new name bytes e k = inr (refl, others_stay E old new name bytes e k)
+module _ (keep keep' : ℕ) where
+  pub halts : (E : Type 0) (r : Rulebase) (c : CaseView) (old new : Option Files) (name bytes : List ℕ) (e : E) → Keeps {E = E} old new name bytes (Err e) → Rose keep keep' → HaltsAt keep keep' (command.Save name) (held r c old) (held r c new)
+  halts E r c old new name bytes e k rose = inr (rose, (name, refl, (refl, others_stay E old new name bytes e k)))
 
-pub as_it_was : (x : Held) (name : List ℕ) → HaltsAt (command.Save name) x x
-as_it_was x name = inl refl
+  pub as_it_was : (x : Held) (name : List ℕ) → HaltsAt keep keep' (command.Save name) x x
+  as_it_was x name = inl refl
 
 pub ruleset saving = (saves, halts, as_it_was)

@@ -1,4 +1,5 @@
 pub mod Held
+pub mod Lines
 pub mod Refused
 pub mod Loads
 pub mod Shown

@@ -1,7 +1,7 @@
 -- What a line prints, and what is held after it.
-use Rattle.std.specs.Prelude.{◌≡◌, ◌≢◌, ◌⊎◌, ℕ, false, List, [], ◌∷◌, ◌++◌, codes, Option, None, Some, MatchResult}
+use Rattle.std.specs.Prelude.{◌≡◌, ◌≢◌, ◌⊎◌, ℕ, true, false, List, [], ◌∷◌, ◌++◌, codes, Option, None, Some, MatchResult}
 use Rattle.std.specs.FinMap as map
-use Rattle.opa_io.specs.Outside.{Files, SameBut}
+use Rattle.opa_io.specs.Outside.{Files, Rose, SameBut}
 use Rattle.opa_talk.specs.Transcript.{Rule}
 use Rattle.opa_case.specs.Cases.{CaseView}
 use Rattle.opa_case.specs.Shapes.{shape_of}
@@ -14,6 +14,7 @@ use Rattle.opa_script.specs.declared.fault.CmdFault.TheVariants as fault
 use Rattle.opa_script.specs.Commands.{IsCommand, IsNoCommand}
 use Rattle.opa_script.specs.Laws.{IsWellFormed}
 use Rattle.opa_saved.specs.Saved.{saved_text}
+use Rattle.opa_reply.specs.Lines.{text_of, is_too_long}
 use Rattle.opa_reply.specs.Held.{Held, base_in, case_in, files_in, with_case}
 use Rattle.opa_reply.specs.Refused.{refused_command, refused_change}
 use Rattle.opa_reply.specs.Loads.{Loads}
@@ -60,14 +61,18 @@ CarriesOut (command.Report a i d) x text y = IsUnbuilt x text y
 CarriesOut command.Stats x text y = IsUnbuilt x text y
 CarriesOut (command.Dismiss n) x text y = IsUnbuilt x text y
 
--- the line is this command
+-- the line isn't too long, and its text is this command
 abbrev pub Asks : Held → List ℕ → Command → Type 0
-Asks x line c = IsCommand (base_in x).model line c × IsWellFormed c
+Asks x line c = (is_too_long line ≡ false) × IsCommand (base_in x).model (text_of line) c × IsWellFormed c
+
+-- The line is no command, for this reason: it is too long, or its text is none.
+abbrev pub AsksNothing : Held → List ℕ → CmdFault → Type 0
+AsksNothing x line f = ((is_too_long line ≡ true) × (f ≡ fault.NotACommand)) ⊎ ((is_too_long line ≡ false) × IsNoCommand (base_in x).model (text_of line) f)
 
 -- A line that is no command is refused, and another is carried out.
 abbrev pub Replies : Held → List ℕ → List ℕ → Held → Type 0
 Replies x line text y =
-    ((f : CmdFault) × (f ≢ fault.NoMemory) × IsNoCommand (base_in x).model line f × (text ≡ refused_command f) × (y ≡ x))
+    ((f : CmdFault) × (f ≢ fault.NoMemory) × AsksNothing x line f × (text ≡ refused_command f) × (y ≡ x))
     ⊎ ((c : Command) × Asks x line c × CarriesOut c x text y)
 
 -- the files but the one of this name are as they were, where they are told
@@ -76,13 +81,17 @@ OthersStay name None new = Unit {0}
 OthersStay name (Some old) None = ⊥
 OthersStay name (Some old) (Some new) = SameBut name old new
 
--- Where a command halts, all is held as it was; but for a name under which the case couldn't be kept.
-abbrev pub HaltsAt : Command → Held → Held → Type 0
-HaltsAt (command.Save name) x y = (y ≡ x) ⊎ ((y.0 ≡ x.0) × OthersStay name (files_in x) (files_in y))
-HaltsAt c x y = y ≡ x
+-- Where the case couldn't be kept under a name, all else is held as it was.
+abbrev pub FailsToKeep : List ℕ → Held → Held → Type 0
+FailsToKeep name x y = (y.0 ≡ x.0) × OthersStay name (files_in x) (files_in y)
 
+-- what a line that saves the case leaves where keeping the file failed
 abbrev pub Stops : Held → List ℕ → Held → Type 0
-Stops x line y = (y ≡ x) ⊎ ((c : Command) × Asks x line c × HaltsAt c x y)
+Stops x line y = (name : List ℕ) × Asks x line (command.Save name) × FailsToKeep name x y
+
+-- Where a command halts, all is held as it was; but where keeping a file failed, for its name.
+abbrev pub HaltsAt : ℕ → ℕ → Command → Held → Held → Type 0
+HaltsAt keep keep' c x y = (y ≡ x) ⊎ (Rose keep keep' × ((name : List ℕ) × (c ≡ command.Save name) × FailsToKeep name x y))
 
 -- The rule of a conversation: there are no prompts, and it is never over.
 abbrev pub conversation : Rule Held

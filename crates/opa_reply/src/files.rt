@@ -21,7 +21,7 @@ pub(crate) fn save<F: Shelf>(
     name: &Txt,
 ) -> Result<Vec<u8>, Halt>
     ensures ok { IfOk result (λ t. CarriesOut (commands.Save name.now) (held (rules_of session.now) (held_of session.now) (F.files shelf.old)) t.items (held (rules_of session.now) (held_of session.now) (F.files shelf.new))) }
-    ensures err { OnErr result (HaltsAt (commands.Save name.now) (held (rules_of session.now) (held_of session.now) (F.files shelf.old)) (held (rules_of session.now) (held_of session.now) (F.files shelf.new))) }
+    ensures err { OnErr result (HaltsAt (F.keep_faults shelf.old) (F.keep_faults shelf.new) (commands.Save name.now) (held (rules_of session.now) (held_of session.now) (F.files shelf.old)) (held (rules_of session.now) (held_of session.now) (F.files shelf.new))) }
     ensures cause { IfErr result (IsReplyCause (F.take_faults shelf.old) (F.take_faults shelf.new) (F.keep_faults shelf.old) (F.keep_faults shelf.new)) }
     ensures later_take { F.take_faults shelf.old ≤ F.take_faults shelf.new }
     ensures later_keep { F.keep_faults shelf.old ≤ F.keep_faults shelf.new }

@@ -4,6 +4,7 @@
 mod changes;
 mod conversation;
 mod files;
+mod lines;
 mod loading;
 mod refused;
 mod replying;

@@ -2,6 +2,7 @@
 ghost use Rattle.std.specs.Prelude.{◌≡◌, ◌≤◌, IfOk, OnErr, IfErr};
 ghost use Rattle.opa_kinds.specs.Laws.{HaveCalendarLiterals};
 ghost use Rattle.opa_talk.specs.Halt.{IsReplyCause};
+ghost use Rattle.opa_talk.specs.Talk.{WhereRose, LeftBy};
 ghost use Rattle.opa_script.specs.Laws.{HasLine, IsInRange, IsWellFormed};
 ghost use Rattle.opa_session.specs.Sessions.{rules_of, held_of};
 ghost use Rattle.opa_reply.specs.Held.{held};
@@ -9,12 +10,13 @@ ghost use Rattle.opa_reply.specs.Replies.{CarriesOut, HaltsAt, Replies, Stops};
 
 use crate::changes::change;
 use crate::files::save;
+use crate::lines::{is_too_long, text_of};
 use crate::loading::load_file;
 use crate::refused::{refused, refused_command};
 use crate::shown::{shown_members, shown_value};
 use opa_case::ChangeCommand;
 use opa_io::Shelf;
-use opa_script::{Command, commands_are_in_range, read_command};
+use opa_script::{CmdFault, Command, commands_are_in_range, read_command};
 use opa_session::Session;
 use opa_talk::Halt;
 use std::alloc::Global;
@@ -54,7 +56,7 @@ fn is_well_formed(command: &Command)
 }
 
 /// Carries out a command.
-#[tactic(auto, using(crate::proofs::ReplyLaws::loads_file))]
+#[tactic(auto, using(crate::proofs::ReplyLaws::carrying))]
 fn carry_out<F: Shelf>(
     alloc: Global,
     session: &mut Session,
@@ -64,7 +66,7 @@ fn carry_out<F: Shelf>(
     requires command { IsInRange (rules_of session.old).model command }
     requires literals { HaveCalendarLiterals (rules_of session.old).rules }
     ensures ok { IfOk result (λ t. CarriesOut command (held (rules_of session.old) (held_of session.old) (F.files shelf.old)) t.items (held (rules_of session.new) (held_of session.new) (F.files shelf.new))) }
-    ensures err { OnErr result (HaltsAt command (held (rules_of session.old) (held_of session.old) (F.files shelf.old)) (held (rules_of session.new) (held_of session.new) (F.files shelf.new))) }
+    ensures err { OnErr result (HaltsAt (F.keep_faults shelf.old) (F.keep_faults shelf.new) command (held (rules_of session.old) (held_of session.old) (F.files shelf.old)) (held (rules_of session.new) (held_of session.new) (F.files shelf.new))) }
     ensures cause { IfErr result (IsReplyCause (F.take_faults shelf.old) (F.take_faults shelf.new) (F.keep_faults shelf.old) (F.keep_faults shelf.new)) }
     ensures later_take { F.take_faults shelf.old ≤ F.take_faults shelf.new }
     ensures later_keep { F.keep_faults shelf.old ≤ F.keep_faults shelf.new }
@@ -96,13 +98,17 @@ pub fn reply<F: Shelf>(
 ) -> Result<Vec<u8>, Halt>
     requires literals { HaveCalendarLiterals (rules_of session.old).rules }
     ensures ok { IfOk result (λ t. Replies (held (rules_of session.old) (held_of session.old) (F.files shelf.old)) line.now t.items (held (rules_of session.new) (held_of session.new) (F.files shelf.new))) }
-    ensures err { OnErr result (Stops (held (rules_of session.old) (held_of session.old) (F.files shelf.old)) line.now (held (rules_of session.new) (held_of session.new) (F.files shelf.new))) }
+    ensures err { OnErr result (LeftBy (WhereRose (F.keep_faults shelf.old) (F.keep_faults shelf.new) Stops) (held (rules_of session.old) (held_of session.old) (F.files shelf.old)) line.now (held (rules_of session.new) (held_of session.new) (F.files shelf.new))) }
     ensures cause { IfErr result (IsReplyCause (F.take_faults shelf.old) (F.take_faults shelf.new) (F.keep_faults shelf.old) (F.keep_faults shelf.new)) }
     ensures later_take { F.take_faults shelf.old ≤ F.take_faults shelf.new }
     ensures later_keep { F.keep_faults shelf.old ≤ F.keep_faults shelf.new }
     ensures base { rules_of session.new ≡ rules_of session.old }
 {
-    match read_command(alloc, &session.base().model, line) {
+    if is_too_long(line) {
+        let text = refused_command(alloc, CmdFault::NotACommand)?;
+        return Ok(text);
+    }
+    match read_command(alloc, &session.base().model, text_of(line)) {
         Err(fault) => {
             let text = refused_command(alloc, fault)?;
             Ok(text)

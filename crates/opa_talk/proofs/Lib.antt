@@ -2,4 +2,5 @@ pub mod EndLaws
 pub mod FeedLaws
 pub mod LinesLaws
 pub mod PointsLaws
+mod RoseLaws
 pub mod TranscriptLaws

@@ -1,66 +1,57 @@
 -- The lines of bytes that are cut at a line feed.
-use Rattle.std.proofs.Common.{◌+◌, ◌<◌, ◌≤◌, slice_index_or, subst, arith, ◌≡◌, inl, inr, ℕ, Bool, true, false, List, [], ◌∷◌, ◌++◌, ◌&&◌, map, ap, sym, ◌∙◌, refl, append_assoc, append-nil, eqb, take, drop, length}
+use Rattle.std.proofs.Common.{◌+◌, ◌<◌, ◌≤◌, slice_index_or, subst, arith, ◌≡◌, inl, inr, ℕ, Bool, true, false, List, [], ◌∷◌, ◌++◌, ◌&&◌, ap, sym, ◌∙◌, refl, append_assoc, append-nil, eqb, take, drop, length}
 use Rattle.std.specs.Prelude.{if◌then◌else◌, ◌==◌}
 use Rattle.std.specs.Str.{bytes_eq}
-use Rattle.std.specs.Str.Lines.{lines, lines_of_parts, strip_carriage_return}
-use Rattle.std.specs.List.{slice_split, onto_first}
-use Rattle.std.proofs.lemmas.List.Elements.{All-drop, All-push}
+use Rattle.std.specs.List.{onto_first}
+use Rattle.std.proofs.lemmas.List.Elements.{All-drop, All-push, All-head, All-tail}
 use Rattle.std.proofs.lemmas.Bool.Decides.{eqb_tells}
 use Rattle.std.proofs.lemmas.List.{take_more, take_all}
-use Rattle.std.proofs.lemmas.List.Splits.{slice_split_at, slice_split_none}
-use Rattle.opa_talk.specs.Lines.{without_mark, line_at, lines_from, IsPart, EndsLine}
+use Rattle.opa_talk.specs.Lines.{lines, without_mark, line_at, lines_from, IsPart, EndsLine}
 use Rattle.opa_talk.specs.Points.{is_empty}
 
--- a list of parts has a first
+-- a list of lines has a first
 first_cond : (test : Bool) (b : ℕ) (parts : List (List ℕ)) → (x : List ℕ) × (xs : List (List ℕ)) × (parts ≡ x ∷ xs)
-    → (x : List ℕ) × (xs : List (List ℕ)) × ((if test then [] ∷ parts else onto_first b parts) ≡ x ∷ xs)
-first_cond true b parts q = ([], parts, refl)
+    → (x : List ℕ) × (xs : List (List ℕ)) × ((if test then (b ∷ []) ∷ parts else onto_first b parts) ≡ x ∷ xs)
+first_cond true b parts q = (b ∷ [], parts, refl)
 first_cond false b parts q = (b ∷ q.0, q.1, ap (onto_first b) q.2)
 
-first_part : (p : ℕ → Bool) (bytes : List ℕ) → (x : List ℕ) × (xs : List (List ℕ)) × (slice_split p bytes ≡ x ∷ xs)
-first_part p [] = ([], [], refl)
-first_part p (b ∷ bytes) = first_cond (p b) b (slice_split p bytes) (first_part p bytes)
+-- there is a line where a line feed stands
+first_feed : (bytes more : List ℕ) → (x : List ℕ) × (xs : List (List ℕ)) × (lines (bytes ++ 10 ∷ more) ≡ x ∷ xs)
+first_feed [] more = (10 ∷ [], lines more, refl)
+first_feed (b ∷ bytes) more = first_cond (b == 10) b (lines (bytes ++ 10 ∷ more)) (first_feed bytes more)
+
+-- a byte that is no line feed goes on the first line
+onto_other : (b : ℕ) (bytes : List ℕ) → (b == 10) ≡ false → lines (b ∷ bytes) ≡ onto_first b (lines bytes)
+onto_other b bytes other = ap (λ t. if t then (b ∷ []) ∷ lines bytes else onto_first b (lines bytes)) other
 
 -- the first line, and those after it
-pub lines_first : (line more : List ℕ) → IsPart line → lines (line ++ 10 ∷ more) ≡ strip_carriage_return line ∷ lines more
-lines_first line more part =
-    let q = first_part (λ b. b == 10) more in
-    ap lines_of_parts (slice_split_at (λ b. b == 10) line 10 more part refl ∙ ap (λ s. line ∷ s) q.2) ∙ ap (λ s. strip_carriage_return line ∷ lines_of_parts s) (sym q.2)
+pub lines_first : (line more : List ℕ) → IsPart line → lines (line ++ 10 ∷ more) ≡ (line ++ 10 ∷ []) ∷ lines more
+lines_first [] more part = refl
+lines_first (b ∷ line) more part =
+    onto_other b (line ++ 10 ∷ more) (All-head (λ b. (b == 10) ≡ false) b line part) ∙ ap (onto_first b) (lines_first line more (All-tail (λ b. (b == 10) ≡ false) b line part))
+
+last_line : (b : ℕ) (line : List ℕ) → IsPart (b ∷ line) → lines (b ∷ line) ≡ (b ∷ line) ∷ []
+last_line b [] part = onto_other b [] (All-head (λ b. (b == 10) ≡ false) b [] part)
+last_line b (c ∷ line) part =
+    onto_other b (c ∷ line) (All-head (λ b. (b == 10) ≡ false) b (c ∷ line) part) ∙ ap (onto_first b) (last_line c line (All-tail (λ b. (b == 10) ≡ false) b (c ∷ line) part))
 
 -- a last line without a line feed counts if it isn't empty
-pub lines_last : (line : List ℕ) → IsPart line → lines line ≡ (if length line == 0 then [] else line ∷ [])
-lines_last line part = ap lines_of_parts (slice_split_none (λ b. b == 10) line part)
+pub lines_last : (line : List ℕ) → IsPart line → (length line == 0) ≡ false → lines line ≡ line ∷ []
+lines_last [] part full = let no : true ≡ false = full in absurd (cc no)
+lines_last (b ∷ line) part full = last_line b line part
 
 onto_first-append : (x : ℕ) (parts more : List (List ℕ)) → (p : List ℕ) × (ps : List (List ℕ)) × (parts ≡ p ∷ ps) → onto_first x (parts ++ more) ≡ onto_first x parts ++ more
 onto_first-append x parts more q = ap (λ ps. onto_first x (ps ++ more)) q.2 ∙ ap (λ ps. onto_first x ps ++ more) (sym q.2)
 
-split_cond : (test : Bool) (x : ℕ) (parts more all : List (List ℕ)) → (p : List ℕ) × (ps : List (List ℕ)) × (parts ≡ p ∷ ps) → all ≡ parts ++ more
-    → (if test then [] ∷ all else onto_first x all) ≡ (if test then [] ∷ parts else onto_first x parts) ++ more
-split_cond true x parts more all q e = ap (λ s. [] ∷ s) e
-split_cond false x parts more all q e = ap (onto_first x) e ∙ onto_first-append x parts more q
-
--- the parts before a cut, and those after it
-slice_split-append : (xs ys : List ℕ) → slice_split (λ b. b == 10) (xs ++ 10 ∷ ys) ≡ slice_split (λ b. b == 10) xs ++ slice_split (λ b. b == 10) ys
-slice_split-append [] ys = refl
-slice_split-append (x ∷ xs) ys =
-    split_cond (x == 10) x (slice_split (λ b. b == 10) xs) (slice_split (λ b. b == 10) ys) (slice_split (λ b. b == 10) (xs ++ 10 ∷ ys)) (first_part (λ b. b == 10) xs) (slice_split-append xs ys)
-
--- each part but the last is a line
-parts_lines : (parts : List (List ℕ)) (q : List ℕ) (qs : List (List ℕ)) → lines_of_parts (parts ++ q ∷ qs) ≡ map strip_carriage_return parts ++ lines_of_parts (q ∷ qs)
-parts_lines [] q qs = refl
-parts_lines (p ∷ []) q qs = refl
-parts_lines (p ∷ p2 ∷ parts) q qs = ap (λ s. strip_carriage_return p ∷ s) (parts_lines (p2 ∷ parts) q qs)
-
-lines_parts : (xs ys : List ℕ) → lines (xs ++ 10 ∷ ys) ≡ map strip_carriage_return (slice_split (λ b. b == 10) xs) ++ lines ys
-lines_parts xs ys =
-    let q = first_part (λ b. b == 10) ys in
-    ap lines_of_parts (slice_split-append xs ys ∙ ap (λ s. slice_split (λ b. b == 10) xs ++ s) q.2)
-    ∙ parts_lines (slice_split (λ b. b == 10) xs) q.0 q.1
-    ∙ ap (λ s. map strip_carriage_return (slice_split (λ b. b == 10) xs) ++ lines_of_parts s) (sym q.2)
+cut_cond : (test : Bool) (x : ℕ) (parts more all : List (List ℕ)) → (p : List ℕ) × (ps : List (List ℕ)) × (parts ≡ p ∷ ps) → all ≡ parts ++ more
+    → (if test then (x ∷ []) ∷ all else onto_first x all) ≡ (if test then (x ∷ []) ∷ parts else onto_first x parts) ++ more
+cut_cond true x parts more all q e = ap (λ s. (x ∷ []) ∷ s) e
+cut_cond false x parts more all q e = ap (onto_first x) e ∙ onto_first-append x parts more q
 
 -- the lines before a line feed, and those after it
 pub lines_cut : (xs ys : List ℕ) → lines (xs ++ 10 ∷ ys) ≡ lines (xs ++ 10 ∷ []) ++ lines ys
-lines_cut xs ys = lines_parts xs ys ∙ ap (λ s. s ++ lines ys) (sym (append-nil (map strip_carriage_return (slice_split (λ b. b == 10) xs))) ∙ sym (lines_parts xs []))
+lines_cut [] ys = refl
+lines_cut (x ∷ xs) ys = cut_cond (x == 10) x (lines (xs ++ 10 ∷ [])) (lines ys) (lines (xs ++ 10 ∷ ys)) (first_feed xs []) (lines_cut xs ys)
 
 and_false : (b : Bool) → (b && false) ≡ false
 and_false true = refl
@@ -101,8 +92,9 @@ line_at_part true line part = if_part (bytes_eq (take 3 line) (239 ∷ 187 ∷ 1
 line_at_part false line part = part
 
 -- one line, which a line feed ends
-pub lines_from_line : (fresh : Bool) (line : List ℕ) → IsPart line → lines_from fresh (line ++ 10 ∷ []) ≡ strip_carriage_return (line_at fresh line) ∷ []
-lines_from_line fresh line part = ap lines (line_at-append fresh line []) ∙ lines_first (line_at fresh line) [] (line_at_part fresh line part)
+pub lines_from_line : (fresh : Bool) (line : List ℕ) → IsPart line → lines_from fresh (line ++ 10 ∷ []) ≡ line_at fresh (line ++ 10 ∷ []) ∷ []
+lines_from_line fresh line part =
+    ap lines (line_at-append fresh line []) ∙ lines_first (line_at fresh line) [] (line_at_part fresh line part) ∙ ap (λ l. l ∷ []) (sym (line_at-append fresh line []))
 
 -- the lines of a front that a line feed ends, and those after it
 pub lines_from-cut : (fresh : Bool) (xs ys : List ℕ) → lines_from fresh (xs ++ 10 ∷ ys) ≡ lines_from fresh (xs ++ 10 ∷ []) ++ lines ys

@@ -2,13 +2,12 @@
 use Rattle.std.proofs.Common.{inl, inr, subst, ◌≡◌, ℕ, Bool, true, false, List, [], ◌∷◌, ◌++◌, ◌&&◌, ap, sym, ◌∙◌, refl, append_assoc, append-nil, length, Result, Ok, Err, OnErr}
 use Rattle.std.specs.declared.option.Option.{Option}
 use Rattle.std.specs.Io.KnownBytes.{Appends}
-use Rattle.std.specs.Prelude.{if◌then◌else◌, ◌==◌}
-use Rattle.std.specs.Str.Lines.{lines, strip_carriage_return}
+use Rattle.std.specs.Prelude.{◌==◌}
 use Rattle.opa_io.specs.Outside.{AppendsFront}
 use Rattle.opa_io.proofs.Appended.{Appends-append, Appends-none}
-use Rattle.opa_talk.specs.Lines.{line_at, lines_from, IsPart, EndsLine}
+use Rattle.opa_talk.specs.Lines.{lines, line_at, lines_from, IsPart, EndsLine}
 use Rattle.opa_talk.specs.Transcript.{Rule, IsGoing, Prints}
-use Rattle.opa_talk.specs.Talk.{LeftAt}
+use Rattle.opa_talk.specs.Talk.{LeftBy, LeftAt}
 use Rattle.opa_talk.specs.Points.{Point, is_empty, CarriesOut, Breaks, CarriesLine, StopsAt, Finishes}
 use Rattle.opa_talk.proofs.LinesLaws.{lines_last, line_at_part, lines_from_line, lines_from-append, lines_from-cut, fresh_feed, fresh-append, EndsLine-append, part_none}
 use Rattle.opa_talk.proofs.TranscriptLaws.{prints-append, prints_one}
@@ -99,7 +98,7 @@ module _ {X : Type 0} (rule : Rule X) where
 
   -- a line is carried out at its line feed
   pub carries_line : (at : Point X) (next : X) (bytes line pending : List ℕ) (over : Bool) (before now : Option (List ℕ)) → IsPart (at.pending ++ bytes) → IsGoing rule at.state
-      → line ≡ strip_carriage_return (line_at at.fresh (at.pending ++ bytes)) → CarriesLine rule at.state next line over before now → pending ≡ []
+      → line ≡ line_at at.fresh ((at.pending ++ bytes) ++ 10 ∷ []) → CarriesLine rule at.state next line over before now → pending ≡ []
       → CarriesOut rule at (record { state = next; pending = pending; fresh = false }) (bytes ++ 10 ∷ []) before now
   carries_line at next bytes line pending over before now part going is step none =
       let one : lines_from at.fresh ((at.pending ++ bytes) ++ 10 ∷ []) ≡ line ∷ [] = lines_from_line at.fresh (at.pending ++ bytes) part ∙ ap (λ l. l ∷ []) (sym is) in
@@ -125,6 +124,9 @@ module _ {X : Type 0} (rule : Rule X) where
 
     left_more : (x x' : X) (more rest : List (List ℕ)) → LeftAt Stops x more x' → LeftAt Stops x (more ++ rest) x'
     left_more x x' more rest left = elim left [ inl e ↦ inl e | inr s ↦ inr (s.0, s.1 ++ rest, ap (λ m. m ++ rest) s.2, s.3) ]
+
+    left_by : (x x' : X) (line : List ℕ) → LeftBy Stops x line x' → LeftAt Stops x (line ∷ []) x'
+    left_by x x' line left = elim left [ inl e ↦ inl e | inr s ↦ inr (line, [], refl, s) ]
 
     -- the talk halts at a line, and more bytes follow it
     pub breaks_more : (at : Point X) (x' : X) (bytes rest : List ℕ) (before now : Option (List ℕ)) → Breaks rule Stops at x' (bytes ++ 10 ∷ []) before now → Breaks rule Stops at x' ((bytes ++ 10 ∷ []) ++ rest) before now
@@ -170,12 +172,12 @@ module _ {X : Type 0} (rule : Rule X) where
 
     -- the talk halts at a line
     pub breaks_line : (at : Point X) (x' : X) (bytes line : List ℕ) (before now : Option (List ℕ)) → IsPart (at.pending ++ bytes) → IsGoing rule at.state
-        → line ≡ strip_carriage_return (line_at at.fresh (at.pending ++ bytes)) → StopsAt rule Stops at.state x' line before now → Breaks rule Stops at x' (bytes ++ 10 ∷ []) before now
+        → line ≡ line_at at.fresh ((at.pending ++ bytes) ++ 10 ∷ []) → StopsAt rule Stops at.state x' line before now → Breaks rule Stops at x' (bytes ++ 10 ∷ []) before now
     breaks_line at x' bytes line before now part going is stop =
         let one : line ∷ [] ≡ lines_from at.fresh (at.pending ++ (bytes ++ 10 ∷ [])) =
         ap (λ l. l ∷ []) is ∙ sym (lines_from_line at.fresh (at.pending ++ bytes) part) ∙ ap (lines_from at.fresh) (append_assoc at.pending bytes (10 ∷ [])) in
         elim stop [
-          | inl s ↦ record { done = []; more = line ∷ []; cut = one; text = []; held = at.state; said = (refl, refl); left = inr (line, [], refl, s.0); wrote = front_all before now [] s.1 }
+          | inl s ↦ record { done = []; more = line ∷ []; cut = one; text = []; held = at.state; said = (refl, refl); left = left_by at.state x' line s.0; wrote = front_all before now [] s.1 }
           | inr s ↦ record {
             done = line ∷ [];
             more = [];
@@ -193,7 +195,7 @@ module _ {X : Type 0} (rule : Rule X) where
     last_one : lines_from at.fresh at.pending ≡ line ∷ []
     last_one =
         let line_part : IsPart line = let P : List ℕ → Type 0 = IsPart in subst P (sym is) (line_at_part at.fresh at.pending part) in
-        ap lines (sym is) ∙ lines_last line line_part ∙ ap (λ t. if t then [] else line ∷ []) full
+        ap lines (sym is) ∙ lines_last line line_part full
 
     -- the last line was carried out
     pub finishes_line : (over : Bool) → CarriesLine rule at.state x' line over before now → Finishes rule at x' before now
@@ -208,7 +210,7 @@ module _ {X : Type 0} (rule : Rule X) where
     breaks_last Stops stop =
         let one : line ∷ [] ≡ lines_from at.fresh (at.pending ++ []) = sym last_one ∙ ap (lines_from at.fresh) (sym (append-nil at.pending)) in
         elim stop [
-          | inl s ↦ record { done = []; more = line ∷ []; cut = one; text = []; held = at.state; said = (refl, refl); left = inr (line, [], refl, s.0); wrote = front_all before now [] s.1 }
+          | inl s ↦ record { done = []; more = line ∷ []; cut = one; text = []; held = at.state; said = (refl, refl); left = left_by Stops at.state x' line s.0; wrote = front_all before now [] s.1 }
           | inr s ↦ record {
             done = line ∷ [];
             more = [];

@@ -1,7 +1,6 @@
 -- What lines print, and what they leave, in two parts.
 use Rattle.std.proofs.Common.{◌≡◌, inl, inr, ℕ, Bool, true, List, [], ◌∷◌, ◌++◌, ap, sym, ◌∙◌, refl, subst, append_assoc, append-nil}
-use Rattle.std.specs.Str.Lines.{lines}
-use Rattle.opa_talk.specs.Lines.{input_lines}
+use Rattle.opa_talk.specs.Lines.{lines, input_lines}
 use Rattle.opa_talk.specs.Transcript.{Rule, IsGoing, IsOver, Prints, IsDecided, CutsAnywhere, HasOneTranscript}
 use Rattle.opa_talk.proofs.LinesLaws.{lines_from-cut}
 

@@ -1,8 +1,13 @@
--- The lines of an input: those that its line feeds end, without a carriage return before the line feed, and a last one
--- that no line feed ends, if it isn't empty. A byte order mark is dropped at the start alone.
+-- The lines of an input: those that its line feeds end, each with its line feed, and a last one that no line feed ends, if it
+-- isn't empty. A byte order mark is dropped at the start alone.
 use Rattle.std.specs.Prelude.{ℕ, ◌≡◌, ◌⊎◌, ◌==◌, Bool, true, false, List, [], ◌∷◌, ◌++◌, All, drop, take, if◌then◌else◌}
 use Rattle.std.specs.Str.{bytes_eq}
-use Rattle.std.specs.Str.Lines.{lines}
+use Rattle.std.specs.List.{onto_first}
+
+-- bytes, cut behind each line feed
+abbrev pub lines : List ℕ → List (List ℕ)
+lines [] = []
+lines (b ∷ bytes) = if b == 10 then (b ∷ []) ∷ lines bytes else onto_first b (lines bytes)
 
 -- without the byte order mark at the start
 abbrev pub without_mark : List ℕ → List ℕ

@@ -12,7 +12,7 @@ use Rattle.opa_talk.specs.declared.feed.Ending.{Ending}
 use Rattle.opa_talk.specs.declared.feed.Ending.TheVariants as ending
 use Rattle.opa_talk.specs.Lines.{lines_from, IsPart, EndsLine}
 use Rattle.opa_talk.specs.Transcript.{Rule, IsGoing, IsOver, Prints}
-use Rattle.opa_talk.specs.Talk.{LeftAt}
+use Rattle.opa_talk.specs.Talk.{LeftBy, LeftAt}
 
 -- where a talk stands: what is held, the bytes since the last line feed, and whether no line feed was read yet
 pub record Point (X : Type 0) : Type 0 where
@@ -63,7 +63,7 @@ pub record CarriesLine {X : Type 0} (rule : Rule X) (x x' : X) (line : List ℕ)
 
 -- the reply to a line halts and writes nothing, or it is carried out and a front of what it prints was written
 abbrev pub StopsAt : {X : Type 0} → Rule X → (X → List ℕ → X → Type 0) → X → X → List ℕ → Option (List ℕ) → Option (List ℕ) → Type 0
-StopsAt rule Stops x x' line before now = (Stops x line x' × Appends before now []) ⊎ ((text : List ℕ) × rule.Replies x line text x' × AppendsFront before now (text ++ rule.prompt x'))
+StopsAt rule Stops x x' line before now = (LeftBy Stops x line x' × Appends before now []) ⊎ ((text : List ℕ) × rule.Replies x line text x' × AppendsFront before now (text ++ rule.prompt x'))
 
 -- A front of the bytes was carried out, after which no line is taken any more.
 pub record EndsWithin {X : Type 0} (rule : Rule X) (old new : Point X) (bytes : List ℕ) (before now : Option (List ℕ)) : Type 0 where

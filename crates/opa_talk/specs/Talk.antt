@@ -2,7 +2,7 @@
 use Rattle.std.specs.Prelude.{ℕ, ◌≡◌, ◌≤◌, ◌+◌, ◌⊎◌, Bool, List, ◌∷◌, ◌++◌, length, take}
 use Rattle.std.specs.declared.option.Option.{Option}
 use Rattle.std.specs.Io.KnownBytes.{Appends, Consumes, IsAtEnd}
-use Rattle.opa_io.specs.Outside.{AppendsFront}
+use Rattle.opa_io.specs.Outside.{Rose, AppendsFront}
 use Rattle.opa_talk.specs.declared.halt.Halt.{Halt}
 use Rattle.opa_talk.specs.declared.halt.Halt.TheVariants as halt
 use Rattle.opa_talk.specs.Lines.{input_lines, IsWhole}
@@ -12,6 +12,14 @@ use Rattle.opa_talk.specs.Transcript.{Rule, IsGoing, IsOver, IsTranscript}
 pub record IsPrompt {X : Type 0} (rule : Rule X) (x : X) (text : List ℕ) (over : Bool) : Type 0 where
   pub text_is : text ≡ rule.prompt x
   pub over_is : over ≡ rule.is_over x
+
+-- what a reply that halts may leave, where a count of faults rose
+abbrev pub WhereRose : {X : Type 0} → ℕ → ℕ → (X → List ℕ → X → Type 0) → X → List ℕ → X → Type 0
+WhereRose before now Stops x line x' = Rose before now × Stops x line x'
+
+-- Where the reply to a line halts, all is held as it was, or what such a halt may leave.
+abbrev pub LeftBy : {X : Type 0} → (X → List ℕ → X → Type 0) → X → List ℕ → X → Type 0
+LeftBy Stops x line x' = (x' ≡ x) ⊎ Stops x line x'
 
 -- What is held where a talk halts after lines: what they leave, or what the reply to the next line may leave.
 abbrev pub LeftAt : {X : Type 0} → (X → List ℕ → X → Type 0) → X → List (List ℕ) → X → Type 0

@@ -1,8 +1,7 @@
 -- What a talk prints. A rule says what stands before a line, when no line is taken any more, and what a line may print and
 -- leave; a transcript is what lines print, one after another.
 use Rattle.std.specs.Prelude.{ℕ, ◌≡◌, ◌⊎◌, Bool, true, false, List, [], ◌∷◌, ◌++◌}
-use Rattle.std.specs.Str.Lines.{lines}
-use Rattle.opa_talk.specs.Lines.{input_lines}
+use Rattle.opa_talk.specs.Lines.{lines, input_lines}
 
 pub record Rule (X : Type 0) : Type 1 where
   -- what stands before the next line

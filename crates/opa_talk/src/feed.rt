@@ -5,7 +5,7 @@ ghost use Rattle.opa_io.specs.Outside.{Reads, HasCause};
 ghost use Rattle.opa_talk.specs.Halt.{IsCause};
 ghost use Rattle.opa_talk.specs.Lines.{IsPart};
 ghost use Rattle.opa_talk.specs.Transcript.{IsGoing, CutsAnywhere, HasOneTranscript};
-ghost use Rattle.opa_talk.specs.Talk.{Converses, Halts};
+ghost use Rattle.opa_talk.specs.Talk.{Converses, Halts, WhereRose};
 ghost use Rattle.opa_talk.specs.Points.{point_of, fresh_point, Probes, TakesTurn, TakesLines, BreaksPart, Feeds, FeedBreaks};
 
 use crate::halt::Halt;
@@ -61,7 +61,7 @@ fn take_turn<T: Replier, F: Shelf, S: Source, K: Sink>(
     requires part { IsPart pending.old.bytes.items }
     requires room { 0 < vec_len buf.old }
     ensures ok { IfOk result (TakesTurn T.rule (point_of (T.state replier.old, F.files shelf.old) pending.old) (point_of (T.state replier.new, F.files shelf.new) pending.new) (vec_len buf.old) (S.left input.old) (S.left input.new) (K.written out.old) (K.written out.new)) }
-    ensures err { IfErr result (BreaksPart T.rule T.Stops (point_of (T.state replier.old, F.files shelf.old) pending.old) (point_of (T.state replier.new, F.files shelf.new) pending.new) (vec_len buf.old) (S.left input.old) (S.left input.new) (K.written out.old) (K.written out.new)) }
+    ensures err { IfErr result (BreaksPart T.rule (WhereRose (F.keep_faults shelf.old) (F.keep_faults shelf.new) T.Stops) (point_of (T.state replier.old, F.files shelf.old) pending.old) (point_of (T.state replier.new, F.files shelf.new) pending.new) (vec_len buf.old) (S.left input.old) (S.left input.new) (K.written out.old) (K.written out.new)) }
     ensures cause { IfErr result (IsCause (F.take_faults shelf.old) (F.take_faults shelf.new) (F.keep_faults shelf.old) (F.keep_faults shelf.new) (K.faults out.old) (K.faults out.new) (S.faults input.old) (S.faults input.new)) }
     ensures later_input { S.faults input.old ≤ S.faults input.new }
     ensures later { K.faults out.old ≤ K.faults out.new }
@@ -97,7 +97,7 @@ fn take_lines<T: Replier, F: Shelf, S: Source, K: Sink>(
     requires part { IsPart pending.old.bytes.items }
     requires room { 0 < vec_len buf.old }
     ensures ok { IfOk result (TakesLines T.rule (point_of (T.state replier.old, F.files shelf.old) pending.old) (point_of (T.state replier.new, F.files shelf.new) pending.new) LIMIT (S.left input.old) (S.left input.new) (K.written out.old) (K.written out.new)) }
-    ensures err { IfErr result (BreaksPart T.rule T.Stops (point_of (T.state replier.old, F.files shelf.old) pending.old) (point_of (T.state replier.new, F.files shelf.new) pending.new) LIMIT (S.left input.old) (S.left input.new) (K.written out.old) (K.written out.new)) }
+    ensures err { IfErr result (BreaksPart T.rule (WhereRose (F.keep_faults shelf.old) (F.keep_faults shelf.new) T.Stops) (point_of (T.state replier.old, F.files shelf.old) pending.old) (point_of (T.state replier.new, F.files shelf.new) pending.new) LIMIT (S.left input.old) (S.left input.new) (K.written out.old) (K.written out.new)) }
     ensures cause { IfErr result (IsCause (F.take_faults shelf.old) (F.take_faults shelf.new) (F.keep_faults shelf.old) (F.keep_faults shelf.new) (K.faults out.old) (K.faults out.new) (S.faults input.old) (S.faults input.new)) }
     ensures later_input { S.faults input.old ≤ S.faults input.new }
     ensures later { K.faults out.old ≤ K.faults out.new }
@@ -147,7 +147,7 @@ fn go_on<T: Replier, F: Shelf, S: Source, K: Sink>(
     requires part { IsPart pending.old.bytes.items }
     requires room { 0 < vec_len buf.old }
     ensures ok { OnOk result (Feeds T.rule (point_of (T.state replier.old, F.files shelf.old) pending.old) (T.state replier.new, F.files shelf.new) LIMIT (S.left input.old) (S.left input.new) (K.written out.old) (K.written out.new)) }
-    ensures err { IfErr result (FeedBreaks T.rule T.Stops (point_of (T.state replier.old, F.files shelf.old) pending.old) (point_of (T.state replier.new, F.files shelf.new) pending.new) LIMIT (S.left input.old) (S.left input.new) (K.written out.old) (K.written out.new)) }
+    ensures err { IfErr result (FeedBreaks T.rule (WhereRose (F.keep_faults shelf.old) (F.keep_faults shelf.new) T.Stops) (point_of (T.state replier.old, F.files shelf.old) pending.old) (point_of (T.state replier.new, F.files shelf.new) pending.new) LIMIT (S.left input.old) (S.left input.new) (K.written out.old) (K.written out.new)) }
     ensures cause { IfErr result (IsCause (F.take_faults shelf.old) (F.take_faults shelf.new) (F.keep_faults shelf.old) (F.keep_faults shelf.new) (K.faults out.old) (K.faults out.new) (S.faults input.old) (S.faults input.new)) }
     ensures later_input { S.faults input.old ≤ S.faults input.new }
     ensures later { K.faults out.old ≤ K.faults out.new }
@@ -179,7 +179,7 @@ pub fn converse<T: Replier, F: Shelf, S: Source, K: Sink>(
     out: &mut K,
 ) -> Result<(), Halt>
     ensures ok { OnOk result (Converses T.rule (T.state replier.old, F.files shelf.old) (T.state replier.new, F.files shelf.new) LIMIT (S.left input.old) (S.left input.new) (K.written out.old) (K.written out.new)) }
-    ensures err { IfErr result (Halts T.rule T.Stops (T.state replier.old, F.files shelf.old) (T.state replier.new, F.files shelf.new) LIMIT (S.left input.old) (S.left input.new) (K.written out.old) (K.written out.new)) }
+    ensures err { IfErr result (Halts T.rule (WhereRose (F.keep_faults shelf.old) (F.keep_faults shelf.new) T.Stops) (T.state replier.old, F.files shelf.old) (T.state replier.new, F.files shelf.new) LIMIT (S.left input.old) (S.left input.new) (K.written out.old) (K.written out.new)) }
     ensures cause { IfErr result (IsCause (F.take_faults shelf.old) (F.take_faults shelf.new) (F.keep_faults shelf.old) (F.keep_faults shelf.new) (K.faults out.old) (K.faults out.new) (S.faults input.old) (S.faults input.new)) }
     ensures later_input { S.faults input.old ≤ S.faults input.new }
     ensures later { K.faults out.old ≤ K.faults out.new }

@@ -9,7 +9,7 @@ mod talk;
 
 pub use feed::{converse, cut_anywhere};
 pub use halt::Halt;
-pub use line::{without_mark, without_return};
+pub use line::without_mark;
 pub use replier::{Prompt, Replier};
 pub use talk::cut;
 

@@ -4,10 +4,11 @@ ghost use Rattle.opa_io.specs.Outside.{Rose, AppendsAll, AppendsFront};
 ghost use Rattle.opa_talk.specs.Halt.{IsLineCause};
 ghost use Rattle.opa_talk.specs.Lines.{line_at, IsPart};
 ghost use Rattle.opa_talk.specs.Transcript.{IsGoing};
+ghost use Rattle.opa_talk.specs.Talk.{WhereRose};
 ghost use Rattle.opa_talk.specs.Points.{point_of, Asks, CarriesLine, CarriesOut, StopsAt, Breaks, TakesPiece, Finishes};
 
 use crate::halt::Halt;
-use crate::line::{without_mark, without_return};
+use crate::line::without_mark;
 use crate::replier::Replier;
 use opa_io::{Shelf, Sink, write_all_of};
 use std::alloc::Global;
@@ -77,7 +78,7 @@ fn carry_out<T: Replier, F: Shelf, K: Sink>(
     out: &mut K,
 ) -> Result<bool, Halt>
     ensures ok { IfOk result (λ over. CarriesLine T.rule (T.state replier.old, F.files shelf.old) (T.state replier.new, F.files shelf.new) line.now over (K.written out.old) (K.written out.new)) }
-    ensures err { OnErr result (StopsAt T.rule T.Stops (T.state replier.old, F.files shelf.old) (T.state replier.new, F.files shelf.new) line.now (K.written out.old) (K.written out.new)) }
+    ensures err { OnErr result (StopsAt T.rule (WhereRose (F.keep_faults shelf.old) (F.keep_faults shelf.new) T.Stops) (T.state replier.old, F.files shelf.old) (T.state replier.new, F.files shelf.new) line.now (K.written out.old) (K.written out.new)) }
     ensures cause { IfErr result (IsLineCause (F.take_faults shelf.old) (F.take_faults shelf.new) (F.keep_faults shelf.old) (F.keep_faults shelf.new) (K.faults out.old) (K.faults out.new)) }
     ensures later { K.faults out.old ≤ K.faults out.new }
     ensures later_take { F.take_faults shelf.old ≤ F.take_faults shelf.new }
@@ -88,7 +89,7 @@ fn carry_out<T: Replier, F: Shelf, K: Sink>(
     ask(alloc, replier, shelf, out)
 }
 
-/// Takes the rest of a line, and carries it out.
+/// Takes the rest of a line, and carries it out with its line feed.
 fn take_line<T: Replier, F: Shelf, K: Sink>(
     alloc: Global,
     replier: &mut T,
@@ -101,14 +102,15 @@ fn take_line<T: Replier, F: Shelf, K: Sink>(
     requires part { IsPart (pending.old.bytes.items ++ bytes.now) }
     ensures over { IfOk result (λ over. over ≡ T.rule.is_over (T.state replier.new, F.files shelf.new)) }
     ensures ok { OnOk result (CarriesOut T.rule (point_of (T.state replier.old, F.files shelf.old) pending.old) (point_of (T.state replier.new, F.files shelf.new) pending.new) (bytes.now ++ 10 ∷ []) (K.written out.old) (K.written out.new)) }
-    ensures err { OnErr result (Breaks T.rule T.Stops (point_of (T.state replier.old, F.files shelf.old) pending.old) (T.state replier.new, F.files shelf.new) (bytes.now ++ 10 ∷ []) (K.written out.old) (K.written out.new)) }
+    ensures err { OnErr result (Breaks T.rule (WhereRose (F.keep_faults shelf.old) (F.keep_faults shelf.new) T.Stops) (point_of (T.state replier.old, F.files shelf.old) pending.old) (T.state replier.new, F.files shelf.new) (bytes.now ++ 10 ∷ []) (K.written out.old) (K.written out.new)) }
     ensures cause { IfErr result (IsLineCause (F.take_faults shelf.old) (F.take_faults shelf.new) (F.keep_faults shelf.old) (F.keep_faults shelf.new) (K.faults out.old) (K.faults out.new)) }
     ensures later { K.faults out.old ≤ K.faults out.new }
     ensures later_take { F.take_faults shelf.old ≤ F.take_faults shelf.new }
     ensures later_keep { F.keep_faults shelf.old ≤ F.keep_faults shelf.new }
 {
     pending.bytes.extend_from_slice(bytes)?;
-    let line = without_return(line_at(pending.fresh, &pending.bytes));
+    pending.bytes.push(b'\n')?;
+    let line = line_at(pending.fresh, &pending.bytes);
     let over = carry_out(alloc, replier, shelf, line, out)?;
     pending.bytes.clear();
     pending.fresh = false;
@@ -127,7 +129,7 @@ pub fn take_piece<T: Replier, F: Shelf, K: Sink>(
     requires going { IsGoing T.rule (T.state replier.old, F.files shelf.old) }
     requires part { IsPart pending.old.bytes.items }
     ensures ok { IfOk result (TakesPiece T.rule (point_of (T.state replier.old, F.files shelf.old) pending.old) (point_of (T.state replier.new, F.files shelf.new) pending.new) piece.now (K.written out.old) (K.written out.new)) }
-    ensures err { OnErr result (Breaks T.rule T.Stops (point_of (T.state replier.old, F.files shelf.old) pending.old) (T.state replier.new, F.files shelf.new) piece.now (K.written out.old) (K.written out.new)) }
+    ensures err { OnErr result (Breaks T.rule (WhereRose (F.keep_faults shelf.old) (F.keep_faults shelf.new) T.Stops) (point_of (T.state replier.old, F.files shelf.old) pending.old) (T.state replier.new, F.files shelf.new) piece.now (K.written out.old) (K.written out.new)) }
     ensures cause { IfErr result (IsLineCause (F.take_faults shelf.old) (F.take_faults shelf.new) (F.keep_faults shelf.old) (F.keep_faults shelf.new) (K.faults out.old) (K.faults out.new)) }
     ensures later { K.faults out.old ≤ K.faults out.new }
     ensures later_take { F.take_faults shelf.old ≤ F.take_faults shelf.new }
@@ -156,7 +158,7 @@ pub fn finish<T: Replier, F: Shelf, K: Sink>(
     requires going { IsGoing T.rule (T.state replier.old, F.files shelf.old) }
     requires part { IsPart pending.now.bytes.items }
     ensures ok { OnOk result (Finishes T.rule (point_of (T.state replier.old, F.files shelf.old) pending.now) (T.state replier.new, F.files shelf.new) (K.written out.old) (K.written out.new)) }
-    ensures err { OnErr result (Breaks T.rule T.Stops (point_of (T.state replier.old, F.files shelf.old) pending.now) (T.state replier.new, F.files shelf.new) [] (K.written out.old) (K.written out.new)) }
+    ensures err { OnErr result (Breaks T.rule (WhereRose (F.keep_faults shelf.old) (F.keep_faults shelf.new) T.Stops) (point_of (T.state replier.old, F.files shelf.old) pending.now) (T.state replier.new, F.files shelf.new) [] (K.written out.old) (K.written out.new)) }
     ensures cause { IfErr result (IsLineCause (F.take_faults shelf.old) (F.take_faults shelf.new) (F.keep_faults shelf.old) (F.keep_faults shelf.new) (K.faults out.old) (K.faults out.new)) }
     ensures later { K.faults out.old ≤ K.faults out.new }
     ensures later_take { F.take_faults shelf.old ≤ F.take_faults shelf.new }

@@ -1,11 +1,11 @@
-ghost use Rattle.std.specs.Prelude.{◌≡◌, ℕ, ◌-◌, ◌==◌, ◌++◌, [], ◌∷◌};
+ghost use Rattle.std.specs.Prelude.{◌≡◌, ℕ, ◌-◌, ◌==◌, [], ◌∷◌};
 
-use crate::{Halt, Prompt, Replier, converse, cut, cut_anywhere, without_mark, without_return};
+use crate::{Halt, Prompt, Replier, converse, cut, cut_anywhere, without_mark};
 use opa_io::{MemShelf, MemSink, MemSource, NoMemory, Shelf};
 use std::alloc::Global;
 use std::test::Fail;
 
-/// Says each line again, so many times.
+/// Says each line again as it is, so many times.
 #[derive(Drop)]
 struct Echo {
     left: u32,
@@ -14,7 +14,7 @@ struct Echo {
 impl Replier for Echo {
     ghost State = { ℕ };
 
-    ghost rule = { record { prompt = λ x. 62 ∷ 32 ∷ []; is_over = λ x. x.0 == 0; Replies = λ x line text y. (text ≡ line ++ 10 ∷ []) × (y ≡ (x.0 - 1, x.1)) } };
+    ghost rule = { record { prompt = λ x. 62 ∷ 32 ∷ []; is_over = λ x. x.0 == 0; Replies = λ x line text y. (text ≡ line) × (y ≡ (x.0 - 1, x.1)) } };
 
     ghost Stops = { λ old line new. new ≡ old };
 
@@ -33,8 +33,7 @@ impl Replier for Echo {
         _shelf: &mut F,
         line: &[u8],
     ) -> Result<Vec<u8>, Halt> {
-        let mut text = line.to_vec(alloc)?;
-        text.push(b'\n')?;
+        let text = line.to_vec(alloc)?;
         self.left = self.left.saturating_sub(1);
         Ok(text)
     }
@@ -43,10 +42,10 @@ impl Replier for Echo {
 /// How many lines are said again, the input, and what is written.
 const TALKS: [(u32, &str, &str); 5] = [
     (9, "", "> "),
-    (9, "a\r\nb\n\nc", "> a\n> b\n> \n> c\n> "),
+    (9, "a\r\nb\n\nc", "> a\r\n> b\n> \n> c> "),
     (2, "a\nb\nc\nd", "> a\n> b\n> "),
     (0, "a\n", "> "),
-    (9, "\u{feff}a\n\u{feff}b\r", "> a\n> \u{feff}b\r\n> "),
+    (9, "\u{feff}a\n\u{feff}b\r", "> a\n> \u{feff}b\r> "),
 ];
 
 #[test]
@@ -84,7 +83,6 @@ fn a_source_that_fails(rt: HostRuntime) -> Result<(), Fail> {
 #[test]
 fn lines(rt: HostRuntime) -> Result<(), Fail> {
     assert_eq!(rt; without_mark(b"\xef\xbb\xbfa"), b"a".as_slice());
-    assert_eq!(rt; without_return(b"a\r"), b"a".as_slice());
     assert_eq!(rt;
         cut(b"ab\nc").is_some_and(|p| p.0 == b"ab".as_slice() && p.1 == b"c".as_slice()),
         true

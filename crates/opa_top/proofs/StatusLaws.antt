@@ -54,52 +54,52 @@ module _ (name : List ℕ) (old new : Outside) where
   wrote_all base read (Some files) None opens took end says = tt
   wrote_all base read (Some files) (Some bytes) opens took end says = (base, opens, subst (λ t. SaysAll base old new t) (all_read bytes read new.left took end) says)
 
-  abbrev Front : List ℕ → Files → Type 0
-  Front read files =
-      (Appends old.written new.written [] × IsUnused old new) ⊎ ((text : List ℕ) × Opens files name (Err text) × AppendsFront old.written new.written text × IsUnused old new) ⊎ ((base : Rulebase) × Opens files name (Ok base) × SaysFront base old new read)
-
-  wrote_front : (base : Rulebase) (read : List ℕ) → IsOpened old.files name (Ok base) → Consumes old.left new.left read → SaysFront base old new read → WroteFront name old new
-  wrote_front base read opens took says = (read, took, told_with (λ files. Opens files name (Ok base)) (Front read) old.files opens (λ files o. inr (inr (base, o, says))))
-
-  wrote_refused : (text : List ℕ) → IsOpened old.files name (Err text) → IsUnused old new → AppendsFront old.written new.written text → WroteFront name old new
-  wrote_refused text opens u wrote = ([], unread u, told_with (λ files. Opens files name (Err text)) (Front []) old.files opens (λ files o. inr (inl (text, o, wrote, u))))
-
-  nothing_told : (o : Option Files) → IsUnused old new → Appends old.written new.written [] → IfSome o (Front [])
-  nothing_told None u none = tt
-  nothing_told (Some files) u none = inl (none, u)
-
-  wrote_nothing : IsUnused old new → Appends old.written new.written [] → WroteFront name old new
-  wrote_nothing u none = ([], unread u, nothing_told old.files u none)
-
-  -- the lines of a front of what was read
-  front_lines : (whole rest read : List ℕ) → whole ++ rest ≡ read → EndsLine whole → input_lines read ≡ input_lines whole ++ lines_from (is_empty whole) rest
-  front_lines whole rest read cut ends = ap input_lines (sym cut) ∙ lines_from-append true whole rest ends
-
-  whole_front : (base : Rulebase) (whole rest read : List ℕ) → whole ++ rest ≡ read → EndsLine whole → SaysAll base old new whole → SaysFront base old new read
-  whole_front base whole rest read cut ends s = record {
-    held = s.held;
-    halted = record {
-      done = input_lines whole;
-      more = lines_from (is_empty whole) rest;
-      cut = sym (front_lines whole rest read cut ends);
-      text = s.text;
-      held = s.held;
-      said = s.said;
-      left = inl refl;
-      wrote = front_all old.written new.written s.text s.wrote;
-    };
-    files = s.files;
-  }
-
-  lines_front : (base : Rulebase) (read : List ℕ) → SaysWhole base old new read → SaysFront base old new read
-  lines_front base read (whole, is, says) = whole_front base whole is.rest read is.cut is.ends says
-
-  limit_front : (base : Rulebase) (read : List ℕ) → SaysWhole base old new (take MOST read) → SaysFront base old new read
-  limit_front base read (whole, is, says) =
-      whole_front base whole (is.rest ++ drop MOST read) read (sym (append_assoc whole is.rest (drop MOST read)) ∙ ap (λ s. s ++ drop MOST read) is.cut ∙ take-append-drop MOST read) is.ends says
-
   module _ (n : Counts) where
-    talked : (s : Status) (base : Rulebase) → IsOpened old.files name (Ok base) → Talks base old new n s → Wrote name old new s
+    abbrev Front : List ℕ → Files → Type 0
+    Front read files =
+        (Appends old.written new.written [] × IsUnused old new) ⊎ ((text : List ℕ) × Opens files name (Err text) × AppendsFront old.written new.written text × IsUnused old new) ⊎ ((base : Rulebase) × Opens files name (Ok base) × SaysFront base old new n read)
+
+    wrote_front : (base : Rulebase) (read : List ℕ) → IsOpened old.files name (Ok base) → Consumes old.left new.left read → SaysFront base old new n read → WroteFront name old new n
+    wrote_front base read opens took says = (read, took, told_with (λ files. Opens files name (Ok base)) (Front read) old.files opens (λ files o. inr (inr (base, o, says))))
+
+    wrote_refused : (text : List ℕ) → IsOpened old.files name (Err text) → IsUnused old new → AppendsFront old.written new.written text → WroteFront name old new n
+    wrote_refused text opens u wrote = ([], unread u, told_with (λ files. Opens files name (Err text)) (Front []) old.files opens (λ files o. inr (inl (text, o, wrote, u))))
+
+    nothing_told : (o : Option Files) → IsUnused old new → Appends old.written new.written [] → IfSome o (Front [])
+    nothing_told None u none = tt
+    nothing_told (Some files) u none = inl (none, u)
+
+    wrote_nothing : IsUnused old new → Appends old.written new.written [] → WroteFront name old new n
+    wrote_nothing u none = ([], unread u, nothing_told old.files u none)
+
+    -- the lines of a front of what was read
+    front_lines : (whole rest read : List ℕ) → whole ++ rest ≡ read → EndsLine whole → input_lines read ≡ input_lines whole ++ lines_from (is_empty whole) rest
+    front_lines whole rest read cut ends = ap input_lines (sym cut) ∙ lines_from-append true whole rest ends
+
+    whole_front : (base : Rulebase) (whole rest read : List ℕ) → whole ++ rest ≡ read → EndsLine whole → SaysAll base old new whole → SaysFront base old new n read
+    whole_front base whole rest read cut ends s = record {
+      held = s.held;
+      halted = record {
+        done = input_lines whole;
+        more = lines_from (is_empty whole) rest;
+        cut = sym (front_lines whole rest read cut ends);
+        text = s.text;
+        held = s.held;
+        said = s.said;
+        left = inl refl;
+        wrote = front_all old.written new.written s.text s.wrote;
+      };
+      files = s.files;
+    }
+
+    lines_front : (base : Rulebase) (read : List ℕ) → SaysWhole base old new read → SaysFront base old new n read
+    lines_front base read (whole, is, says) = whole_front base whole is.rest read is.cut is.ends says
+
+    limit_front : (base : Rulebase) (read : List ℕ) → SaysWhole base old new (take MOST read) → SaysFront base old new n read
+    limit_front base read (whole, is, says) =
+        whole_front base whole (is.rest ++ drop MOST read) read (sym (append_assoc whole is.rest (drop MOST read)) ∙ ap (λ s. s ++ drop MOST read) is.cut ∙ take-append-drop MOST read) is.ends says
+
+    talked : (s : Status) (base : Rulebase) → IsOpened old.files name (Ok base) → Talks base old new n s → Wrote name old new n s
     talked status.Done base o (read, took, few, (end, says)) = wrote_all base read old.files old.left o took end says
     talked status.Refused base o t = absurd t
     talked status.Usage base o t = absurd t
@@ -113,11 +113,11 @@ module _ (name : List ℕ) (old new : Outside) where
     refusal_written text o u wrote =
         told_with (λ files. Opens files name (Err text)) (λ files. (t : List ℕ) × Opens files name (Err t) × Appends old.written new.written t × IsUnused old new) old.files o (λ files h. (text, h, wrote, u))
 
-    told_refusal : (s : Status) (text : List ℕ) → IsOpened old.files name (Err text) → IsUnused old new → IsTold status.Refused text old.written new.written n.write_before n.write_now s → Wrote name old new s
-    told_refusal s text o u (inl h) = subst (Wrote name old new) (sym h.0) (refusal_written text o u h.1)
-    told_refusal s text o u (inr h) = subst (Wrote name old new) (sym h.0) (wrote_refused text o u h.2)
+    told_refusal : (s : Status) (text : List ℕ) → IsOpened old.files name (Err text) → IsUnused old new → IsTold status.Refused text old.written new.written n.write_before n.write_now s → Wrote name old new n s
+    told_refusal s text o u (inl h) = subst (Wrote name old new n) (sym h.0) (refusal_written text o u h.1)
+    told_refusal s text o u (inr h) = subst (Wrote name old new n) (sym h.0) (wrote_refused text o u h.2)
 
-    pub run_wrote : (s : Status) → Runs name old new n s → Wrote name old new s
+    pub run_wrote : (s : Status) → Runs name old new n s → Wrote name old new n s
     run_wrote s (Runs.talks base m o t) = talked s base o t
     run_wrote s (Runs.refuses text o u told) = told_refusal s text o u told
     run_wrote status.ReadFault (Runs.cannot_take rose u none) = wrote_nothing u none

@@ -6,7 +6,7 @@ use Rattle.opa_talk.specs.declared.halt.Halt.{Halt}
 use Rattle.opa_talk.specs.declared.halt.Halt.TheVariants as halt
 use Rattle.opa_talk.specs.Halt.{IsCause}
 use Rattle.opa_talk.specs.Lines.{input_lines}
-use Rattle.opa_talk.specs.Talk.{Converses, Halts, Halted, Paused}
+use Rattle.opa_talk.specs.Talk.{Converses, Halts, Halted, Paused, WhereRose}
 use Rattle.opa_talk.proofs.EndLaws.{halts_memory}
 use Rattle.opa_tree.specs.declared.rulebase.Rulebase.{Rulebase}
 use Rattle.opa_reply.specs.Held.{Held, at_first, files_in}
@@ -18,13 +18,14 @@ module _ (base : Rulebase) (old new : Outside) (s s' : Rulebase × CaseView) (is
   talks_all (Ok u) h = let P : Rulebase × CaseView → Type 0 = λ x. Converses conversation (x, old.files) (s', new.files) MOST old.left new.left old.written new.written in ((s', new.files), subst P is h, refl)
   talks_all (Err e) h = tt
 
-  pub talks_part : {T : Type 0} (r : Result T Halt) → IfErr r (Halts conversation Stops (s, old.files) (s', new.files) MOST old.left new.left old.written new.written) → IfErr r (TalksPart base old new)
-  talks_part (Ok u) h = tt
-  talks_part (Err e) h = let P : Rulebase × CaseView → Type 0 = λ x. Halts conversation Stops (x, old.files) (s', new.files) MOST old.left new.left old.written new.written e in ((s', new.files), subst P is h, refl)
+  pub talks_part : {T : Type 0} (keep keep' : ℕ) (r : Result T Halt) → IfErr r (Halts conversation (WhereRose keep keep' Stops) (s, old.files) (s', new.files) MOST old.left new.left old.written new.written)
+      → IfErr r (TalksPart base old new keep keep')
+  talks_part keep keep' (Ok u) h = tt
+  talks_part keep keep' (Err e) h = let P : Rulebase × CaseView → Type 0 = λ x. Halts conversation (WhereRose keep keep' Stops) (x, old.files) (s', new.files) MOST old.left new.left old.written new.written e in ((s', new.files), subst P is h, refl)
 
 -- memory ran out before the first line
-pub talks_not : (base : Rulebase) (old : Outside) → TalksPart base old old halt.Memory
-talks_not base old = (at_first base old.files, halts_memory conversation Stops (at_first base old.files) MOST old.left old.written, refl)
+pub talks_not : (base : Rulebase) (old : Outside) (keep keep' : ℕ) → TalksPart base old old keep keep' halt.Memory
+talks_not base old keep keep' = (at_first base old.files, halts_memory conversation (WhereRose keep keep' Stops) (at_first base old.files) MOST old.left old.written, refl)
 
 -- a count that rose later rose
 rose_later : (before mid now : ℕ) → before ≤ mid → Rose mid now → Rose before now
@@ -34,10 +35,10 @@ module _ (base : Rulebase) (old new : Outside) (n : Counts) (mid : ℕ) (less : 
   whole : (y : Held) (read : List ℕ) → Paused conversation (at_first base old.files) y read old.written new.written → new.files ≡ files_in y → SaysWhole base old new read
   whole y read p files = (p.whole, p.is_whole, record { text = p.text; held = y; said = p.said; wrote = p.wrote; files = files })
 
-  front : (y : Held) (read : List ℕ) → Halted conversation Stops (at_first base old.files) y (input_lines read) old.written new.written → new.files ≡ files_in y → SaysFront base old new read
+  front : (y : Held) (read : List ℕ) → Halted conversation (WhereRose n.keep_before n.keep_now Stops) (at_first base old.files) y (input_lines read) old.written new.written → new.files ≡ files_in y → SaysFront base old new n read
   front y read h files = record { held = y; halted = h; files = files }
 
-  pub fed : (r : Result (Unit {0}) Halt) → OnOk r (TalksAll base old new) → IfErr r (TalksPart base old new)
+  pub fed : (r : Result (Unit {0}) Halt) → OnOk r (TalksAll base old new) → IfErr r (TalksPart base old new n.keep_before n.keep_now)
       → IfErr r (IsCause mid n.take_now n.keep_before n.keep_now n.write_before n.write_now n.read_before n.read_now) → Talks base old new n (end_of r)
   fed (Ok u) (y, c, files) part cause = elim c.ended [
     | inl end ↦ (c.read, c.took, c.within, (end, record { text = c.text; held = y; said = c.said; wrote = c.wrote; files = files }))

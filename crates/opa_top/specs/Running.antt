@@ -8,7 +8,7 @@ use Rattle.opa_talk.specs.declared.halt.Halt.{Halt}
 use Rattle.opa_talk.specs.declared.halt.Halt.TheVariants as halt
 use Rattle.opa_talk.specs.Lines.{input_lines, IsWhole}
 use Rattle.opa_talk.specs.Transcript.{IsTranscript}
-use Rattle.opa_talk.specs.Talk.{Halted, Converses, Halts}
+use Rattle.opa_talk.specs.Talk.{Halted, Converses, Halts, WhereRose}
 use Rattle.opa_model.specs.Models.{IsModel}
 use Rattle.opa_tree.specs.declared.rulebase.Rulebase.{Rulebase}
 use Rattle.opa_reply.specs.Held.{Held, at_first, files_in}
@@ -61,10 +61,10 @@ module _ (base : Rulebase) (old new : Outside) where
     pub files : new.files ≡ files_in held
 
   -- Some of the bytes' lines were carried out, a front of their transcript was written, and the files are those that these lines
-  -- leave, but for a name under which the next line couldn't keep its text.
-  pub record SaysFront (bytes : List ℕ) : Type 0 where
+  -- leave; but where keeping a file failed, for the name under which the next line couldn't keep its text.
+  pub record SaysFront (n : Counts) (bytes : List ℕ) : Type 0 where
     pub held : Held
-    pub halted : Halted conversation Stops (at_first base old.files) held (input_lines bytes) old.written new.written
+    pub halted : Halted conversation (WhereRose n.keep_before n.keep_now Stops) (at_first base old.files) held (input_lines bytes) old.written new.written
     pub files : new.files ≡ files_in held
 
   -- the lines whose line feed is among the bytes were carried out
@@ -80,9 +80,9 @@ module _ (base : Rulebase) (old new : Outside) where
   Talks n status.Done = ReadsSome (λ read. IsAtEnd new.left × SaysAll read)
   Talks n status.Refused = ⊥
   Talks n status.Usage = ⊥
-  Talks n status.ReadFault = ReadsSome (λ read. (Rose n.read_before n.read_now × SaysWhole read) ⊎ (Rose n.take_before n.take_now × SaysFront read))
-  Talks n status.WriteFault = ReadsSome (λ read. (Rose n.write_before n.write_now ⊎ Rose n.keep_before n.keep_now) × SaysFront read)
-  Talks n status.NoMemory = ReadsSome SaysFront
+  Talks n status.ReadFault = ReadsSome (λ read. (Rose n.read_before n.read_now × SaysWhole read) ⊎ (Rose n.take_before n.take_now × SaysFront n read))
+  Talks n status.WriteFault = ReadsSome (λ read. (Rose n.write_before n.write_now ⊎ Rose n.keep_before n.keep_now) × SaysFront n read)
+  Talks n status.NoMemory = ReadsSome (SaysFront n)
   Talks n status.InputLimit = (read : List ℕ) × Consumes old.left new.left read × (length read ≡ MOST + 1) × SaysWhole (take MOST read)
 
 -- nothing was read and nothing was kept
@@ -105,8 +105,8 @@ abbrev pub TalksAll : Rulebase → Outside → Outside → Type 0
 TalksAll base old new = (y : Held) × Converses conversation (at_first base old.files) y MOST old.left new.left old.written new.written × (new.files ≡ files_in y)
 
 -- some of the input was read, and the talk halts there
-abbrev pub TalksPart : Rulebase → Outside → Outside → Halt → Type 0
-TalksPart base old new halt = (y : Held) × Halts conversation Stops (at_first base old.files) y MOST old.left new.left old.written new.written halt × (new.files ≡ files_in y)
+abbrev pub TalksPart : Rulebase → Outside → Outside → ℕ → ℕ → Halt → Type 0
+TalksPart base old new keep keep' halt = (y : Held) × Halts conversation (WhereRose keep keep' Stops) (at_first base old.files) y MOST old.left new.left old.written new.written halt × (new.files ≡ files_in y)
 
 -- how a run ends that was fed
 abbrev pub end_of : Result (Unit {0}) Halt → Status

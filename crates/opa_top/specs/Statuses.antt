@@ -48,20 +48,20 @@ module _ (name : List ℕ) (old new : Outside) where
   WroteRefusal = IfSome old.files (λ files. (text : List ℕ) × Opens files name (Err text) × Appends old.written new.written text × IsUnused old new)
 
   -- nothing was written, or a front of a refusal, or a front of the transcript of the bytes that were read
-  abbrev pub WroteFront : Type 0
-  WroteFront =
+  abbrev pub WroteFront : Counts → Type 0
+  WroteFront n =
       (read : List ℕ) × Consumes old.left new.left read
-      × IfSome old.files (λ files. (Appends old.written new.written [] × IsUnused old new) ⊎ ((text : List ℕ) × Opens files name (Err text) × AppendsFront old.written new.written text × IsUnused old new) ⊎ ((base : Rulebase) × Opens files name (Ok base) × SaysFront base old new read))
+      × IfSome old.files (λ files. (Appends old.written new.written [] × IsUnused old new) ⊎ ((text : List ℕ) × Opens files name (Err text) × AppendsFront old.written new.written text × IsUnused old new) ⊎ ((base : Rulebase) × Opens files name (Ok base) × SaysFront base old new n read))
 
   -- What a run wrote: with Done the transcript of its input, with Refused the printed refusal, and else a front of what it would have written.
-  abbrev pub Wrote : Status → Type 0
-  Wrote status.Done = WroteAll
-  Wrote status.Refused = WroteRefusal
-  Wrote status.Usage = ⊥
-  Wrote status.ReadFault = WroteFront
-  Wrote status.WriteFault = WroteFront
-  Wrote status.NoMemory = WroteFront
-  Wrote status.InputLimit = WroteFront
+  abbrev pub Wrote : Counts → Status → Type 0
+  Wrote n status.Done = WroteAll
+  Wrote n status.Refused = WroteRefusal
+  Wrote n status.Usage = ⊥
+  Wrote n status.ReadFault = WroteFront n
+  Wrote n status.WriteFault = WroteFront n
+  Wrote n status.NoMemory = WroteFront n
+  Wrote n status.InputLimit = WroteFront n
 
   -- whatever transcript the bytes have over the rulebase was written, and the files are those that it leaves
   abbrev pub WroteWhatever : Rulebase → List ℕ → Type 0

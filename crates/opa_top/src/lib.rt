@@ -16,6 +16,8 @@ mod family_tests;
 #[cfg(test)]
 mod refused_tests;
 #[cfg(test)]
+mod returns_tests;
+#[cfg(test)]
 mod saved_tests;
 #[cfg(test)]
 mod tests;

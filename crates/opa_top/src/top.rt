@@ -60,8 +60,8 @@ pub fn run<S: Source, F: Shelf, K: Sink>(
     ensures runs { (name : List ℕ) → Asks words.now modes.Run name → Runs name (outside F.files S.left K.written shelf.old input.old out.old) (outside F.files S.left K.written shelf.new input.new out.new) (counts F.take_faults F.keep_faults S.faults K.faults shelf.old shelf.new input.old input.new out.old out.new) result }
 
     // With Done the bytes written are the transcript of the input, with Refused the printed refusal, and else a front of these; the
-    // files are those that the lines leave.
-    ensures wrote { (name : List ℕ) → Asks words.now modes.Run name → Wrote name (outside F.files S.left K.written shelf.old input.old out.old) (outside F.files S.left K.written shelf.new input.new out.new) result }
+    // files are those that the lines leave, but for a name under which keeping a file failed.
+    ensures wrote { (name : List ℕ) → Asks words.now modes.Run name → Wrote name (outside F.files S.left K.written shelf.old input.old out.old) (outside F.files S.left K.written shelf.new input.new out.new) (counts F.take_faults F.keep_faults S.faults K.faults shelf.old shelf.new input.old input.new out.old out.new) result }
 
     // Nothing else could have been written: files open one thing, and an input has one transcript.
     ensures only { (name : List ℕ) → Asks words.now modes.Run name → IsOnly name (outside F.files S.left K.written shelf.old input.old out.old) (outside F.files S.left K.written shelf.new input.new out.new) result }

@@ -1,9 +1,11 @@
 use Rattle.std.proofs.Common.{◌≤◌, [], refl, arith, vec_len}
 use Rattle.std.proofs.lemmas.Result.{err_from_is_err_and}
 use Rattle.opa_io.proofs.Appended.{Consumes-none}
+use Rattle.opa_talk.specs.Talk.{WhereRose}
 use Rattle.opa_talk.specs.Points.{point_of}
 use Rattle.opa_talk.proofs.PointsLaws.{carries_none}
 use Rattle.opa_talk.proofs.FeedLaws.{read_more, read_end, read_over, read_breaks}
+use Rattle.opa_talk.proofs.RoseLaws.{part_later}
 use Rattle.opa_talk.proofs.feed.take_lines.Goals as goal
 
 pub loop-left-init : goal.loop-left-init
@@ -21,7 +23,8 @@ returns-in_err-take_turn-clause-err g c =
     let p = err_from_is_err_and c.from_residual.result c.from_residual.ensures.1 in
     let less : vec_len c.truncate.new.self ≤ c.loop-left.left = omega arith in
     rw (p.1, p.2) (read_breaks g.T.Replier.rule (point_of (g.T.Replier.state c.args.replier.now, g.F.Shelf.files c.args.shelf.now) c.args.pending.now) (point_of (g.T.Replier.state c.loop-left.replier, g.F.Shelf.files c.loop-left.shelf) c.loop-left.pending) 67108864 c.loop-left.left _ _ _ _ _ _ c.loop-left.invariant.talked
-    (point_of (g.T.Replier.state c.take_turn.new.replier, g.F.Shelf.files c.take_turn.new.shelf) c.take_turn.new.pending) _ less g.T.Replier.Stops _ c.in_err-take_turn.ensures.err)
+    (point_of (g.T.Replier.state c.take_turn.new.replier, g.F.Shelf.files c.take_turn.new.shelf) c.take_turn.new.pending) _ less (WhereRose (g.F.Shelf.keep_faults c.args.shelf.now) (g.F.Shelf.keep_faults c.take_turn.new.shelf) g.T.Replier.Stops) _
+    (part_later g.T.Replier.rule g.T.Replier.Stops _ (g.F.Shelf.keep_faults c.loop-left.shelf) _ c.loop-left.invariant.later_keep _ _ _ _ _ _ _ _ c.in_err-take_turn.ensures.err))
 
 pub returns-in-End-clause-ok : goal.returns-in-End-clause-ok
 returns-in-End-clause-ok g c =

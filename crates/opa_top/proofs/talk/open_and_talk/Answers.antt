@@ -9,7 +9,7 @@ use Rattle.opa_top.proofs.talk.open_and_talk.Goals as goal
 pub returns-in-Ok : goal.returns-in-Ok
 returns-in-Ok g c =
     rw c.end_of.ensures (Runs.talks c.in-Ok.base c.declares_a_model.ensures c.in-Ok.ensures.accepted (fed c.in-Ok.base _ _ _ (g.F.Shelf.take_faults c.load_rulebase.new.shelf) c.in-Ok.ensures.later c.talk.result
-    (rw c.in-Ok.ensures.files at c.talk.ensures.all) (rw c.in-Ok.ensures.files at c.talk.ensures.part) (rw c.in-Ok.ensures.kept at c.talk.ensures.cause)))
+    (rw c.in-Ok.ensures.files at c.talk.ensures.all) (rw (c.in-Ok.ensures.files, c.in-Ok.ensures.kept) at c.talk.ensures.part) (rw c.in-Ok.ensures.kept at c.talk.ensures.cause)))
 
 pub returns-in-Refused : goal.returns-in-Refused
 returns-in-Refused g c =
