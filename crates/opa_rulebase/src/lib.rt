@@ -15,4 +15,6 @@ pub use printed::refusal_text;
 pub use ruled::ruled_of;
 
 #[cfg(test)]
+mod blocks_tests;
+#[cfg(test)]
 mod tests;
