@@ -86,9 +86,18 @@ const UNSPELLED: [(&str, &str); 20] = [
     ("the claimant is entitled if\n  and\n", "2 1"),
     ("the claimant is entitled if\n  x if\n", "2 1"),
     ("the claimant is entitled if\n  x and\n    y\n  y\n", "2 1"),
-    ("the claimant is entitled if\n  both\n    x or\n    y\n", "2 1"),
-    ("the claimant is entitled if\n  any\n    x and\n    y\n", "2 1"),
-    ("the claimant is entitled if\n  all and\n    x\n  y\n", "2 1"),
+    (
+        "the claimant is entitled if\n  both\n    x or\n    y\n",
+        "2 1",
+    ),
+    (
+        "the claimant is entitled if\n  any\n    x and\n    y\n",
+        "2 1",
+    ),
+    (
+        "the claimant is entitled if\n  all and\n    x\n  y\n",
+        "2 1",
+    ),
     ("the claimant is entitled if\n  for all of\n    x\n", "2 1"),
     (
         "the claimant is entitled if\n  for all of the children x\n    x\n",
@@ -106,7 +115,10 @@ const BEHIND: [(&str, &str); 14] = [
     ("the claimant is entitled = true otherwise\n", "2 3"),
     ("the claimant is entitled = 1 < 2 < 3\n", "2 3"),
     ("the claimant is entitled = 1 +\n", "2 3"),
-    ("the claimant is entitled = (true and true or true)\n", "2 3"),
+    (
+        "the claimant is entitled = (true and true or true)\n",
+        "2 3",
+    ),
     ("the claimant is entitled = (1 = 1\n", "2 3"),
     ("the claimant is entitled = Maximum(1)\n", "2 3"),
     ("the claimant is entitled = Round(1, 1 + 1)\n", "2 3"),
@@ -119,7 +131,10 @@ const BEHIND: [(&str, &str); 14] = [
         "the claimant is entitled if\n  for at least one of\n    true\n",
         "2 3",
     ),
-    ("the claimant is entitled if\n  true\n  and\n  true\n", "2 3"),
+    (
+        "the claimant is entitled if\n  true\n  and\n  true\n",
+        "2 3",
+    ),
     (
         "the claimant is entitled =\n  1 if\n    true\n  2 otherwise\n  3 otherwise\n",
         "2 3",
@@ -191,11 +206,7 @@ fn laid(alloc: Global, text: &str) -> Result<Vec<Block>, LayoutFault>
 /// The number and the line of a refusal.
 fn fault_text(alloc: Global, error: RbError) -> Result<String, Fail> {
     match error {
-        RbError::Refused(fault) => Ok(format!(in alloc;
-            "{} {}",
-            fault.kind.number(),
-            fault.line
-        )?),
+        RbError::Refused(fault) => Ok(format!(in alloc; "{} {}", fault.kind.number(), fault.line)?),
         RbError::NoMemory => Err(NoMemory)?,
     }
 }
