@@ -1,15 +1,13 @@
 -- Nothing else could have been written: files open one thing, and lines have one transcript.
-use Rattle.std.proofs.Common.{◌≡◌, ◌⊎◌, inl, inr, ℕ, List, [], ◌++◌, append-nil, Option, None, Some, IfSome, Result, Ok, Err, refl, ap, sym, ◌∙◌, subst}
+use Rattle.std.proofs.Common.{◌≡◌, inl, inr, ℕ, List, Option, None, Some, IfSome, Result, Ok, Err, refl, ap, sym, ◌∙◌, subst}
 use Rattle.std.specs.Io.KnownBytes.{Appends, Consumes, IsAtEnd}
 use Rattle.opa_io.specs.Outside.{Files}
 use Rattle.opa_io.specs.declared.fault.Status.{Status}
 use Rattle.opa_io.specs.declared.fault.Status.TheVariants as status
 use Rattle.opa_model.specs.Models.{IsModel}
 use Rattle.opa_talk.specs.Lines.{input_lines}
-use Rattle.opa_talk.specs.Transcript.{IsTranscript}
 use Rattle.opa_tree.specs.declared.rulebase.Rulebase.{Rulebase}
-use Rattle.opa_reply.specs.Held.{Held, at_first, files_in}
-use Rattle.opa_reply.specs.Replies.{conversation}
+use Rattle.opa_reply.specs.Held.{at_first, files_in}
 use Rattle.opa_rulebase.specs.Loading.{Opens}
 use Rattle.opa_decided.specs.Laws.{OneTranscript}
 use Rattle.opa_opened.specs.Opening.{OneOpening}
