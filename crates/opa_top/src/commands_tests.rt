@@ -23,7 +23,13 @@ the number of older pupils = InstanceCount(the older pupils)
 )];
 
 const ROLL_LINES: [(&str, &str); 1] = [(
-    "list the pupils = \"Abe\", \"Bea\"\nanswer the least age = 11\nanswer the pupil's age of \"Abe\" = 9\nshow the number of older pupils\nanswer the pupil's age of \"Bea\" = 10; from 2024-01-01 12\nshow the number of older pupils\n",
+    "list the pupils = \"Abe\", \"Bea\"
+answer the least age = 11
+answer the pupil's age of \"Abe\" = 9
+show the number of older pupils
+answer the pupil's age of \"Bea\" = 10; from 2024-01-01 12
+show the number of older pupils
+",
     "the number of older pupils: unknown\nthe number of older pupils: 0; from 2024-01-01 1\n",
 )];
 

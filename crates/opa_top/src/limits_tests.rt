@@ -104,7 +104,7 @@ fn a_long_rule_file(rt: HostRuntime) -> Result<(), Fail> {
     Ok(())
 }
 
-/// Whether a line over a rulebase and a file of so many blanks prints this.
+/// Whether loading a file of so many blanks prints this.
 fn loads(alloc: Global, count: u32, output: &str) -> Result<bool, Fail> {
     let text = repeated(alloc, " ", count)?;
     let files = [("b1.txt", CLAIMANT), ("big.json", text.as_str())];
@@ -161,7 +161,7 @@ fn pair(alloc: Global, k: u32) -> Result<String, Fail> {
     Ok(text)
 }
 
-/// An answer that changes so many times, and a question for what follows from it.
+/// An answer that changes so many times.
 fn changing(alloc: Global, count: u32) -> Result<String, Fail> {
     let mut out = String::from_str(alloc, "answer the claimant is an adult = false")?;
     for k in 0..count {
