@@ -7,7 +7,7 @@ use std::alloc::Global;
 use std::process::ExitCode;
 
 /// The examples: of each there are the rules, an input and what it prints.
-const EXAMPLES: [&str; 9] = [
+const EXAMPLES: [&str; 10] = [
     "amounts",
     "benefit",
     "children",
@@ -15,6 +15,7 @@ const EXAMPLES: [&str; 9] = [
     "conditions",
     "guidelines",
     "insured",
+    "kept",
     "redundancy",
     "school",
 ];
