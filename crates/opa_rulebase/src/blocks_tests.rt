@@ -72,74 +72,64 @@ members the older pupils from the whole roll if
 the number of older pupils = InstanceMaximum(the older pupils, the pupil's age)
 ";
 
-/// Rules that aren't spelled, and one whose relation isn't declared.
-const UNSPELLED: [(&str, &str); 20] = [
-    ("the claimant is entitled\n", "2 1"),
-    ("the claimant is entitled if\n", "2 1"),
-    ("the claimant is entitled = x\n  y\n", "2 1"),
-    ("the claimant is entitled = x and\n", "2 1"),
-    ("if\n  x\n", "2 1"),
-    ("5 if\n  x\n", "2 1"),
-    ("the claimant is entitled if\n  x and\n  y or\n  x\n", "2 1"),
-    ("the claimant is entitled if\n  x and\n", "2 1"),
-    ("the claimant is entitled if\n  x\n  y\n", "2 1"),
-    ("the claimant is entitled if\n  and\n", "2 1"),
-    ("the claimant is entitled if\n  x if\n", "2 1"),
-    ("the claimant is entitled if\n  x and\n    y\n  y\n", "2 1"),
-    (
-        "the claimant is entitled if\n  both\n    x or\n    y\n",
-        "2 1",
-    ),
-    (
-        "the claimant is entitled if\n  any\n    x and\n    y\n",
-        "2 1",
-    ),
-    (
-        "the claimant is entitled if\n  all and\n    x\n  y\n",
-        "2 1",
-    ),
-    ("the claimant is entitled if\n  for all of\n    x\n", "2 1"),
+/// Rules that aren't spelled.
+const UNSPELLED: [&str; 19] = [
+    "the claimant is entitled\n",
+    "the claimant is entitled if\n",
+    "the claimant is entitled = x\n  y\n",
+    "the claimant is entitled = x and\n",
+    "if\n  x\n",
+    "5 if\n  x\n",
+    "the claimant is entitled if\n  x and\n  y or\n  x\n",
+    "the claimant is entitled if\n  x and\n",
+    "the claimant is entitled if\n  x\n  y\n",
+    "the claimant is entitled if\n  and\n",
+    "the claimant is entitled if\n  x if\n",
+    "the claimant is entitled if\n  x and\n    y\n  y\n",
+    "the claimant is entitled if\n  both\n    x or\n    y\n",
+    "the claimant is entitled if\n  any\n    x and\n    y\n",
+    "the claimant is entitled if\n  all and\n    x\n  y\n",
+    "the claimant is entitled if\n  for all of\n    x\n",
+    "the claimant is entitled if\n  all\n    x\n  y\n",
+    "the claimant is entitled =\n  1 otherwise\n",
+    "the claimant is entitled =\n  1 if\n    x\n",
+];
+
+/// The same of single lines, and of groups and cases.
+const LINES: [&str; 14] = [
+    "the claimant is entitled =\n",
+    "the claimant is entitled if true\n",
+    "the claimant is entitled = true otherwise\n",
+    "the claimant is entitled = 1 < 2 < 3\n",
+    "the claimant is entitled = 1 +\n",
+    "the claimant is entitled = (true and true or true)\n",
+    "the claimant is entitled = (1 = 1\n",
+    "the claimant is entitled = Maximum(1)\n",
+    "the claimant is entitled = Round(1, 1 + 1)\n",
+    "the claimant is entitled = TemporalAlwaysDays(true, true)\n",
+    "the claimant is entitled = ForAll(1, true)\n",
+    "the claimant is entitled if\n  for at least one of\n    true\n",
+    "the claimant is entitled if\n  true\n  and\n  true\n",
+    "the claimant is entitled =\n  1 if\n    true\n  2 otherwise\n  3 otherwise\n",
+];
+
+/// A relation that isn't declared, with words behind its first one, and a rule that isn't spelled behind one that is.
+const REFUSED: [(&str, &str); 2] = [
     (
         "the claimant is entitled if\n  for all of the children x\n    x\n",
         "3 2",
     ),
-    ("the claimant is entitled if\n  all\n    x\n  y\n", "2 1"),
-    ("the claimant is entitled =\n  1 otherwise\n", "2 1"),
-    ("the claimant is entitled =\n  1 if\n    x\n", "2 1"),
+    (
+        "the claimant is an adult if\n  true\nthe claimant is entitled = 1 +\n",
+        "2 3",
+    ),
 ];
 
-/// Lines and groups that aren't spelled, behind a rule that is.
-const BEHIND: [(&str, &str); 14] = [
-    ("the claimant is entitled =\n", "2 3"),
-    ("the claimant is entitled if true\n", "2 3"),
-    ("the claimant is entitled = true otherwise\n", "2 3"),
-    ("the claimant is entitled = 1 < 2 < 3\n", "2 3"),
-    ("the claimant is entitled = 1 +\n", "2 3"),
-    (
-        "the claimant is entitled = (true and true or true)\n",
-        "2 3",
-    ),
-    ("the claimant is entitled = (1 = 1\n", "2 3"),
-    ("the claimant is entitled = Maximum(1)\n", "2 3"),
-    ("the claimant is entitled = Round(1, 1 + 1)\n", "2 3"),
-    (
-        "the claimant is entitled = TemporalAlwaysDays(true, true)\n",
-        "2 3",
-    ),
-    ("the claimant is entitled = ForAll(1, true)\n", "2 3"),
-    (
-        "the claimant is entitled if\n  for at least one of\n    true\n",
-        "2 3",
-    ),
-    (
-        "the claimant is entitled if\n  true\n  and\n  true\n",
-        "2 3",
-    ),
-    (
-        "the claimant is entitled =\n  1 if\n    true\n  2 otherwise\n  3 otherwise\n",
-        "2 3",
-    ),
-];
+/// A group under `any`, and the same group under `both`.
+const BOTH: [(&str, &str); 2] = [(DEPENDENT, "1 rules"), (JOINED, "2 4")];
+
+/// The number of the older pupils, and their greatest age.
+const QUANTIFIED: [(&str, &str); 2] = [(PUPILS, "1 rules"), (GREATEST, "3 11")];
 
 const INFERRED: [(&str, &str); 12] = [
     (
@@ -264,53 +254,67 @@ fn inferred(alloc: Global, model: &Model, text: &str) -> Result<String, Fail> {
     inferred_text(alloc, model, &laid)
 }
 
-#[test]
-fn unspelled(rt: HostRuntime) -> Result<(), Fail> {
-    let base = spelled(&rt, rt.alloc(), SMALL)?;
-    for (text, want) in UNSPELLED {
-        let found = outcome(rt.alloc(), &base.model, text)?;
-        assert_eq!(rt; found.as_str(), want, "{text}");
+/// Each text has this outcome.
+fn check(rt: &impl Abort, alloc: Global, model: &Model, rows: &[(&str, &str)]) -> Result<(), Fail> {
+    for (text, want) in rows {
+        assert_eq!(rt; outcome(alloc, model, text)?.as_str(), *want, "{text}");
+    }
+    Ok(())
+}
+
+/// Each text has these inferred relations, or is refused so.
+fn check_inferred(
+    rt: &impl Abort,
+    alloc: Global,
+    model: &Model,
+    rows: &[(&str, &str)],
+) -> Result<(), Fail> {
+    for (text, want) in rows {
+        assert_eq!(rt; inferred(alloc, model, text)?.as_str(), *want, "{text}");
+    }
+    Ok(())
+}
+
+/// Each rule is refused as it isn't spelled, at its first line.
+fn check_unspelled(
+    rt: &impl Abort,
+    alloc: Global,
+    model: &Model,
+    rules: &[&str],
+) -> Result<(), Fail> {
+    for rule in rules {
+        assert_eq!(rt; outcome(alloc, model, rule)?.as_str(), "2 1", "{rule}");
     }
     Ok(())
 }
 
 #[test]
-fn unspelled_behind(rt: HostRuntime) -> Result<(), Fail> {
+fn unspelled(rt: HostRuntime) -> Result<(), Fail> {
     let base = spelled(&rt, rt.alloc(), SMALL)?;
-    for (rule, want) in BEHIND {
-        let text = format!(in rt.alloc(); "the claimant is an adult if\n  true\n{rule}")?;
-        let found = outcome(rt.alloc(), &base.model, text.as_str())?;
-        assert_eq!(rt; found.as_str(), want, "{rule}");
-    }
-    Ok(())
+    check_unspelled(&rt, rt.alloc(), &base.model, UNSPELLED.as_slice())?;
+    check_unspelled(&rt, rt.alloc(), &base.model, LINES.as_slice())
+}
+
+#[test]
+fn refused(rt: HostRuntime) -> Result<(), Fail> {
+    let base = spelled(&rt, rt.alloc(), SMALL)?;
+    check(&rt, rt.alloc(), &base.model, REFUSED.as_slice())
 }
 
 #[test]
 fn both_joined_by_or(rt: HostRuntime) -> Result<(), Fail> {
     let base = spelled(&rt, rt.alloc(), DEPENDENT)?;
-    for (text, want) in [(DEPENDENT, "1 rules"), (JOINED, "2 4")] {
-        let found = outcome(rt.alloc(), &base.model, text)?;
-        assert_eq!(rt; found.as_str(), want);
-    }
-    Ok(())
+    check(&rt, rt.alloc(), &base.model, BOTH.as_slice())
 }
 
 #[test]
 fn inferred_relations(rt: HostRuntime) -> Result<(), Fail> {
     let base = spelled(&rt, rt.alloc(), PUPILS)?;
-    for (text, want) in INFERRED {
-        let found = inferred(rt.alloc(), &base.model, text)?;
-        assert_eq!(rt; found.as_str(), want, "{text}");
-    }
-    Ok(())
+    check_inferred(&rt, rt.alloc(), &base.model, INFERRED.as_slice())
 }
 
 #[test]
 fn greatest_of_the_inferred(rt: HostRuntime) -> Result<(), Fail> {
     let base = spelled(&rt, rt.alloc(), PUPILS)?;
-    for (text, want) in [(PUPILS, "1 rules"), (GREATEST, "3 11")] {
-        let found = outcome(rt.alloc(), &base.model, text)?;
-        assert_eq!(rt; found.as_str(), want);
-    }
-    Ok(())
+    check(&rt, rt.alloc(), &base.model, QUANTIFIED.as_slice())
 }
