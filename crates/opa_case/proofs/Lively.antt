@@ -81,7 +81,7 @@ module _ (s : Shape) (l : Lists) where
       ap (λ x. live_upto s l n ++ x) (flat_same (held s l (suc n)) (held s l' (suc n)) _ (λ c g. ap (λ o. map (λ x. (named (suc n) x, c)) (unwrap_or o [])) (h n c (omega (arith, e)) g)) (members (s.parent (suc n)) (live_upto s l n)) (members_live (live_upto s l m) (s.parent (suc n)) (live_upto s l n) lives))
       ∙ ap (λ x. x ++ flat_map (held s l' (suc n)) (members (s.parent (suc n)) x)) before
 
-some_in : (i : InstanceId) (xs : Population) → is_some (container_of xs i) ≡ list_any (λ p. is_same i p.0) xs
+pub some_in : (i : InstanceId) (xs : Population) → is_some (container_of xs i) ≡ list_any (λ p. is_same i p.0) xs
 some_in i [] = refl
 some_in i (x ∷ xs) = elim (is_same i x.0) as (λ b. is_some (cond b (Some x.1) (container_of xs i)) ≡ (b || list_any (λ p. is_same i p.0) xs)) [ true ↦ refl | false ↦ some_in i xs ]
 

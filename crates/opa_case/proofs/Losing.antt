@@ -165,7 +165,7 @@ forgotten_list s ruled c fits r i q j names h = go (get (without_list s c r i).l
     go (Some ns) at g = ap (λ o. option_or o (get c.every (q.0, j))) (removed c.lists (r.0, i) q j ns (settled_list s (remove c.lists (r.0, i)) c.answers q j ns at)) ∙ g
 
 -- whoever is in a container then was in it
-forgotten_home : (s : Shape) (ruled : List Bool) → IsShape s → (c : CaseView) (fits : Fits s ruled c) (r : RelId) (i : InstanceId) (j d : InstanceId) → container_of (without_list s c r i).live j ≡ Some d → container_of c.live j ≡ Some d
+pub forgotten_home : (s : Shape) (ruled : List Bool) → IsShape s → (c : CaseView) (fits : Fits s ruled c) (r : RelId) (i : InstanceId) (j d : InstanceId) → container_of (without_list s c r i).live j ≡ Some d → container_of c.live j ≡ Some d
 forgotten_home s ruled shape c fits r i j d h =
     let l' : Lists = stored (remove c.lists (r.0, i)) in
     let f = in_upto s l' (s.count - 1) j d h in

@@ -29,11 +29,11 @@ use Rattle.opa_case.proofs.Referring.{reference_set, names_live}
 use Rattle.opa_case.proofs.Stepping.{settled_list, settled_answer}
 use Rattle.opa_case.proofs.Stands.{text_is}
 
-false_by : (b : Bool) → (b ≡ true → ⊥) → b ≡ false
+pub false_by : (b : Bool) → (b ≡ true → ⊥) → b ≡ false
 false_by true never = absurd (never refl)
 false_by false never = refl
 
-none_by : {A : Type 0} (o : Option A) → ((x : A) → o ≡ Some x → ⊥) → o ≡ None
+pub none_by : {A : Type 0} (o : Option A) → ((x : A) → o ≡ Some x → ⊥) → o ≡ None
 none_by None never = refl
 none_by (Some x) never = absurd (never x refl)
 

@@ -1,32 +1,36 @@
--- The containers of live instances, kept as a row for each entity, and in it a container for each name.
-use Rattle.std.specs.Prelude.{◌≡◌, ℕ, cond, List, Option, None, Some, unwrap_or, is_some, Bool}
-use Rattle.std.specs.Option.{option_and_then, option_or}
-use Rattle.std.specs.Map.{lookup}
-use Rattle.std.specs.BTreeMap.{BTreeMap, is_at}
+-- How live instances are kept: the container of each, and how many there are, of each entity and of all.
+use Rattle.std.specs.Prelude.{◌≡◌, ◌==◌, ◌+◌, ◌-◌, ℕ, Bool, List, Option, unwrap_or, is_some, length, filter}
+use Rattle.std.specs.FinMap.{FinMap, get}
+use Rattle.std.specs.BTreeMap.{BTreeMap}
 use Rattle.std.specs.BTreeMap as tree
 use Rattle.std.specs.Cmp.Lexicographic.{slice_cmp}
 use Rattle.std.specs.Ordering.{nat_cmp}
-use Rattle.opa_cells.specs.Instances.{is_same, is_text, named}
+use Rattle.opa_cells.specs.Keys.{cell_cmp}
 use Rattle.opa_cells.specs.declared.instance.InstanceId.{InstanceId}
+use Rattle.opa_case.specs.Live.{Population, container_of}
+use Rattle.opa_case.specs.declared.counts.Counts.{Counts}
 
--- the container of a name in a row
-abbrev pub home_at : List (List ℕ × InstanceId) → List ℕ → Option InstanceId
-home_at row n = lookup (is_at (slice_cmp nat_cmp n)) row
-
--- the container of the instance of an entity with a name
-abbrev pub home_of : List (ℕ × BTreeMap (List ℕ) InstanceId) → ℕ → List ℕ → Option InstanceId
-home_of rows e n = option_and_then (λ row. home_at row.entries n) (lookup (is_at (nat_cmp e)) rows)
-
--- The new row has this container for the name, unless the old row has one.
-abbrev pub NotesIn : List (List ℕ × InstanceId) → List (List ℕ × InstanceId) → List ℕ → InstanceId → Type 0
-NotesIn old new name container = (n : List ℕ) → home_at new n ≡ option_or (home_at old n) (cond (is_text n name) (Some container) None)
-
-abbrev pub Notes : List (ℕ × BTreeMap (List ℕ) InstanceId) → List (ℕ × BTreeMap (List ℕ) InstanceId) → InstanceId → InstanceId → Type 0
-Notes old new inst container = (e : ℕ) (n : List ℕ) → home_of new e n ≡ option_or (home_of old e n) (cond (is_same (named e n) inst) (Some container) None)
+-- All homes stand in one row.
+abbrev pub home_of : FinMap cell_cmp InstanceId → InstanceId → Option InstanceId
+home_of homes i = get homes (0, i)
 
 -- how many instances of an entity are counted
 abbrev pub count_at : BTreeMap ℕ ℕ → ℕ → ℕ
 count_at counts e = unwrap_or (tree.get nat_cmp counts e) 0
+
+-- how many instances of an entity there are
+abbrev pub count_of : ℕ → Population → ℕ
+count_of e live = length (filter (λ p. p.0.entity.0 == e) live)
+
+abbrev pub AreCounts : Counts → Population → Type 0
+AreCounts counts live = ((e : ℕ) → count_at counts.each e ≡ count_of e live) × (counts.total ≡ length live)
+
+-- the counts where some come and some go
+abbrev pub AreCountsThen : Counts → Counts → Population → Population → Type 0
+AreCountsThen before after come gone = ((e : ℕ) → count_at after.each e ≡ count_at before.each e + count_of e come - count_of e gone) × (after.total ≡ before.total + length come - length gone)
+
+abbrev pub AreHomes : FinMap cell_cmp InstanceId → Population → Type 0
+AreHomes homes live = (i : InstanceId) → home_of homes i ≡ container_of live i
 
 -- a set of names has this one
 abbrev pub has_name : BTreeMap (List ℕ) (Unit {0}) → List ℕ → Bool

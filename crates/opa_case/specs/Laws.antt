@@ -16,6 +16,7 @@ use Rattle.opa_case.specs.Cases.{CaseView, no_case, Answer, list_of, IsLive}
 use Rattle.opa_case.specs.Steps.{step, without_answer}
 use Rattle.opa_case.specs.Clean.{IsClean, is_clean_command}
 use Rattle.opa_case.specs.Fits.{Fits}
+use Rattle.opa_case.specs.Whole.{IsWhole}
 
 -- the attribute or relation of a command is declared
 abbrev pub IsDeclared : Shape → ChangeCommand → Type 0
@@ -35,6 +36,10 @@ ModelsAreShapes = (m : Declared) → IsModel m → IsShape (shape_of m)
 -- A change that isn't refused leaves a case that fits.
 abbrev pub StepFits : Type 0
 StepFits = (s : Shape) (ruled : List Bool) → IsShape s → (c c' : CaseView) (command : ChangeCommand) → IsDeclared s command → Fits s ruled c → step s ruled c command ≡ Ok c' → Fits s ruled c'
+
+-- A change that isn't refused leaves a whole case whole.
+abbrev pub StepIsWhole : Type 0
+StepIsWhole = (s : Shape) (ruled : List Bool) → IsShape s → (c c' : CaseView) (command : ChangeCommand) → Fits s ruled c → IsWhole c → step s ruled c command ≡ Ok c' → IsWhole c'
 
 -- A clean change leaves a clean case.
 abbrev pub StepIsClean : Type 0
@@ -96,3 +101,16 @@ pub record Replaces (s : Shape) (c c' : CaseView) (r : RelId) (i : InstanceId) (
 
 abbrev pub SetReplaces : Type 0
 SetReplaces = (s : Shape) (ruled : List Bool) → IsShape s → (c c' : CaseView) (r : RelId) (i : InstanceId) (names : Names) → r.0 < s.relations → Fits s ruled c → step s ruled c (SetList r i names) ≡ Ok c' → Replaces s c c' r i names
+
+-- What is forgotten takes what it contained.
+pub record Takes (s : Shape) (c c' : CaseView) (r : RelId) (i : InstanceId) : Type 0 where
+  -- The names of a containment list that is forgotten go.
+  pub goes : (n : List ℕ) → s.contains r ≡ true → container_of c.live (named (s.target r) n) ≡ Some i → is_live c'.live (named (s.target r) n) ≡ false
+  -- What goes takes what it contains.
+  pub takes_contained : (j d : InstanceId) → container_of c.live j ≡ Some d → is_live c'.live d ≡ false → is_live c'.live j ≡ false
+  -- What isn't live has no answers and no lists.
+  pub takes_answers : (j : InstanceId) (a : AttrId) → is_live c'.live j ≡ false → get c'.answers (a.0, j) ≡ None
+  pub takes_lists : (j : InstanceId) (q : RelId) → is_live c'.live j ≡ false → get c'.lists (q.0, j) ≡ None
+
+abbrev pub ForgetTakes : Type 0
+ForgetTakes = (s : Shape) (ruled : List Bool) → IsShape s → (c c' : CaseView) (r : RelId) (i : InstanceId) → Fits s ruled c → step s ruled c (Forget r i) ≡ Ok c' → Takes s c c' r i

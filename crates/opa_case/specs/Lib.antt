@@ -1,10 +1,16 @@
+pub mod Below
 pub mod Cases
 pub mod Clean
 pub mod Fits
 pub mod Homes
 pub mod Laws
+pub mod Listed
 pub mod Live
+pub mod Lost
+pub mod Order
 pub mod Refusals
 pub mod Samples
 pub mod Shapes
 pub mod Steps
+pub mod Turns
+pub mod Whole

@@ -1,40 +1,55 @@
 // What is held of one claimant.
-ghost use Rattle.std.specs.Prelude.{◌≡◌, length, is_some, IfOk};
+ghost use Rattle.std.specs.Prelude.{◌≡◌, ◌≤◌, true, false, length, is_some, Some, IfSome, IfOk, All};
 ghost use Rattle.std.specs.Option.{option_copied};
 ghost use Rattle.std.specs.FinMap as map;
-ghost use Rattle.opa_cells.specs.Instances.{named};
+ghost use Rattle.std.specs.FinMap.{FinMap};
+ghost use Rattle.opa_cells.specs.Keys.{cell_cmp};
+ghost use Rattle.opa_cells.specs.declared.instance.InstanceId.{InstanceId as InstanceView};
+ghost use Rattle.opa_model.specs.declared.ids.RelId.{RelId as RelView};
+ghost use Rattle.opa_case.specs.Live.{Names};
+ghost use Rattle.opa_case.specs.Order.{live_in};
 ghost use Rattle.opa_case.specs.Live as live;
 ghost use Rattle.opa_case.specs.Cases as cases;
 ghost use Rattle.opa_case.specs.Steps as step;
 
 use crate::copies::{EachName, EachValue};
+use crate::listed::Listed;
 use crate::living::Living;
 use opa_cells::{Cells, InstanceId};
 use opa_io::{List, NoMemory, Txt};
 use opa_line::Line;
-use opa_model::{AttrId, RelId};
+use opa_model::{AttrId, Model, RelId};
 use opa_value::Value;
+use opa_witness::Witness;
 use std::alloc::Global;
 
 /// Answers, known lists, and the instances that they make live.
 #[derive(Drop)]
 pub struct Case {
     pub(crate) alloc: Global,
-    pub(crate) lists: Cells<List<Txt>>,
+    pub(crate) lists: Listed,
     pub(crate) every: Cells<List<Txt>>,
     pub(crate) answers: Cells<Line<Value>>,
     pub(crate) living: Living,
+    // For proofs alone: with the lists it tells the order of the live instances. None as long as no list was set.
+    pub(crate) model: Option<Witness<Model>>,
 }
 
 impl std::marker::Model for Case {
+    ghost use Rattle.std.specs.Prelude.{◌≡◌};
     ghost use Rattle.opa_case.specs.Cases.{CaseView, coded_case};
+    ghost use Rattle.opa_case.specs.Homes.{AreHomes, AreCounts};
+    ghost use Rattle.opa_case.specs.Order.{live_in};
+    ghost use Rattle.opa_case.specs.Whole.{IsWhole};
     ghost use Rattle.opa_value.specs.contracts.value.Value as each;
 
     ghost Value = { CaseView };
 
     ghost coded = { coded_case each.the_row.coded };
 
-    ghost view = { λ c. record { lists = c.lists; every = c.every; answers = c.answers; live = c.living } };
+    ghost view = { λ c. record { lists = c.lists; every = c.every; answers = c.answers; live = live_in c.model c.lists } };
+
+    ghost invariant = { λ c. AreHomes c.living.homes (live_in c.model c.lists) × AreCounts c.living.counts (live_in c.model c.lists) × IsWhole (record { lists = c.lists; every = c.every; answers = c.answers; live = live_in c.model c.lists }) };
 }
 
 impl Case {
@@ -44,10 +59,11 @@ impl Case {
     {
         Case {
             alloc,
-            lists: Cells::new(alloc),
+            lists: Listed::new(alloc),
             every: Cells::new(alloc),
             answers: Cells::new(alloc),
             living: Living::new(alloc),
+            model: None,
         }
     }
 
@@ -57,10 +73,11 @@ impl Case {
     {
         Ok(Case {
             alloc,
-            lists: self.lists.copy(alloc, &EachName)?,
+            lists: self.lists.copy(alloc)?,
             every: self.every.copy(alloc, &EachName)?,
             answers: self.answers.copy(alloc, &EachValue)?,
             living: self.living.copy(alloc)?,
+            model: again(&self.model),
         })
     }
 
@@ -79,7 +96,10 @@ impl Case {
     }
 
     pub fn answer_of(&self, attr: AttrId, inst: &InstanceId) -> Option<&Line<Value>>
-        ensures { option_copied result ≡ map.get self.now.answers (attr.0, inst.now) }
+        ensures value { option_copied result ≡ map.get self.now.answers (attr.0, inst.now) }
+        ensures lives { IfSome (option_copied result) (λ _. live.is_live self.now.live inst.now ≡ true) }
+        ensures told { IfSome (option_copied result) (λ line. step.is_unknown_answer line ≡ false) }
+        ensures few { IfSome (option_copied result) (λ line. length line ≤ 1000) }
     {
         self.answers.get(attr.0, inst)
     }
@@ -95,43 +115,54 @@ impl Case {
 
     /// How many instances are live, without the global one.
     pub fn instances(&self) -> u64
-        ensures { result ≡ length self.now.live }
+        ensures value { result ≡ length self.now.live }
+        ensures few { result ≤ 20000 }
     {
-        self.living.len()
+        self.living.counts.total()
     }
 
     pub fn answers(&self) -> u64
-        ensures { result ≡ map.len self.now.answers }
+        ensures value { result ≡ map.len self.now.answers }
+        ensures few { result ≤ 100000 }
     {
         self.answers.len()
     }
 
     /// How many lists of relations that aren't declared with `every` are known.
     pub fn lists(&self) -> u64
-        ensures { result ≡ map.len self.now.lists }
+        ensures value { result ≡ map.len self.now.lists }
+        ensures lives { (r : RelView) (i : InstanceView) (names : Names) → map.get self.now.lists (r.0, i) ≡ Some names → live.is_live self.now.live i ≡ true }
+        ensures names { (r : RelView) (i : InstanceView) (names : Names) → map.get self.now.lists (r.0, i) ≡ Some names → cases.are_names names ≡ true }
+        ensures short { (r : RelView) (i : InstanceView) (names : Names) → map.get self.now.lists (r.0, i) ≡ Some names → All (λ n. length n ≤ 100) names }
     {
         self.lists.len()
     }
 }
 
 impl Case {
-    /// Whether the instance of an entity with a name stands in another container than this one.
-    pub(crate) fn stands_elsewhere(&self, container: &InstanceId, entity: u32, name: &Txt) -> bool
-        ensures { result ≡ step.stands_elsewhere self.now.live container.now (named entity name.now) }
+    /// Whether an instance stands in another container than this one.
+    pub(crate) fn stands_elsewhere(&self, container: &InstanceId, inst: &InstanceId) -> bool
+        ensures { result ≡ step.stands_elsewhere self.now.live container.now inst.now }
     {
-        self.living.stands_elsewhere(container, entity, name)
-    }
-
-    /// Whether the instance of an entity with a name is live.
-    pub(crate) fn is_named(&self, entity: u32, name: &Txt) -> bool
-        ensures { result ≡ live.is_live self.now.live (named entity name.now) }
-    {
-        self.living.is_named(entity, name)
+        match self.container_of(inst) {
+            Some(found) => !found.equals(container),
+            None => false,
+        }
     }
 
     pub(crate) fn is_answered(&self, attr: AttrId, inst: &InstanceId) -> bool
         ensures { result ≡ is_some (map.get self.now.answers (attr.0, inst.now)) }
     {
         self.answers.get(attr.0, inst).is_some()
+    }
+}
+
+/// The same witness again.
+fn again(model: &Option<Witness<Model>>) -> Option<Witness<Model>>
+    ensures { (lists : FinMap cell_cmp Names) → live_in result lists ≡ live_in model.now lists }
+{
+    match model {
+        Some(witness) => Some(witness.again()),
+        None => None,
     }
 }

@@ -1,9 +1,12 @@
 // The four changes of a case. Each is made whole, or refused with the case as it was.
-ghost use Rattle.std.specs.Prelude.{◌≡◌, ◌≢◌, false, None, IfOk, IfErr, OnOk, OnErr, Ok, Err};
+ghost use Rattle.std.specs.Prelude.{◌≡◌, ◌≢◌, true, false, [], None, Some, unwrap_or, cond, nat_lt, length, IfOk, IfErr, OnOk, OnErr, Ok, Err};
+ghost use Rattle.std.specs.FinMap as map;
 ghost use Rattle.opa_model.specs.Models.{IsModel, HasAttribute, HasRelation};
 ghost use Rattle.opa_case.specs.Shapes.{shape_of};
-ghost use Rattle.opa_case.specs.Live as live;
-ghost use Rattle.opa_case.specs.Cases as cases;
+ghost use Rattle.opa_cells.specs.declared.instance.InstanceId.{InstanceId as InstanceView};
+ghost use Rattle.opa_case.specs.Homes.{home_of, AreCounts};
+ghost use Rattle.opa_case.specs.Live.{is_live};
+ghost use Rattle.opa_case.specs.Turns.{Turns, is_among};
 ghost use Rattle.opa_case.specs.Steps as step;
 ghost use Rattle.opa_case.specs.Fits.{Fits};
 ghost use Rattle.opa_case.specs.declared.change.Refusal.TheVariants as refusals;
@@ -11,18 +14,22 @@ ghost use Rattle.opa_case.specs.declared.change.Refusal.TheVariants as refusals;
 use crate::answer_faults::{answer_fault, is_unanswerable, is_unknown_answer};
 use crate::case::Case;
 use crate::change::Refusal;
+use crate::changed::Changed;
 use crate::declared::bond_of;
-use crate::every::every_lists;
-use crate::keepers::{Alive, Changed, Stays};
+use crate::dropping::{drop_answers, drop_lists};
+use crate::every::every_then;
+use crate::homes::{add_homes, drop_homes};
 use crate::list_faults::{is_misplaced, list_fault};
-use crate::living::Living;
-use crate::order::live_order;
+use crate::listed::Listed;
 use crate::slots::is_full;
+use crate::turn::{Turn, turn_of};
 use opa_cells::{Cells, InstanceId};
 use opa_io::{List, NoMemory, Txt};
 use opa_line::Line;
 use opa_model::{AttrId, Model, RelId, Ruled};
 use opa_value::Value;
+use opa_witness::Witness;
+use std::alloc::Global;
 
 impl Case {
     /// Sets an answer. One that is unknown on every day takes the answer away.
@@ -115,7 +122,7 @@ impl Case {
             return Err(Refusal::Name);
         }
         if bond_of(model, rel.0).contains {
-            self.forget_contained(model, rel, inst)?;
+            self.forget_contained(model, ruled, rel, inst)?;
         } else {
             self.forget_reference(model, ruled, rel, inst);
         }
@@ -131,6 +138,9 @@ impl Case {
         inst: &InstanceId,
         line: Line<Value>,
     ) -> Result<(), NoMemory>
+        requires lives { is_live self.old.live inst.now ≡ true }
+        requires few { nat_lt 1000 (length line) ≡ false }
+        requires room { nat_lt 100000 (map.len (step.with_answer self.old attr inst.now line).answers) ≡ false }
         ensures ok { OnOk result (self.new ≡ step.with_answer self.old attr inst.now line) }
         ensures unchanged { OnErr result (self.new ≡ self.old) }
     {
@@ -148,25 +158,6 @@ impl Case {
         self.answers.remove(attr.0, inst);
     }
 
-    fn put_reference(
-        &mut self,
-        rel: RelId,
-        inst: &InstanceId,
-        names: List<Txt>,
-    ) -> Result<(), NoMemory>
-        ensures ok { OnOk result (self.new ≡ step.listed self.old rel inst.now names) }
-        ensures unchanged { OnErr result (self.new ≡ self.old) }
-    {
-        let key = inst.copy(self.alloc)?;
-        self.lists.insert(rel.0, key, names)
-    }
-
-    fn drop_list(&mut self, rel: RelId, inst: &InstanceId)
-        ensures { self.new ≡ step.unlisted self.old rel inst.now }
-    {
-        self.lists.remove(rel.0, inst);
-    }
-
     /// Sets a containment list that has no fault.
     fn set_contained(
         &mut self,
@@ -176,16 +167,214 @@ impl Case {
         inst: &InstanceId,
         names: List<Txt>,
     ) -> Result<(), Refusal>
+        requires form { IsModel model.now }
+        requires declared { HasRelation model.now rel }
+        requires fits { Fits (shape_of model.now) ruled.now self.old }
+        requires contains { (shape_of model.now).contains rel ≡ true }
+        requires free { step.list_fault (shape_of model.now) self.old rel inst.now names ≡ None }
         ensures ok { OnOk result (step.within (shape_of model.now) ruled.now (step.with_list (shape_of model.now) self.old rel inst.now names) ≡ Ok self.new) }
         ensures err { IfErr result (λ e. e ≢ refusals.NoMemory → step.within (shape_of model.now) ruled.now (step.with_list (shape_of model.now) self.old rel inst.now names) ≡ Err e) }
         ensures unchanged { OnErr result (self.new ≡ self.old) }
     {
-        let living = self.living_with(model, rel, inst, &names)?;
-        if is_full(model, ruled, &living) {
+        let turn = self.turn_with(model, ruled, rel, inst, &names)?;
+        if is_full(model, ruled, &turn.counts) {
             return Err(Refusal::Limit);
         }
-        let every = self.every_with(model, rel, inst, &names)?;
-        self.put_list(model, rel, inst, names, living, every)?;
+        let every = self.every_with(model, ruled, rel, inst, &names)?;
+        self.put_list(model, ruled, rel, inst, names, turn, every)?;
+        Ok(())
+    }
+
+    /// What goes and what comes with the list.
+    fn turn_with(
+        &self,
+        model: &Model,
+        ruled: &Ruled,
+        rel: RelId,
+        inst: &InstanceId,
+        names: &List<Txt>,
+    ) -> Result<Turn, NoMemory>
+        requires form { IsModel model.now }
+        requires declared { HasRelation model.now rel }
+        requires fits { Fits (shape_of model.now) ruled.now self.now }
+        requires contains { (shape_of model.now).contains rel ≡ true }
+        requires free { step.list_fault (shape_of model.now) self.now rel inst.now names.now ≡ None }
+        ensures turns { IfOk result (λ t. Turns self.now.live (step.with_list (shape_of model.now) self.now rel inst.now names.now).live t.gone.items t.come.items inst.now) }
+        ensures counts { IfOk result (λ t. AreCounts t.counts (step.with_list (shape_of model.now) self.now rel inst.now names.now).live) }
+    {
+        let turn = turn_of(
+            self.alloc,
+            model,
+            &self.lists,
+            &self.living.counts,
+            rel,
+            inst,
+            names.as_slice(),
+        )?;
+        Ok(turn)
+    }
+
+    /// What goes without the list.
+    fn turn_without(
+        &self,
+        model: &Model,
+        ruled: &Ruled,
+        rel: RelId,
+        inst: &InstanceId,
+    ) -> Result<Turn, NoMemory>
+        requires form { IsModel model.now }
+        requires fits { Fits (shape_of model.now) ruled.now self.now }
+        requires contains { (shape_of model.now).contains rel ≡ true }
+        requires placed { step.is_misplaced (shape_of model.now) self.now rel inst.now ≡ false }
+        ensures turns { IfOk result (λ t. Turns self.now.live (step.without_list (shape_of model.now) self.now rel inst.now).live t.gone.items [] inst.now) }
+        ensures counts { IfOk result (λ t. AreCounts t.counts (step.without_list (shape_of model.now) self.now rel inst.now).live) }
+    {
+        let turn = turn_of(
+            self.alloc,
+            model,
+            &self.lists,
+            &self.living.counts,
+            rel,
+            inst,
+            &[],
+        )?;
+        Ok(turn)
+    }
+
+    /// The `every` lists with the list, where they change.
+    fn every_with<'a>(
+        &'a self,
+        model: &Model,
+        ruled: &Ruled,
+        rel: RelId,
+        inst: &'a InstanceId,
+        names: &'a List<Txt>,
+    ) -> Result<Option<Cells<List<Txt>>>, NoMemory>
+        requires fits { Fits (shape_of model.now) ruled.now self.now }
+        requires contains { (shape_of model.now).contains rel ≡ true }
+        ensures { IfOk result (λ every. unwrap_or every self.now.every ≡ (step.with_list (shape_of model.now) self.now rel inst.now names.now).every) }
+    {
+        let lists = Changed {
+            lists: &self.lists,
+            rel,
+            inst,
+            names: Some(names),
+        };
+        let every = every_then(self.alloc, model, &lists, bond_of(model, rel.0).target)?;
+        Ok(every)
+    }
+
+    /// The `every` lists without the list, where they change.
+    fn every_without<'a>(
+        &'a self,
+        model: &Model,
+        ruled: &Ruled,
+        rel: RelId,
+        inst: &'a InstanceId,
+    ) -> Result<Option<Cells<List<Txt>>>, NoMemory>
+        requires fits { Fits (shape_of model.now) ruled.now self.now }
+        requires contains { (shape_of model.now).contains rel ≡ true }
+        ensures { IfOk result (λ every. unwrap_or every self.now.every ≡ (step.without_list (shape_of model.now) self.now rel inst.now).every) }
+    {
+        let lists = Changed {
+            lists: &self.lists,
+            rel,
+            inst,
+            names: None,
+        };
+        let every = every_then(self.alloc, model, &lists, bond_of(model, rel.0).target)?;
+        Ok(every)
+    }
+
+    /// Puts the list and what comes in, and takes out what goes.
+    fn put_list(
+        &mut self,
+        model: &Model,
+        ruled: &Ruled,
+        rel: RelId,
+        inst: &InstanceId,
+        names: List<Txt>,
+        turn: Turn,
+        every: Option<Cells<List<Txt>>>,
+    ) -> Result<(), NoMemory>
+        requires form { IsModel model.now }
+        requires declared { HasRelation model.now rel }
+        requires fits { Fits (shape_of model.now) ruled.now self.old }
+        requires contains { (shape_of model.now).contains rel ≡ true }
+        requires free { step.list_fault (shape_of model.now) self.old rel inst.now names ≡ None }
+        requires turns { Turns self.old.live (step.with_list (shape_of model.now) self.old rel inst.now names).live turn.gone.items turn.come.items inst.now }
+        requires counts { AreCounts turn.counts (step.with_list (shape_of model.now) self.old rel inst.now names).live }
+        requires every { unwrap_or every self.old.every ≡ (step.with_list (shape_of model.now) self.old rel inst.now names).every }
+        requires room { step.is_full (shape_of model.now) ruled.now (step.with_list (shape_of model.now) self.old rel inst.now names).live ≡ false }
+        ensures ok { OnOk result (self.new ≡ step.with_list (shape_of model.now) self.old rel inst.now names) }
+        ensures unchanged { OnErr result (self.new ≡ self.old) }
+    {
+        let Turn { gone, come, counts } = turn;
+        put_in(
+            self.alloc,
+            &mut self.living.homes,
+            &mut self.lists,
+            rel,
+            inst,
+            names,
+            &come,
+        )?;
+        drop_homes(&mut self.living.homes, &gone);
+        drop_lists(model, &mut self.lists, &gone);
+        drop_answers(model, &mut self.answers, &gone);
+        self.living.counts = counts;
+        replace_every(&mut self.every, every);
+        self.model = Some(Witness::of(model));
+        Ok(())
+    }
+
+    /// Takes the list out, and what goes with it. It takes no memory.
+    fn take_list(
+        &mut self,
+        model: &Model,
+        ruled: &Ruled,
+        rel: RelId,
+        inst: &InstanceId,
+        turn: Turn,
+        every: Option<Cells<List<Txt>>>,
+    )
+        requires form { IsModel model.now }
+        requires fits { Fits (shape_of model.now) ruled.now self.old }
+        requires contains { (shape_of model.now).contains rel ≡ true }
+        requires placed { step.is_misplaced (shape_of model.now) self.old rel inst.now ≡ false }
+        requires turns { Turns self.old.live (step.without_list (shape_of model.now) self.old rel inst.now).live turn.gone.items [] inst.now }
+        requires counts { AreCounts turn.counts (step.without_list (shape_of model.now) self.old rel inst.now).live }
+        requires every { unwrap_or every self.old.every ≡ (step.without_list (shape_of model.now) self.old rel inst.now).every }
+        ensures { self.new ≡ step.without_list (shape_of model.now) self.old rel inst.now }
+    {
+        let Turn { gone, counts, .. } = turn;
+        self.lists.remove(rel.0, inst);
+        drop_homes(&mut self.living.homes, &gone);
+        drop_lists(model, &mut self.lists, &gone);
+        drop_answers(model, &mut self.answers, &gone);
+        self.living.counts = counts;
+        replace_every(&mut self.every, every);
+        self.model = Some(Witness::of(model));
+    }
+
+    /// Forgets a containment list, and what it contains.
+    fn forget_contained(
+        &mut self,
+        model: &Model,
+        ruled: &Ruled,
+        rel: RelId,
+        inst: &InstanceId,
+    ) -> Result<(), NoMemory>
+        requires form { IsModel model.now }
+        requires fits { Fits (shape_of model.now) ruled.now self.old }
+        requires contains { (shape_of model.now).contains rel ≡ true }
+        requires placed { step.is_misplaced (shape_of model.now) self.old rel inst.now ≡ false }
+        ensures ok { OnOk result (self.new ≡ step.without_list (shape_of model.now) self.old rel inst.now) }
+        ensures unchanged { OnErr result (self.new ≡ self.old) }
+    {
+        let turn = self.turn_without(model, ruled, rel, inst)?;
+        let every = self.every_without(model, ruled, rel, inst)?;
+        self.take_list(model, ruled, rel, inst, turn, every);
         Ok(())
     }
 
@@ -206,10 +395,31 @@ impl Case {
         ensures err { IfErr result (λ e. e ≢ refusals.NoMemory → step.within (shape_of model.now) ruled.now (step.with_list (shape_of model.now) self.old rel inst.now names) ≡ Err e) }
         ensures unchanged { OnErr result (self.new ≡ self.old) }
     {
-        if is_full(model, ruled, &self.living) {
+        if is_full(model, ruled, &self.living.counts) {
             return Err(Refusal::Limit);
         }
-        self.put_reference(rel, inst, names)?;
+        self.put_reference(model, ruled, rel, inst, names)?;
+        Ok(())
+    }
+
+    fn put_reference(
+        &mut self,
+        model: &Model,
+        ruled: &Ruled,
+        rel: RelId,
+        inst: &InstanceId,
+        names: List<Txt>,
+    ) -> Result<(), NoMemory>
+        requires form { IsModel model.now }
+        requires fits { Fits (shape_of model.now) ruled.now self.old }
+        requires refers { (shape_of model.now).contains rel ≡ false }
+        requires free { step.list_fault (shape_of model.now) self.old rel inst.now names ≡ None }
+        ensures ok { OnOk result (self.new ≡ step.listed self.old rel inst.now names) }
+        ensures unchanged { OnErr result (self.new ≡ self.old) }
+    {
+        let key = inst.copy(self.alloc)?;
+        self.lists.insert(rel.0, key, names)?;
+        self.model = Some(Witness::of(model));
         Ok(())
     }
 
@@ -220,137 +430,42 @@ impl Case {
         requires refers { (shape_of model.now).contains rel ≡ false }
         ensures { self.new ≡ step.without_list (shape_of model.now) self.old rel inst.now }
     {
-        self.drop_list(rel, inst);
-    }
-
-    /// Forgets a containment list, and what it contains.
-    fn forget_contained(
-        &mut self,
-        model: &Model,
-        rel: RelId,
-        inst: &InstanceId,
-    ) -> Result<(), NoMemory>
-        ensures ok { OnOk result (self.new ≡ step.without_list (shape_of model.now) self.old rel inst.now) }
-        ensures unchanged { OnErr result (self.new ≡ self.old) }
-    {
-        let living = self.living_without(model, rel, inst)?;
-        let every = self.every_without(model, rel, inst)?;
         self.lists.remove(rel.0, inst);
-        self.settle(model, living, every);
-        Ok(())
+        self.model = Some(Witness::of(model));
     }
+}
 
-    /// What would be live with the list.
-    fn living_with<'a>(
-        &'a self,
-        model: &Model,
-        rel: RelId,
-        inst: &'a InstanceId,
-        names: &'a List<Txt>,
-    ) -> Result<Living, NoMemory>
-        ensures { IfOk result (λ l. l ≡ (step.with_list (shape_of model.now) self.now rel inst.now names.now).live) }
-    {
-        let lists = Changed {
-            lists: &self.lists,
-            rel,
-            inst,
-            names: Some(names),
-        };
-        let order = live_order(self.alloc, model, &lists)?;
-        Living::from_order(self.alloc, order)
+/// Puts what comes and the list in, or nothing.
+fn put_in(
+    alloc: Global,
+    homes: &mut Cells<InstanceId>,
+    lists: &mut Listed,
+    rel: RelId,
+    inst: &InstanceId,
+    names: List<Txt>,
+    come: &[(InstanceId, InstanceId)],
+) -> Result<(), NoMemory>
+    requires { (i : InstanceView) → is_among come.now i ≡ true → home_of homes.old i ≡ None }
+    ensures homes { OnOk result ((i : InstanceView) → home_of homes.new i ≡ cond (is_among come.now i) (Some inst.now) (home_of homes.old i)) }
+    ensures lists { OnOk result (lists.new ≡ map.insert lists.old (rel.0, inst.now) names) }
+    ensures same_homes { OnErr result ((i : InstanceView) → home_of homes.new i ≡ home_of homes.old i) }
+    ensures same_lists { OnErr result (lists.new ≡ lists.old) }
+{
+    let key = inst.copy(alloc)?;
+    add_homes(alloc, homes, inst, come)?;
+    match lists.insert(rel.0, key, names) {
+        Ok(()) => Ok(()),
+        Err(NoMemory) => {
+            drop_homes(homes, come);
+            Err(NoMemory)
+        }
     }
+}
 
-    /// The `every` lists then.
-    fn every_with<'a>(
-        &'a self,
-        model: &Model,
-        rel: RelId,
-        inst: &'a InstanceId,
-        names: &'a List<Txt>,
-    ) -> Result<Cells<List<Txt>>, NoMemory>
-        ensures { IfOk result (λ l. l ≡ (step.with_list (shape_of model.now) self.now rel inst.now names.now).every) }
-    {
-        let lists = Changed {
-            lists: &self.lists,
-            rel,
-            inst,
-            names: Some(names),
-        };
-        every_lists(self.alloc, model, &lists)
-    }
-
-    /// What would be live without the list.
-    fn living_without<'a>(
-        &'a self,
-        model: &Model,
-        rel: RelId,
-        inst: &'a InstanceId,
-    ) -> Result<Living, NoMemory>
-        ensures { IfOk result (λ l. l ≡ (step.without_list (shape_of model.now) self.now rel inst.now).live) }
-    {
-        let lists = Changed {
-            lists: &self.lists,
-            rel,
-            inst,
-            names: None,
-        };
-        let order = live_order(self.alloc, model, &lists)?;
-        Living::from_order(self.alloc, order)
-    }
-
-    /// The `every` lists then.
-    fn every_without<'a>(
-        &'a self,
-        model: &Model,
-        rel: RelId,
-        inst: &'a InstanceId,
-    ) -> Result<Cells<List<Txt>>, NoMemory>
-        ensures { IfOk result (λ l. l ≡ (step.without_list (shape_of model.now) self.now rel inst.now).every) }
-    {
-        let lists = Changed {
-            lists: &self.lists,
-            rel,
-            inst,
-            names: None,
-        };
-        every_lists(self.alloc, model, &lists)
-    }
-
-    /// Puts the list in, and takes out what isn't live.
-    fn put_list(
-        &mut self,
-        model: &Model,
-        rel: RelId,
-        inst: &InstanceId,
-        names: List<Txt>,
-        living: Living,
-        every: Cells<List<Txt>>,
-    ) -> Result<(), NoMemory>
-        requires alive { living ≡ (step.with_list (shape_of model.now) self.old rel inst.now names).live }
-        requires every { every ≡ (step.with_list (shape_of model.now) self.old rel inst.now names).every }
-        ensures ok { OnOk result (self.new ≡ step.with_list (shape_of model.now) self.old rel inst.now names) }
-        ensures unchanged { OnErr result (self.new ≡ self.old) }
-    {
-        let key = inst.copy(self.alloc)?;
-        self.lists.insert(rel.0, key, names)?;
-        self.settle(model, living, every);
-        Ok(())
-    }
-
-    /// Takes out what isn't live. It takes no memory.
-    fn settle(&mut self, model: &Model, living: Living, every: Cells<List<Txt>>)
-        requires alive { living ≡ live.live_of (shape_of model.now) (cases.stored self.old.lists) }
-        requires every { every ≡ step.every_of (shape_of model.now) (cases.stored self.old.lists) }
-        ensures { self.new ≡ step.settle (shape_of model.now) self.old.lists self.old.answers }
-    {
-        let stays = Stays {
-            model,
-            living: &living,
-        };
-        self.lists.retain(&stays);
-        let alive = Alive { living: &living };
-        self.answers.retain(&alive);
-        self.living = living;
-        self.every = every;
+fn replace_every(every: &mut Cells<List<Txt>>, new: Option<Cells<List<Txt>>>)
+    ensures { every.new ≡ unwrap_or new every.old }
+{
+    if let Some(lists) = new {
+        *every = lists;
     }
 }

@@ -1,7 +1,7 @@
 // Copies of names and of answers.
 ghost use Rattle.std.specs.Prelude.{◌≡◌, IfOk};
 
-use opa_cells::Copies;
+use opa_cells::{Copies, InstanceId};
 use opa_io::{List, NoMemory, Txt};
 use opa_line::Line;
 use opa_value::Value;
@@ -44,4 +44,14 @@ fn copy_line(alloc: Global, line: &Line<Value>) -> Result<Line<Value>, NoMemory>
     let _form = line.segments();
     let _copied_form = copied.segments();
     Ok(copied)
+}
+
+/// Copies an instance.
+#[derive(Clone, Copy)]
+pub(crate) struct EachInstance;
+
+impl Copies<InstanceId> for EachInstance {
+    fn copy(&self, alloc: Global, inst: &InstanceId) -> Result<InstanceId, NoMemory> {
+        inst.copy(alloc)
+    }
 }

@@ -1,20 +1,77 @@
 // The lists of the relations that are declared with `every`.
-ghost use Rattle.std.specs.Prelude.{◌≡◌, ◌<◌, ◌++◌, ◌∷◌, [], map, Option, IfOk, OnOk};
+ghost use Rattle.std.specs.Prelude.{◌≡◌, ◌<◌, ◌++◌, ◌∷◌, [], false, map, Option, IfOk, OnOk, IfSome, IsNone};
 ghost use Rattle.std.specs.Option.{option_map};
 ghost use Rattle.opa_cells.specs.Instances.{named, global};
 ghost use Rattle.opa_case.specs.Shapes.{shape_of};
 ghost use Rattle.opa_case.specs.Live as live;
 ghost use Rattle.opa_case.specs.Steps.{every_of, with_every};
+ghost use Rattle.opa_case.specs.Below.{is_under, hangs_on, lists_below};
 
+use crate::contained::Lists;
 use crate::declared::{bond_of, nest_of};
-use crate::order::Lists;
 use opa_cells::{Cells, InstanceId};
 use opa_io::{List, NoMemory, Txt};
 use opa_model::{EntityId, Model, RelId};
 use std::alloc::Global;
 
+/// The lists of the relations that are declared with `every`, where a list that contains an entity changes; none where they stay.
+pub(crate) fn every_then<L: Lists>(
+    alloc: Global,
+    model: &Model,
+    lists: &L,
+    entity: u32,
+) -> Result<Option<Cells<List<Txt>>>, NoMemory>
+    ensures some { IfOk result (λ every. IfSome every (λ all. all ≡ every_of (shape_of model.now) (L.lists lists.now))) }
+    ensures none { IfOk result (λ every. IsNone every → lists_below (shape_of model.now) entity (shape_of model.now).relations ≡ false) }
+{
+    if !is_listed_below(model, entity) {
+        return Ok(None);
+    }
+    let every = every_lists(alloc, model, lists)?;
+    Ok(Some(every))
+}
+
+/// Whether a relation that is declared with `every` lists the entity, or one below.
+fn is_listed_below(model: &Model, entity: u32) -> bool
+    ensures { result ≡ lists_below (shape_of model.now) entity (shape_of model.now).relations }
+{
+    let count = model.relation_count();
+    let mut number = 0;
+    while number < count {
+        if hangs_on(model, entity, number) {
+            return true;
+        }
+        number += 1;
+    }
+    false
+}
+
+/// Whether a relation is declared with `every` and lists the entity, or one below.
+fn hangs_on(model: &Model, entity: u32, number: u32) -> bool
+    ensures { result ≡ hangs_on (shape_of model.now) entity number }
+{
+    let bond = bond_of(model, number);
+    bond.every && is_under(model, entity, model.entity_count(), bond.target)
+}
+
+/// Whether one comes from an entity to another, within so many steps to parents.
+fn is_under(model: &Model, entity: u32, steps: u32, from: u32) -> bool
+    ensures { result ≡ is_under (shape_of model.now) entity steps from }
+{
+    if steps == 0 {
+        return false;
+    }
+    if from == 0 {
+        return false;
+    }
+    if from == entity {
+        return true;
+    }
+    is_under(model, entity, steps - 1, nest_of(model, from).parent)
+}
+
 /// The lists of the relations that are declared with `every`.
-pub(crate) fn every_lists<L: Lists>(
+fn every_lists<L: Lists>(
     alloc: Global,
     model: &Model,
     lists: &L,

@@ -1,80 +1,56 @@
-// The containers of live instances, found by entity and name.
-ghost use Rattle.std.specs.Prelude.{◌≡◌, Option, ℕ, List, OnOk, IsNone, Some, None, cond};
-ghost use Rattle.std.specs.Option.{option_copied, option_or};
-ghost use Rattle.std.specs.BTreeMap as tree;
-ghost use Rattle.std.specs.Ordering.{nat_cmp};
-ghost use Rattle.opa_cells.specs.Instances.{is_same, is_text, named};
-ghost use Rattle.opa_case.specs.Homes.{home_at, home_of, NotesIn, Notes};
+// The containers of live instances, as some come and some go.
+ghost use Rattle.std.specs.Prelude.{◌≡◌, cond, None, Some, OnOk, OnErr, true, false};
+ghost use Rattle.opa_cells.specs.declared.instance.InstanceId.{InstanceId as InstanceView};
+ghost use Rattle.opa_case.specs.Homes.{home_of};
+ghost use Rattle.opa_case.specs.Turns.{is_among};
 
-use opa_cells::InstanceId;
-use opa_io::{NoMemory, Txt};
+use opa_cells::{Cells, InstanceId};
+use opa_io::NoMemory;
 use std::alloc::Global;
-use std::collections::BTreeMap;
 
-/// The container of each name, for each entity.
-pub(crate) type Homes = BTreeMap<u32, BTreeMap<Txt, InstanceId>>;
-
-/// The container of the instance of an entity with a name.
-pub(crate) fn home_of<'a>(homes: &'a Homes, entity: u32, name: &Txt) -> Option<&'a InstanceId>
-    ensures { option_copied result ≡ home_of homes.entry.now.entries entity name.now }
+/// Puts new instances into a container.
+pub(crate) fn add_homes(
+    alloc: Global,
+    homes: &mut Cells<InstanceId>,
+    container: &InstanceId,
+    come: &[(InstanceId, InstanceId)],
+) -> Result<(), NoMemory>
+    requires { (i : InstanceView) → is_among come.now i ≡ true → home_of homes.old i ≡ None }
+    ensures ok { OnOk result ((i : InstanceView) → home_of homes.new i ≡ cond (is_among come.now i) (Some container.now) (home_of homes.old i)) }
+    ensures err { OnErr result ((i : InstanceView) → home_of homes.new i ≡ home_of homes.old i) }
 {
-    match homes.get(&entity) {
-        Some(row) => row.get(name),
-        None => None,
+    match insert_homes(alloc, homes, container, come) {
+        Ok(()) => Ok(()),
+        Err(NoMemory) => {
+            drop_homes(homes, come);
+            Err(NoMemory)
+        }
     }
 }
 
-/// Notes an instance's container, unless it has one.
-pub(crate) fn note(
+/// Inserts homes one by one; where memory is wanting some of them.
+fn insert_homes(
     alloc: Global,
-    homes: &mut Homes,
-    inst: &InstanceId,
+    homes: &mut Cells<InstanceId>,
     container: &InstanceId,
+    come: &[(InstanceId, InstanceId)],
 ) -> Result<(), NoMemory>
-    ensures { OnOk result (Notes homes.old.entries homes.new.entries inst.now container.now) }
+    ensures ok { OnOk result ((i : InstanceView) → home_of homes.new i ≡ cond (is_among come.now i) (Some container.now) (home_of homes.old i)) }
+    ensures err { OnErr result ((i : InstanceView) → is_among come.now i ≡ false → home_of homes.new i ≡ home_of homes.old i) }
 {
-    let entity = inst.entity.0;
-    match homes.get_mut(&entity) {
-        Some(row) => note_in(alloc, row, &inst.name, container),
-        None => note_row(alloc, homes, entity, &inst.name, container),
+    for (inst, _) in come {
+        let key = inst.copy(alloc)?;
+        let home = container.copy(alloc)?;
+        homes.insert(0, key, home)?;
     }
+    Ok(())
 }
 
-/// Notes a container in a row, unless the name has one.
-fn note_in(
-    alloc: Global,
-    row: &mut BTreeMap<Txt, InstanceId>,
-    name: &Txt,
-    container: &InstanceId,
-) -> Result<(), NoMemory>
-    ensures { OnOk result (NotesIn row.old.entries row.new.entries name.now container.now) }
+/// Takes instances out.
+pub(crate) fn drop_homes(homes: &mut Cells<InstanceId>, gone: &[(InstanceId, InstanceId)])
+    ensures { (i : InstanceView) → home_of homes.new i ≡ cond (is_among gone.now i) None (home_of homes.old i) }
 {
-    if row.contains_key(name) {
-        return Ok(());
-    }
-    let key = name.copy(alloc)?;
-    let value = container.copy(alloc)?;
-    match row.insert(key, value) {
-        Ok(_) => Ok(()),
-        Err(_) => Err(NoMemory),
-    }
-}
-
-/// Adds a row with one name, at an entity that has none.
-fn note_row(
-    alloc: Global,
-    homes: &mut Homes,
-    entity: u32,
-    name: &Txt,
-    container: &InstanceId,
-) -> Result<(), NoMemory>
-    requires { IsNone (tree.get nat_cmp homes.old entity) }
-    ensures { OnOk result (Notes homes.old.entries homes.new.entries (named entity name.now) container.now) }
-{
-    let mut row = BTreeMap::new(alloc);
-    note_in(alloc, &mut row, name, container)?;
-    match homes.insert(entity, row) {
-        Ok(_) => Ok(()),
-        Err(_) => Err(NoMemory),
+    for (inst, _) in gone {
+        homes.remove(0, inst);
     }
 }

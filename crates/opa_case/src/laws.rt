@@ -16,6 +16,11 @@ pub fn step_fits()
     ensures { law.StepFits }
 {}
 
+/// A change that isn't refused leaves a whole case whole.
+pub fn step_is_whole()
+    ensures { law.StepIsWhole }
+{}
+
 /// A clean change leaves a clean case.
 pub fn step_is_clean()
     ensures { law.StepIsClean }
@@ -44,4 +49,9 @@ pub fn forget_loses()
 /// What a list that is set keeps, and what it takes.
 pub fn set_replaces()
     ensures { law.SetReplaces }
+{}
+
+/// What a list that is forgotten takes.
+pub fn forget_takes()
+    ensures { law.ForgetTakes }
 {}

@@ -1,8 +1,9 @@
 // Why a list can't be set or forgotten.
-ghost use Rattle.std.specs.Prelude.{◌≡◌, ◌&&◌, ◌||◌, not, ℕ, List, length, nat_lt, Option, IfOk, OnOk};
+ghost use Rattle.std.specs.Prelude.{◌≡◌, cond, ◌&&◌, ◌||◌, not, ℕ, List, length, nat_lt, Option, IfOk, OnOk};
 ghost use Rattle.std.specs.List.{list_any};
 ghost use Rattle.opa_cells.specs.Instances.{is_text};
 ghost use Rattle.opa_case.specs.Homes.{has_name};
+ghost use Rattle.opa_case.specs.Live.{is_live};
 ghost use Rattle.opa_case.specs.Shapes.{shape_of};
 ghost use Rattle.opa_case.specs.Cases.{CaseView, are_names, is_empty};
 ghost use Rattle.opa_case.specs.Steps as step;
@@ -12,7 +13,7 @@ use crate::change::Refusal;
 use crate::declared::bond_of;
 use opa_cells::InstanceId;
 use opa_io::{NoMemory, Txt};
-use opa_model::{Model, RelId};
+use opa_model::{EntityId, Model, RelId};
 use std::alloc::Global;
 use std::collections::BTreeMap;
 
@@ -36,7 +37,7 @@ pub(crate) fn list_fault(
     if !are_names(alloc, names)? {
         return Ok(Some(Refusal::Name));
     }
-    if cant_name_one(case, model, rel, inst, names) {
+    if cant_name_one(alloc, case, model, rel, inst, names)? {
         return Ok(Some(Refusal::Name));
     }
     if bond_of(model, rel.0).one && 1 < names.len() {
@@ -86,7 +87,12 @@ fn is_empty(name: &Txt) -> bool
     name.as_str().is_empty()
 }
 
-fn add_name(alloc: Global, later: &mut BTreeMap<Txt, ()>, name: &Txt) -> Result<(), NoMemory>
+/// Adds a name to a set.
+pub(crate) fn add_name(
+    alloc: Global,
+    later: &mut BTreeMap<Txt, ()>,
+    name: &Txt,
+) -> Result<(), NoMemory>
     ensures { OnOk result ((q : List ℕ) → has_name later.new q ≡ (is_text q name.now || has_name later.old q)) }
 {
     let key = name.copy(alloc)?;
@@ -100,21 +106,49 @@ fn is_one_long(names: &[Txt]) -> bool
     names.iter().any(|name| MOST_NAME < name.as_str().len())
 }
 
-fn cant_name_one(case: &Case, model: &Model, rel: RelId, inst: &InstanceId, names: &[Txt]) -> bool
-    ensures { result ≡ list_any (step.cant_name (shape_of model.now) case.now rel inst.now) names.now }
+fn cant_name_one(
+    alloc: Global,
+    case: &Case,
+    model: &Model,
+    rel: RelId,
+    inst: &InstanceId,
+    names: &[Txt],
+) -> Result<bool, NoMemory>
+    ensures { IfOk result (λ cant. cant ≡ list_any (step.cant_name (shape_of model.now) case.now rel inst.now) names.now) }
 {
-    names
-        .iter()
-        .any(|name| cant_name(case, model, rel, inst, name))
+    for name in names {
+        if cant_name(alloc, case, model, rel, inst, name)? {
+            return Ok(true);
+        }
+    }
+    Ok(false)
 }
 
-fn cant_name(case: &Case, model: &Model, rel: RelId, inst: &InstanceId, name: &Txt) -> bool
-    ensures { result ≡ step.cant_name (shape_of model.now) case.now rel inst.now name.now }
+fn cant_name(
+    alloc: Global,
+    case: &Case,
+    model: &Model,
+    rel: RelId,
+    inst: &InstanceId,
+    name: &Txt,
+) -> Result<bool, NoMemory>
+    ensures { IfOk result (λ cant. cant ≡ step.cant_name (shape_of model.now) case.now rel inst.now name.now) }
 {
     let bond = bond_of(model, rel.0);
-    if bond.contains {
-        case.stands_elsewhere(inst, bond.target, name)
+    let named = InstanceId {
+        entity: EntityId(bond.target),
+        name: name.copy(alloc)?,
+    };
+    Ok(is_taken(case, bond.contains, inst, &named))
+}
+
+/// Whether an instance can't stand in a list: it stands in another container, or isn't live where lists refer.
+fn is_taken(case: &Case, contains: bool, inst: &InstanceId, named: &InstanceId) -> bool
+    ensures { result ≡ cond contains (step.stands_elsewhere case.now.live inst.now named.now) (not (is_live case.now.live named.now)) }
+{
+    if contains {
+        case.stands_elsewhere(inst, named)
     } else {
-        !case.is_named(bond.target, name)
+        !case.live(named)
     }
 }

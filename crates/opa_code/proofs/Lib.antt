@@ -9,4 +9,3 @@ pub mod Sizing
 pub mod Standing
 pub mod Stepping
 pub mod Tallying
-pub mod Walks

@@ -12,12 +12,11 @@ ghost use Rattle.opa_code.specs.Running.{IsStep, node_meaning, operand_count as 
 use crate::gathering::Gathering;
 use crate::lines::{certain_line, choice_line, gathered, known_line, not_line, op_line, same_line};
 use crate::node::Node;
-use crate::places::place_in;
 use crate::windows::{rolling_line, window_line};
 use opa_case::InstanceId;
 use opa_io::NoMemory;
 use opa_line::Line;
-use opa_mean::Look;
+use opa_mean::{Look, place_in};
 use opa_model::AttrId;
 use opa_value::Value;
 use std::alloc::Global;

@@ -5,9 +5,9 @@ ghost use Rattle.opa_case.specs.Shapes.{shape_of};
 ghost use Rattle.opa_code.specs.Codes.{code, row_code};
 ghost use Rattle.opa_code.specs.declared.node.Node.TheVariants as nodes_of;
 
-use crate::declared::{owner_of, source_of, target_of};
 use crate::node::Node;
 use opa_io::{List, NoMemory};
+use opa_mean::{owner_of, source_of, target_of};
 use opa_model::Model;
 use opa_tree::{Expr, Row};
 use std::alloc::Global;

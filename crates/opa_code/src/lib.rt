@@ -4,7 +4,6 @@
 mod carry;
 mod choice;
 mod code;
-mod declared;
 mod derive;
 mod gather;
 mod gathering;
@@ -14,14 +13,12 @@ mod marks;
 mod node;
 mod operations;
 mod peaks;
-mod places;
 mod rule_code;
 mod rules;
 mod run;
 mod sums;
 mod tally;
 mod windows;
-mod witness;
 
 pub use code::Code;
 pub use laws::code_is_short;

@@ -5,10 +5,10 @@ ghost use Rattle.opa_code.specs.Coding.{coded};
 ghost use Rattle.opa_code.specs.Rulebases.{rulebase_of};
 
 use crate::Code;
-use crate::declared::is_money;
 use crate::gather::gather;
 use crate::rule_code::RuleCode;
 use opa_io::{List, NoMemory};
+use opa_mean::is_money;
 use opa_model::Model;
 use opa_tree::{Rule, Rulebase};
 use std::alloc::Global;

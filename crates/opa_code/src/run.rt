@@ -11,11 +11,10 @@ ghost use Rattle.opa_code.specs.Steps.{AreItems, IsListed, IsOver, IsQuantified,
 use crate::carry::{add, behind, carry_out};
 use crate::lines::{item_line, quantified};
 use crate::node::Node;
-use crate::places::place_in;
 use opa_case::InstanceId;
 use opa_io::{List, NoMemory, Txt, front};
 use opa_line::Line;
-use opa_mean::Look;
+use opa_mean::{Look, place_in};
 use opa_model::{EntityId, RelId};
 use opa_tree::Quant;
 use opa_value::Value;

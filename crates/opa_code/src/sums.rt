@@ -6,7 +6,8 @@ ghost use Rattle.opa_mean.specs.Meaning as meant;
 ghost use Rattle.opa_code.specs.Tallies as tallies;
 
 use opa_io::Same;
-use opa_value::{Number, Value};
+use opa_mean::number_of;
+use opa_value::Value;
 
 #[derive(Clone, Copy, Debug)]
 pub(crate) struct Sums {
@@ -78,16 +79,6 @@ fn plus(a: i128, b: i128) -> i128
     ensures { result ≡ a +ℤ b }
 {
     a + b
-}
-
-/// The number of a count of ten-thousandths, uncertain where it is out of range.
-pub(crate) fn number_of(count: i128) -> Value
-    ensures { result ≡ folds.number_of count }
-{
-    match Number::from_count(count) {
-        Some(number) => Value::Num(number),
-        None => Value::Uncertain,
-    }
 }
 
 /// A number of things.

@@ -5,8 +5,9 @@ ghost use Rattle.opa_code.specs.Tallies as tallies;
 use crate::gathering::Gathering;
 use crate::marks::Marks;
 use crate::peaks::Peaks;
-use crate::sums::{Sums, amount, number_of};
+use crate::sums::{Sums, amount};
 use opa_io::{NoMemory, Same};
+use opa_mean::number_of;
 use opa_value::Value;
 use std::alloc::Global;
 

@@ -8,7 +8,7 @@ use opa_model::{AttrId, Kind, Model, RelId};
 use opa_value::{Value, fit};
 
 /// The entity whose instances have the attribute.
-pub(crate) fn owner_of(model: &Model, attr: AttrId) -> u32
+pub fn owner_of(model: &Model, attr: AttrId) -> u32
     ensures { result ≡ entity_of (shape_of model.now) attr }
 {
     if attr.0 < model.attribute_count() {
@@ -18,7 +18,7 @@ pub(crate) fn owner_of(model: &Model, attr: AttrId) -> u32
     }
 }
 
-pub(crate) fn source_of(model: &Model, rel: RelId) -> u32
+pub fn source_of(model: &Model, rel: RelId) -> u32
     ensures { result ≡ (shape_of model.now).source rel }
 {
     if rel.0 < model.relation_count() {
@@ -28,7 +28,7 @@ pub(crate) fn source_of(model: &Model, rel: RelId) -> u32
     }
 }
 
-pub(crate) fn target_of(model: &Model, rel: RelId) -> u32
+pub fn target_of(model: &Model, rel: RelId) -> u32
     ensures { result ≡ (shape_of model.now).target rel }
 {
     if rel.0 < model.relation_count() {
@@ -45,7 +45,8 @@ pub(crate) fn concluded(model: &Model, attr: AttrId, value: Value) -> Value
     fit(is_money(model, attr), value)
 }
 
-fn is_money(model: &Model, attr: AttrId) -> bool
+/// Whether an attribute is declared as a currency.
+pub fn is_money(model: &Model, attr: AttrId) -> bool
     ensures { result ≡ of_money ((shape_of model.now).attribute attr).kind }
 {
     attr.0 < model.attribute_count() && matches!(model.attribute(attr).kind, Kind::Currency)

@@ -71,7 +71,7 @@ pub(crate) fn any_of(values: &[Value]) -> Value
 }
 
 /// The number of a count of ten-thousandths, uncertain where it is out of range.
-pub(crate) fn number_of(count: i128) -> Value
+pub fn number_of(count: i128) -> Value
     ensures { result ≡ meant.number_of count }
 {
     match Number::from_count(count) {

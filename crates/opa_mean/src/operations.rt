@@ -24,14 +24,14 @@ pub(crate) fn op(alloc: Global, kind: OpKind, values: &[Value]) -> Result<Value,
     ensures { IfOk result (λ v. v ≡ meant.op_of kind values.now) }
 {
     match values {
-        [v] => Ok(of_one(kind, v)),
-        [v, w] => of_two(alloc, kind, v, w),
+        [v] => Ok(op_of_one(kind, v)),
+        [v, w] => op_of_two(alloc, kind, v, w),
         _ => Ok(Value::Uncertain),
     }
 }
 
 /// An operation on one value.
-fn of_one(kind: OpKind, v: &Value) -> Value
+pub fn op_of_one(kind: OpKind, v: &Value) -> Value
     ensures { result ≡ meant.op_of kind (v.now ∷ []) }
 {
     match kind {
@@ -108,7 +108,7 @@ fn joined_texts(alloc: Global, s: &Txt, t: &Txt) -> Result<Value, NoMemory>
 }
 
 /// An operation on two values.
-fn of_two(alloc: Global, kind: OpKind, v: &Value, w: &Value) -> Result<Value, NoMemory>
+pub fn op_of_two(alloc: Global, kind: OpKind, v: &Value, w: &Value) -> Result<Value, NoMemory>
     ensures { IfOk result (λ x. x ≡ meant.op_of kind (v.now ∷ w.now ∷ [])) }
 {
     match kind {

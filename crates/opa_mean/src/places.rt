@@ -31,7 +31,7 @@ fn along<'a, K: Look>(
 }
 
 /// The place of an entity over what is looked up.
-pub(crate) fn place_in<'a, K: Look>(
+pub fn place_in<'a, K: Look>(
     look: &'a K,
     enclosing: &'a [InstanceId],
     entity: u32,

@@ -1,11 +1,13 @@
 use Rattle.std.specs.Prelude.{◌≡◌, ◌≤◌, ◌-◌, length}
 use Rattle.opa_case.specs.Shapes.{shape_of}
+use Rattle.opa_case.specs.Homes.{AreCounts}
+use Rattle.opa_case.specs.Live.{Population}
 use Rattle.opa_case.specs.Steps.{slots_upto}
 use Rattle.opa_case.proofs.slots.has_many_slots.Given as goal
 
 abbrev pub invariant-loop-number : goal.invariant-loop-number
 invariant-loop-number l = record {
-  total : l.total ≡ slots_upto (shape_of l.model) l.ruled l.living l.number;
+  total : (live : Population) → AreCounts l.counts live → l.total ≡ slots_upto (shape_of l.model) l.ruled live l.number;
   few : l.total ≤ 2000000;
   within : l.number ≤ length l.model.attributes;
 }

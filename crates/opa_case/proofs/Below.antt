@@ -1,0 +1,75 @@
+-- The `every` lists that a change of lists leaves as they are.
+use Rattle.std.specs.Prelude.{◌≡◌, ◌<◌, ◌==◌, ℕ, zero, suc, true, false, cond, not, ◌||◌, ◌&&◌, List, [], ◌∷◌, Option, None, Some, IfSome, IsNone, unwrap_or, map, refl}
+use Rattle.std.specs.Option.{option_map, option_and_then, option_map_or}
+use Rattle.std.specs.FinMap.{FinMap, get, insert}
+use Rattle.std.specs.Ordering.{eq_by_cmp}
+use Rattle.std.proofs.Common.{arith, ap, sym, ◌∙◌}
+use mathlib.Core.Bool.{true≢false}
+use Rattle.std.proofs.lemmas.Bool.{or_parts}
+use Rattle.std.proofs.lemmas.Map.Views.{tells_apart}
+use Rattle.opa_model.specs.declared.ids.RelId.{RelId}
+use Rattle.opa_cells.specs.declared.instance.InstanceId.{InstanceId}
+use Rattle.opa_cells.specs.Instances.{global, named}
+use Rattle.opa_cells.specs.Keys.{cell_cmp}
+use Rattle.opa_cells.proofs.Orders.{cell_exact}
+use Rattle.opa_case.specs.Shapes.{Shape, IsShape}
+use Rattle.opa_case.specs.Cases.{stored}
+use Rattle.opa_case.specs.Live.{Names, Lists, gathered, walk}
+use Rattle.opa_case.specs.Steps.{rel, with_every, every_upto, every_of, changed}
+use Rattle.opa_case.specs.Below.{is_under, lists_below}
+use Rattle.opa_case.proofs.Stands.{same_number}
+
+positive : (e : ℕ) → (e == 0) ≡ false → 0 < e
+positive zero h = absurd (true≢false h)
+positive (suc e) h = omega arith
+
+module _ (s : Shape) (shape : IsShape s) (t : ℕ) (l l' : Lists) (agree : (e : ℕ) (c : InstanceId) → 0 < e → e < s.count → (e ≡ t → ⊥) → l (s.contained e) c ≡ l' (s.contained e) c) where
+  other : (e : ℕ) → (e == t) ≡ false → e ≡ t → ⊥
+  other e apart same = true≢false (sym (same_number e t same) ∙ apart)
+
+  next : (e : ℕ) → e < s.count → (e == 0) ≡ false → (e == t) ≡ false → (a b : Option (List InstanceId)) → a ≡ b
+      → option_and_then (λ cs. option_map (map (named e)) (gathered (map (l (s.contained e)) cs))) a ≡ option_and_then (λ cs. option_map (map (named e)) (gathered (map (l' (s.contained e)) cs))) b
+  next e lt pos apart a b same = λ k. option_and_then (λ cs. option_map (map (named e)) (gathered (map (λ c. agree e c (positive e pos) lt (other e apart) k) cs))) (same k)
+
+  -- A walk that doesn't come by t is the same.
+  walk_stays : (n e : ℕ) → e < s.count → is_under s t n e ≡ false → walk s l n e ≡ walk s l' n e
+  unfolding walk is_under
+  walk_stays zero e lt h = refl
+  walk_stays (suc n) e lt h =
+      elim (e == 0) as (λ b. (e == 0) ≡ b → (not b && ((e == t) || is_under s t n (s.parent e))) ≡ false
+      → cond b (Some (global ∷ [])) (option_and_then (λ cs. option_map (map (named e)) (gathered (map (l (s.contained e)) cs))) (walk s l n (s.parent e)))
+      ≡ cond b (Some (global ∷ [])) (option_and_then (λ cs. option_map (map (named e)) (gathered (map (l' (s.contained e)) cs))) (walk s l' n (s.parent e)))) [
+        | true ↦ λ _ _. refl
+        | false ↦ λ pos g. let p = or_parts (e == t) (is_under s t n (s.parent e)) g in let early = shape.earlier e (positive e pos) lt in next e lt pos p.0 _ _ (walk_stays n (s.parent e) (omega (arith, early, lt)) p.1)
+      ] refl h
+
+  list_stays : (n : ℕ) (before before' : FinMap cell_cmp Names) → (s.every (rel n) && is_under s t s.count (s.target (rel n))) ≡ false → before ≡ before' → with_every s l n before ≡ with_every s l' n before'
+  list_stays n before before' h same =
+      elim (s.every (rel n)) as (λ b. (b && is_under s t s.count (s.target (rel n))) ≡ false
+      → cond b (option_map_or (λ is. insert before (n, global) (map (λ i. i.name) is)) (walk s l s.count (s.target (rel n))) before) before
+      ≡ cond b (option_map_or (λ is. insert before' (n, global) (map (λ i. i.name) is)) (walk s l' s.count (s.target (rel n))) before') before') [
+        | true ↦ λ g. λ k. option_map_or (λ is. insert (same k) (n, global) (map (λ i. i.name) is)) (walk_stays s.count (s.target (rel n)) (shape.inside (rel n)) g k) (same k)
+        | false ↦ λ _. same
+      ] h
+
+  upto_stays : (n : ℕ) → lists_below s t n ≡ false → every_upto s l n ≡ every_upto s l' n
+  unfolding every_upto lists_below
+  upto_stays zero h = refl
+  upto_stays (suc n) h = let p = or_parts (lists_below s t n) (s.every (rel n) && is_under s t s.count (s.target (rel n))) h in list_stays n (every_upto s l n) (every_upto s l' n) p.1 (upto_stays n p.0)
+
+-- Where no `every` relation lists t or an entity below, the lists that contain instances of t don't matter.
+pub every_stays : (s : Shape) → IsShape s → (t : ℕ) → lists_below s t s.relations ≡ false → (l l' : Lists) → ((e : ℕ) (c : InstanceId) → 0 < e → e < s.count → (e ≡ t → ⊥) → l (s.contained e) c ≡ l' (s.contained e) c) → every_of s l ≡ every_of s l'
+every_stays s shape t none l l' agree = upto_stays s shape t l l' agree s.relations none
+
+-- a list of another relation than the changed one is as it was
+untouched : (s : Shape) → IsShape s → (r : RelId) (i : InstanceId) (w : Option Names) (m : FinMap cell_cmp Names) (e : ℕ) (c : InstanceId) → 0 < e → e < s.count → (e ≡ s.target r → ⊥) → stored m (s.contained e) c ≡ changed m r i w (s.contained e) c
+untouched s shape r i w m e c pos lt apart = elim (eq_by_cmp cell_cmp ((s.contained e).0, c) (r.0, i)) as (λ b. eq_by_cmp cell_cmp ((s.contained e).0, c) (r.0, i) ≡ b → get m ((s.contained e).0, c) ≡ cond b w (get m ((s.contained e).0, c))) [
+  | true ↦ λ h. absurd (apart (sym (shape.target e pos lt) ∙ ap (λ (k : ℕ × InstanceId). s.target (rel k.0)) (tells_apart cell_exact ((s.contained e).0, c) (r.0, i) h)))
+  | false ↦ λ _. refl
+] refl
+
+-- The `every` lists, where one list is changed: those that were made anew, or the old ones where none was made.
+pub every_changed : (s : Shape) → IsShape s → (r : RelId) (i : InstanceId) (w : Option Names) (m every : FinMap cell_cmp Names) (made : Option (FinMap cell_cmp Names)) → every ≡ every_of s (stored m)
+    → IfSome made (λ all. all ≡ every_of s (changed m r i w)) → (IsNone made → lists_below s (s.target r) s.relations ≡ false) → unwrap_or made every ≡ every_of s (changed m r i w)
+every_changed s shape r i w m every None was some none = was ∙ every_stays s shape (s.target r) (none refl) (stored m) (changed m r i w) (λ e c pos lt apart. untouched s shape r i w m e c pos lt apart)
+every_changed s shape r i w m every (Some all) was some none = some
