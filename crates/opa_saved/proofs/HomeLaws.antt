@@ -1,7 +1,8 @@
 -- Containers that are noted, and points that are added, unless there is one.
-use Rattle.std.proofs.Common.{◌≡◌, ◌<◌, ◌+◌, ◌-◌, ℕ, zero, suc, Bool, true, false, cond, List, [], ◌∷◌, length, map, drop, arith, refl, sym, ap, ◌∙◌}
+use Rattle.std.proofs.Common.{◌≡◌, ◌<◌, ◌+◌, ◌-◌, ℕ, zero, suc, Bool, true, false, cond, List, [], ◌∷◌, ◌++◌, length, map, drop, arith, refl, sym, ap, ◌∙◌}
 use Rattle.std.specs.Prelude.{Option, Some, None, is_some, ◌||◌, ◌&&◌, not, slice_index_or}
-use Rattle.std.specs.Option.{option_or}
+use denote.Ref.{Bor}
+use Rattle.std.specs.Option.{option_or, option_copied}
 use Rattle.std.specs.List.{list_any}
 use Rattle.std.specs.Ordering.{is_eq}
 use Rattle.std.specs.Cmp.{IsTotalOrder, eq_by_cmp_equiv}
@@ -13,6 +14,8 @@ use Rattle.opa_cells.specs.declared.instance.InstanceId.{InstanceId}
 use Rattle.opa_cells.specs.Instances.{is_same}
 use Rattle.opa_cells.proofs.Orders.{instance_total, same_is}
 use Rattle.opa_cells.proofs.Rowed.{or_none}
+use Rattle.opa_case.specs.Live.{Population, container_of}
+use Rattle.opa_case.proofs.Stands.{lookup_append}
 use Rattle.opa_saved.specs.declared.entries.Point.{Point}
 use Rattle.opa_saved.specs.Forms.{point_cmp, is_point, differ}
 
@@ -81,3 +84,10 @@ module _ {A : Type 0} (point : A → Point) where
 
   pub once_at : (xs : List A) (at : ℕ) (x : A) (has : Bool) → drop (at - 1) xs ≡ x ∷ drop at xs → has ≡ list_any (is_point (point x)) (map point (drop at xs)) → has ≡ false → differ (map point (drop at xs)) ≡ true → differ (map point (drop (at - 1) xs)) ≡ true
   once_at xs at x has split is test rest = ap (λ ys. differ (map point ys)) split ∙ both_true (list_any (is_point (point x)) (map point (drop at xs))) (differ (map point (drop at xs))) (sym is ∙ test) rest
+
+pub one_more : (xs : Population) (x : InstanceId × InstanceId) (q : InstanceId) → container_of (xs ++ x ∷ []) q ≡ option_or (container_of xs q) (cond (is_same q x.0) (Some x.1) None)
+one_more xs x q = lookup_append (is_same q) xs (x ∷ [])
+
+pub some_copied : {X : Type 0} (o : Option (Bor X)) → is_some (option_copied o) ≡ is_some o
+some_copied None = refl
+some_copied (Some x) = refl

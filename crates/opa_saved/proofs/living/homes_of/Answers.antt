@@ -3,7 +3,7 @@ use Rattle.std.specs.Option.{option_or}
 use Rattle.std.proofs.lemmas.List.{take_more}
 use Rattle.opa_cells.specs.Instances.{is_same}
 use Rattle.opa_case.specs.Live.{container_of}
-use Rattle.opa_case.proofs.Housed.{one_more}
+use Rattle.opa_saved.proofs.HomeLaws.{one_more}
 use Rattle.opa_saved.proofs.living.homes_of.Goals as goal
 
 pub loop-inst-preserved : goal.loop-inst-preserved
