@@ -1,22 +1,23 @@
 -- The `every` lists that a change of lists leaves as they are.
-use Rattle.std.specs.Prelude.{◌≡◌, ◌<◌, ◌==◌, ℕ, zero, suc, true, false, cond, not, ◌||◌, ◌&&◌, List, [], ◌∷◌, Option, None, Some, IfSome, IsNone, unwrap_or, map, refl}
+use Rattle.std.specs.Prelude.{◌≡◌, ◌<◌, ◌≤◌, ◌==◌, ℕ, zero, suc, true, false, cond, not, ◌||◌, ◌&&◌, List, [], ◌∷◌, Option, None, Some, IfSome, IsNone, unwrap_or, map, refl}
 use Rattle.std.specs.Option.{option_map, option_and_then, option_map_or}
 use Rattle.std.specs.FinMap.{FinMap, get, insert}
 use Rattle.std.specs.Ordering.{eq_by_cmp}
 use Rattle.std.proofs.Common.{arith, ap, sym, ◌∙◌}
 use mathlib.Core.Bool.{true≢false}
-use Rattle.std.proofs.lemmas.Bool.{or_parts}
+use Rattle.std.proofs.lemmas.Bool.{or_parts, and_parts, lt-ltb}
 use Rattle.std.proofs.lemmas.Map.Views.{tells_apart}
 use Rattle.opa_model.specs.declared.ids.RelId.{RelId}
 use Rattle.opa_cells.specs.declared.instance.InstanceId.{InstanceId}
-use Rattle.opa_cells.specs.Instances.{global, named}
+use Rattle.opa_cells.specs.Instances.{is_same, global, named}
 use Rattle.opa_cells.specs.Keys.{cell_cmp}
-use Rattle.opa_cells.proofs.Orders.{cell_exact}
+use Rattle.opa_cells.proofs.Orders.{cell_exact, same_itself}
 use Rattle.opa_case.specs.Shapes.{Shape, IsShape}
 use Rattle.opa_case.specs.Cases.{stored}
 use Rattle.opa_case.specs.Live.{Names, Lists, gathered, walk}
 use Rattle.opa_case.specs.Steps.{rel, with_every, every_upto, every_of, changed}
-use Rattle.opa_case.specs.Below.{is_under, lists_below}
+use Rattle.opa_case.specs.Below.{is_under, hangs_on, StaysUnknown}
+use Rattle.opa_case.proofs.Losing.{every_at, get-every}
 use Rattle.opa_case.proofs.Stands.{same_number}
 
 positive : (e : ℕ) → (e == 0) ≡ false → 0 < e
@@ -52,14 +53,24 @@ module _ (s : Shape) (shape : IsShape s) (t : ℕ) (l l' : Lists) (agree : (e : 
         | false ↦ λ _. same
       ] h
 
-  upto_stays : (n : ℕ) → lists_below s t n ≡ false → every_upto s l n ≡ every_upto s l' n
-  unfolding every_upto lists_below
-  upto_stays zero h = refl
-  upto_stays (suc n) h = let p = or_parts (lists_below s t n) (s.every (rel n) && is_under s t s.count (s.target (rel n))) h in list_stays n (every_upto s l n) (every_upto s l' n) p.1 (upto_stays n p.0)
+  -- one whose Walk isn't known is the same where it isn't known either by the other lists
+  unknown_stays : (n : ℕ) (before before' : FinMap cell_cmp Names) → walk s l s.count (s.target (rel n)) ≡ None → walk s l' s.count (s.target (rel n)) ≡ None → before ≡ before' → with_every s l n before ≡ with_every s l' n before'
+  unknown_stays n before before' old new same =
+      elim (s.every (rel n)) as (λ b. cond b (option_map_or (λ is. insert before (n, global) (map (λ i. i.name) is)) (walk s l s.count (s.target (rel n))) before) before
+      ≡ cond b (option_map_or (λ is. insert before' (n, global) (map (λ i. i.name) is)) (walk s l' s.count (s.target (rel n))) before') before') [
+        | true ↦ ap (λ o. option_map_or (λ is. insert before (n, global) (map (λ i. i.name) is)) o before) old ∙ same ∙ sym (ap (λ o. option_map_or (λ is. insert before' (n, global) (map (λ i. i.name) is)) o before') new)
+        | false ↦ same
+      ]
 
--- Where no `every` relation lists t or an entity below, the lists that contain instances of t don't matter.
-pub every_stays : (s : Shape) → IsShape s → (t : ℕ) → lists_below s t s.relations ≡ false → (l l' : Lists) → ((e : ℕ) (c : InstanceId) → 0 < e → e < s.count → (e ≡ t → ⊥) → l (s.contained e) c ≡ l' (s.contained e) c) → every_of s l ≡ every_of s l'
-every_stays s shape t none l l' agree = upto_stays s shape t l l' agree s.relations none
+  upto_stays : (n : ℕ) → n ≤ s.relations → ((k : ℕ) → k < s.relations → hangs_on s t k ≡ true → (walk s l s.count (s.target (rel k)) ≡ None) × (walk s l' s.count (s.target (rel k)) ≡ None)) → every_upto s l n ≡ every_upto s l' n
+  unfolding every_upto
+  upto_stays zero le none = refl
+  upto_stays (suc n) le none =
+      let before = upto_stays n (omega (arith, le)) none in
+      elim (hangs_on s t n) as (λ b. hangs_on s t n ≡ b → with_every s l n (every_upto s l n) ≡ with_every s l' n (every_upto s l' n)) [
+        | true ↦ λ h. let both = none n (omega (arith, le)) h in unknown_stays n (every_upto s l n) (every_upto s l' n) both.0 both.1 before
+        | false ↦ λ h. list_stays n (every_upto s l n) (every_upto s l' n) h before
+      ] refl
 
 -- a list of another relation than the changed one is as it was
 untouched : (s : Shape) → IsShape s → (r : RelId) (i : InstanceId) (w : Option Names) (m : FinMap cell_cmp Names) (e : ℕ) (c : InstanceId) → 0 < e → e < s.count → (e ≡ s.target r → ⊥) → stored m (s.contained e) c ≡ changed m r i w (s.contained e) c
@@ -68,8 +79,20 @@ untouched s shape r i w m e c pos lt apart = elim (eq_by_cmp cell_cmp ((s.contai
   | false ↦ λ _. refl
 ] refl
 
--- The `every` lists, where one list is changed: those that were made anew, or the old ones where none was made.
+-- a list of an `every` relation that isn't known has no Walk that is
+unknown_walk : (s : Shape) (l : Lists) (n : ℕ) → n < s.relations → s.every (rel n) ≡ true → get (every_of s l) (n, global) ≡ None → walk s l s.count (s.target (rel n)) ≡ None
+unknown_walk s l n lt is none = unmapped (walk s l s.count (s.target (rel n)))
+    (ap (λ b. cond b (option_map (map (λ i. i.name)) (walk s l s.count (s.target (rel n)))) None) (sym (ap (λ b. b && is_same global global) is ∙ same_itself global))
+    ∙ ap (λ b. cond b (every_at s l n global) None) (sym (lt-ltb n s.relations lt)) ∙ sym (get-every s l s.relations n global) ∙ none)
+  where
+    unmapped : (o : Option (List InstanceId)) → option_map (map (λ i. i.name)) o ≡ None → o ≡ None
+    unmapped None h = refl
+    unmapped (Some is) h = absurd (cc h)
+
+-- The `every` lists, where one list is changed: those that were made anew, or the old ones where each that hangs on the list stays unknown.
 pub every_changed : (s : Shape) → IsShape s → (r : RelId) (i : InstanceId) (w : Option Names) (m every : FinMap cell_cmp Names) (made : Option (FinMap cell_cmp Names)) → every ≡ every_of s (stored m)
-    → IfSome made (λ all. all ≡ every_of s (changed m r i w)) → (IsNone made → lists_below s (s.target r) s.relations ≡ false) → unwrap_or made every ≡ every_of s (changed m r i w)
-every_changed s shape r i w m every None was some none = was ∙ every_stays s shape (s.target r) (none refl) (stored m) (changed m r i w) (λ e c pos lt apart. untouched s shape r i w m e c pos lt apart)
-every_changed s shape r i w m every (Some all) was some none = some
+    → IfSome made (λ all. all ≡ every_of s (changed m r i w)) → (IsNone made → (n : ℕ) → n < s.relations → StaysUnknown s (changed m r i w) every (s.target r) n) → unwrap_or made every ≡ every_of s (changed m r i w)
+every_changed s shape r i w m every None was some stay =
+    was ∙ upto_stays s shape (s.target r) (stored m) (changed m r i w) (λ e c pos lt apart. untouched s shape r i w m e c pos lt apart) s.relations (omega arith)
+    (λ n lt h. let u = stay refl n lt h in (unknown_walk s (stored m) n lt (and_parts (s.every (rel n)) _ h).0 (ap (λ (x : FinMap cell_cmp Names). get x (n, global)) (sym was) ∙ u.0), u.1))
+every_changed s shape r i w m every (Some all) was some stay = some

@@ -20,6 +20,8 @@ pub mod Replacing
 pub mod Taking
 pub mod Weighing
 pub mod Distinct
+pub mod Walked
+pub mod Fewer
 pub mod Balancing
 pub mod Turning
 pub mod Indexed

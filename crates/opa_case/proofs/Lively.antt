@@ -1,6 +1,8 @@
 -- Which lists the live instances depend on.
-use Rattle.std.specs.Prelude.{◌≡◌, ◌<◌, ◌+◌, ◌==◌, ℕ, zero, suc, Bool, true, false, cond, ◌||◌, List, [], ◌∷◌, ◌++◌, map, filter, flat_map, unwrap_or, is_some, Some, refl}
+use Rattle.std.specs.Prelude.{◌≡◌, ◌<◌, ◌+◌, ◌==◌, ℕ, zero, suc, Bool, true, false, cond, ◌||◌, List, [], ◌∷◌, ◌++◌, map, filter, flat_map, unwrap_or, is_some, Option, None, Some, refl}
+use denote.Ref.{Bor}
 use Rattle.std.specs.List.{list_any, AllByRecursion}
+use Rattle.std.specs.Option.{option_copied}
 use Rattle.std.proofs.Common.{arith, ap, sym, subst, ◌∙◌}
 use mathlib.Core.Bool.{true≢false}
 use Rattle.std.proofs.lemmas.List.Folds.{list_any-append}
@@ -98,3 +100,7 @@ live_step s l k = refl
 
 pub live_next : (s : Shape) (l : Lists) (n : ℕ) → live_upto s l n ++ flat_map (held s l (n + 1)) (members (s.parent (n + 1)) (live_upto s l n)) ≡ live_upto s l (n + 1)
 live_next s l n = let same : suc n ≡ n + 1 = omega arith in subst (λ m. live_upto s l n ++ flat_map (held s l m) (members (s.parent m) (live_upto s l n)) ≡ live_upto s l m) same (live_step s l n)
+
+pub some_copied : {X : Type 0} (o : Option (Bor X)) → is_some (option_copied o) ≡ is_some o
+some_copied None = refl
+some_copied (Some x) = refl

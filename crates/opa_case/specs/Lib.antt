@@ -1,6 +1,7 @@
 pub mod Below
 pub mod Cases
 pub mod Clean
+pub mod Fewer
 pub mod Fits
 pub mod Homes
 pub mod Laws

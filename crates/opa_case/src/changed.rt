@@ -1,5 +1,5 @@
 // Known lists, and lists of which one is changed.
-ghost use Rattle.std.specs.Prelude.{◌≡◌, ◌&&◌};
+ghost use Rattle.std.specs.Prelude.{◌≡◌, ◌&&◌, ◌+◌, ◌-◌, cond, nat_lt};
 ghost use Rattle.std.specs.Option.{option_copied};
 ghost use Rattle.std.specs.Ordering.{eq_by_cmp};
 ghost use Rattle.opa_cells.specs.Keys.{cell_cmp};
@@ -17,6 +17,10 @@ impl Lists for Listed {
 
     fn list(&self, rel: RelId, inst: &InstanceId) -> Option<&List<Txt>> {
         self.get(rel.0, inst)
+    }
+
+    fn are_fewer(&self, rel: RelId, count: u64) -> bool {
+        self.len_of(rel.0) < count
     }
 }
 
@@ -38,6 +42,31 @@ impl<'a> Lists for Changed<'a> {
         } else {
             self.lists.get(rel.0, inst)
         }
+    }
+
+    fn are_fewer(&self, rel: RelId, count: u64) -> bool {
+        let known = self.lists.len_of(rel.0);
+        if rel.0 != self.rel.0 {
+            return known < count;
+        }
+        let before = self.lists.get(rel.0, self.inst).is_some();
+        is_less(known, before, self.names.is_some(), count)
+    }
+}
+
+/// Whether fewer than this are known, where one that was known before, or not, is known then, or not.
+fn is_less(known: u64, before: bool, then: bool, count: u64) -> bool
+    ensures { result ≡ nat_lt (known - cond before 1 0 + cond then 1 0) count }
+{
+    let others = if before {
+        known.saturating_sub(1)
+    } else {
+        known
+    };
+    if then {
+        others.saturating_add(1) < count
+    } else {
+        others < count
     }
 }
 

@@ -15,6 +15,7 @@ use crate::answer_faults::{answer_fault, is_unanswerable, is_unknown_answer};
 use crate::case::Case;
 use crate::change::Refusal;
 use crate::changed::Changed;
+use crate::counts::Counts;
 use crate::declared::bond_of;
 use crate::dropping::{drop_answers, drop_lists};
 use crate::every::every_then;
@@ -180,7 +181,7 @@ impl Case {
         if is_full(model, ruled, &turn.counts) {
             return Err(Refusal::Limit);
         }
-        let every = self.every_with(model, ruled, rel, inst, &names)?;
+        let every = self.every_with(model, ruled, rel, inst, &names, &turn.counts)?;
         self.put_list(model, ruled, rel, inst, names, turn, every)?;
         Ok(())
     }
@@ -249,9 +250,13 @@ impl Case {
         rel: RelId,
         inst: &'a InstanceId,
         names: &'a List<Txt>,
+        counts: &Counts,
     ) -> Result<Option<Cells<List<Txt>>>, NoMemory>
+        requires declared { HasRelation model.now rel }
         requires fits { Fits (shape_of model.now) ruled.now self.now }
         requires contains { (shape_of model.now).contains rel ≡ true }
+        requires free { step.list_fault (shape_of model.now) self.now rel inst.now names.now ≡ None }
+        requires counts { AreCounts counts.now (step.with_list (shape_of model.now) self.now rel inst.now names.now).live }
         ensures { IfOk result (λ every. unwrap_or every self.now.every ≡ (step.with_list (shape_of model.now) self.now rel inst.now names.now).every) }
     {
         let lists = Changed {
@@ -260,7 +265,8 @@ impl Case {
             inst,
             names: Some(names),
         };
-        let every = every_then(self.alloc, model, &lists, bond_of(model, rel.0).target)?;
+        let target = bond_of(model, rel.0).target;
+        let every = every_then(self.alloc, model, &lists, counts, target, &self.every)?;
         Ok(every)
     }
 
@@ -271,9 +277,11 @@ impl Case {
         ruled: &Ruled,
         rel: RelId,
         inst: &'a InstanceId,
+        counts: &Counts,
     ) -> Result<Option<Cells<List<Txt>>>, NoMemory>
         requires fits { Fits (shape_of model.now) ruled.now self.now }
         requires contains { (shape_of model.now).contains rel ≡ true }
+        requires counts { AreCounts counts.now (step.without_list (shape_of model.now) self.now rel inst.now).live }
         ensures { IfOk result (λ every. unwrap_or every self.now.every ≡ (step.without_list (shape_of model.now) self.now rel inst.now).every) }
     {
         let lists = Changed {
@@ -282,7 +290,8 @@ impl Case {
             inst,
             names: None,
         };
-        let every = every_then(self.alloc, model, &lists, bond_of(model, rel.0).target)?;
+        let target = bond_of(model, rel.0).target;
+        let every = every_then(self.alloc, model, &lists, counts, target, &self.every)?;
         Ok(every)
     }
 
@@ -373,7 +382,7 @@ impl Case {
         ensures unchanged { OnErr result (self.new ≡ self.old) }
     {
         let turn = self.turn_without(model, ruled, rel, inst)?;
-        let every = self.every_without(model, ruled, rel, inst)?;
+        let every = self.every_without(model, ruled, rel, inst, &turn.counts)?;
         self.take_list(model, ruled, rel, inst, turn, every);
         Ok(())
     }

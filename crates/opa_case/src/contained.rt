@@ -1,8 +1,9 @@
 // What containers have, by the lists.
-ghost use Rattle.std.specs.Prelude.{◌≡◌, ◌<◌, ◌++◌, ◌^◌, map, flat_map, length, unwrap_or, [], List, IfOk, OnOk, Option};
+ghost use Rattle.std.specs.Prelude.{◌≡◌, true, ◌<◌, ◌++◌, ◌^◌, map, flat_map, length, unwrap_or, [], List, IfOk, OnOk, Option};
 ghost use Rattle.std.specs.Option.{option_copied};
 ghost use Rattle.opa_cells.specs.declared.instance.InstanceId.{InstanceId as InstanceView};
 ghost use Rattle.opa_cells.specs.Instances.{named};
+ghost use Rattle.opa_case.specs.Fewer.{AreFewer};
 ghost use Rattle.opa_case.specs.Shapes.{shape_of};
 ghost use Rattle.opa_case.specs.Live.{Lists as Known, members, live_of, held, held_names, in_container};
 
@@ -18,6 +19,10 @@ pub(crate) trait Lists {
 
     fn list(&self, rel: RelId, inst: &InstanceId) -> Option<&List<Txt>>
         ensures { option_copied result ≡ lists self.now rel inst.now };
+
+    /// Whether fewer instances than this have a list of the relation.
+    fn are_fewer(&self, rel: RelId, count: u64) -> bool
+        ensures { result ≡ true → AreFewer (lists self.now) rel count };
 }
 
 /// Adds what the instances of the parent contain.

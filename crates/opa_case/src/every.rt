@@ -1,13 +1,16 @@
 // The lists of the relations that are declared with `every`.
-ghost use Rattle.std.specs.Prelude.{◌≡◌, ◌<◌, ◌++◌, ◌∷◌, [], false, map, Option, IfOk, OnOk, IfSome, IsNone};
+ghost use Rattle.std.specs.Prelude.{◌≡◌, ◌<◌, ◌≤◌, ◌++◌, ◌∷◌, ℕ, [], true, map, Option, None, IfOk, OnOk, IfSome, IsNone};
 ghost use Rattle.std.specs.Option.{option_map};
 ghost use Rattle.opa_cells.specs.Instances.{named, global};
 ghost use Rattle.opa_case.specs.Shapes.{shape_of};
 ghost use Rattle.opa_case.specs.Live as live;
 ghost use Rattle.opa_case.specs.Steps.{every_of, with_every};
-ghost use Rattle.opa_case.specs.Below.{is_under, hangs_on, lists_below};
+ghost use Rattle.opa_case.specs.Below.{is_under, hangs_on, StaysUnknown};
+ghost use Rattle.opa_case.specs.Fewer.{AreCounted};
+ghost use Rattle.opa_model.specs.Models.{IsModel};
 
 use crate::contained::Lists;
+use crate::counts::Counts;
 use crate::declared::{bond_of, nest_of};
 use opa_cells::{Cells, InstanceId};
 use opa_io::{List, NoMemory, Txt};
@@ -19,31 +22,91 @@ pub(crate) fn every_then<L: Lists>(
     alloc: Global,
     model: &Model,
     lists: &L,
+    counts: &Counts,
     entity: u32,
+    before: &Cells<List<Txt>>,
 ) -> Result<Option<Cells<List<Txt>>>, NoMemory>
+    requires form { IsModel model.now }
+    requires counted { AreCounted (shape_of model.now) (L.lists lists.now) counts.now }
     ensures some { IfOk result (λ every. IfSome every (λ all. all ≡ every_of (shape_of model.now) (L.lists lists.now))) }
-    ensures none { IfOk result (λ every. IsNone every → lists_below (shape_of model.now) entity (shape_of model.now).relations ≡ false) }
+    ensures none { IfOk result (λ every. IsNone every → (n : ℕ) → n < (shape_of model.now).relations → StaysUnknown (shape_of model.now) (L.lists lists.now) before.now entity n) }
 {
-    if !is_listed_below(model, entity) {
+    if all_stay(alloc, model, lists, counts, entity, before)? {
         return Ok(None);
     }
-    let every = every_lists(alloc, model, lists)?;
+    let every = every_lists(alloc, model, lists, counts)?;
     Ok(Some(every))
 }
 
-/// Whether a relation that is declared with `every` lists the entity, or one below.
-fn is_listed_below(model: &Model, entity: u32) -> bool
-    ensures { result ≡ lists_below (shape_of model.now) entity (shape_of model.now).relations }
+/// Whether all lists that hang on an entity weren't known, and aren't then. It may say no where they stay.
+fn all_stay<L: Lists>(
+    alloc: Global,
+    model: &Model,
+    lists: &L,
+    counts: &Counts,
+    entity: u32,
+    before: &Cells<List<Txt>>,
+) -> Result<bool, NoMemory>
+    requires form { IsModel model.now }
+    requires counted { AreCounted (shape_of model.now) (L.lists lists.now) counts.now }
+    ensures { IfOk result (λ stay. stay ≡ true → (n : ℕ) → n < (shape_of model.now).relations → StaysUnknown (shape_of model.now) (L.lists lists.now) before.now entity n) }
 {
+    let root = InstanceId::global(alloc)?;
     let count = model.relation_count();
     let mut number = 0;
     while number < count {
-        if hangs_on(model, entity, number) {
-            return true;
+        if !stays(model, lists, counts, entity, before, number, &root) {
+            return Ok(false);
         }
         number += 1;
     }
-    false
+    Ok(true)
+}
+
+fn stays<L: Lists>(
+    model: &Model,
+    lists: &L,
+    counts: &Counts,
+    entity: u32,
+    before: &Cells<List<Txt>>,
+    number: u32,
+    root: &InstanceId,
+) -> bool
+    requires form { IsModel model.now }
+    requires counted { AreCounted (shape_of model.now) (L.lists lists.now) counts.now }
+    requires root { root.now ≡ global }
+    ensures { result ≡ true → StaysUnknown (shape_of model.now) (L.lists lists.now) before.now entity number }
+{
+    if !hangs_on(model, entity, number) {
+        return true;
+    }
+    if before.get(number, root).is_some() {
+        return false;
+    }
+    is_short(
+        model,
+        lists,
+        counts,
+        model.entity_count(),
+        bond_of(model, number).target,
+    )
+}
+
+/// Whether one comes, in so many steps to parents, to containers of which fewer have a list than live. Then the Walk isn't known.
+fn is_short<L: Lists>(model: &Model, lists: &L, counts: &Counts, steps: u32, entity: u32) -> bool
+    ensures { IsModel model.now → AreCounted (shape_of model.now) (L.lists lists.now) counts.now → entity ≤ steps → entity < (shape_of model.now).count → result ≡ true → live.walk (shape_of model.now) (L.lists lists.now) steps entity ≡ None }
+{
+    if steps == 0 {
+        return false;
+    }
+    if entity == 0 {
+        return false;
+    }
+    let nest = nest_of(model, entity);
+    if lists.are_fewer(nest.contained, counts.of(nest.parent)) {
+        return true;
+    }
+    is_short(model, lists, counts, steps - 1, nest.parent)
 }
 
 /// Whether a relation is declared with `every` and lists the entity, or one below.
@@ -75,14 +138,17 @@ fn every_lists<L: Lists>(
     alloc: Global,
     model: &Model,
     lists: &L,
+    counts: &Counts,
 ) -> Result<Cells<List<Txt>>, NoMemory>
+    requires form { IsModel model.now }
+    requires counted { AreCounted (shape_of model.now) (L.lists lists.now) counts.now }
     ensures { IfOk result (λ every. every ≡ every_of (shape_of model.now) (L.lists lists.now)) }
 {
     let count = model.relation_count();
     let mut every = Cells::new(alloc);
     let mut number = 0;
     while number < count {
-        add_every(alloc, model, lists, number, &mut every)?;
+        add_every(alloc, model, lists, counts, number, &mut every)?;
         number += 1;
     }
     Ok(every)
@@ -93,13 +159,19 @@ fn add_every<L: Lists>(
     alloc: Global,
     model: &Model,
     lists: &L,
+    counts: &Counts,
     number: u32,
     every: &mut Cells<List<Txt>>,
 ) -> Result<(), NoMemory>
+    requires form { IsModel model.now }
+    requires counted { AreCounted (shape_of model.now) (L.lists lists.now) counts.now }
     ensures { OnOk result (every.new ≡ with_every (shape_of model.now) (L.lists lists.now) number every.old) }
 {
     let bond = bond_of(model, number);
     if !bond.every {
+        return Ok(());
+    }
+    if is_short(model, lists, counts, model.entity_count(), bond.target) {
         return Ok(());
     }
     match walk(alloc, model, lists, model.entity_count(), bond.target)? {

@@ -5,7 +5,7 @@ ghost use Rattle.std.specs.Option.{option_copied};
 ghost use Rattle.std.specs.FinMap as map;
 ghost use Rattle.std.specs.Ordering.{nat_cmp, is_eq};
 ghost use Rattle.opa_cells.specs.Instances.{is_text};
-ghost use Rattle.opa_cells.specs.Rows.{insert_all, seen};
+ghost use Rattle.opa_cells.specs.Rows.{cells_at, insert_all, seen};
 ghost use Rattle.opa_cells.specs.declared.instance.InstanceId.{InstanceId as InstanceView};
 ghost use Rattle.opa_case.specs.Listed.{has_source, is_indexed, is_named_in, is_list, SetsNames, SameIndex};
 
@@ -64,6 +64,13 @@ impl Listed {
         ensures { result ≡ map.len self.now }
     {
         self.cells.len()
+    }
+
+    /// How many lists of a relation are known.
+    pub(crate) fn len_of(&self, number: u32) -> u64
+        ensures { result ≡ cells_at self.now number }
+    {
+        self.cells.len_of(number)
     }
 
     /// Makes a list known. It goes through the old and the new names, and through no other list.

@@ -536,6 +536,32 @@ fn all_pupils(rt: HostRuntime) {
 }
 
 #[test]
+fn all_pupils_as_schools_go(rt: HostRuntime) {
+    let story = [
+        Step::List(SCHOOLS, 0, "", &["North", "South", "West"], 0),
+        Step::List(PUPILS, 1, "North", &["Abe"], 0),
+        Step::List(PUPILS, 1, "South", &["Dee"], 0),
+        Step::IsListed(ROLL, 0, "", false),
+        // As many lists were known as schools live now, but one of them goes.
+        Step::List(SCHOOLS, 0, "", &["North", "West"], 0),
+        Step::IsListed(ROLL, 0, "", false),
+        Step::List(PUPILS, 1, "West", &[], 0),
+        Step::Names(ROLL, 0, "", &["Abe"]),
+        Step::List(PUPILS, 1, "North", &["Bea", "Abe"], 0),
+        Step::Names(ROLL, 0, "", &["Bea", "Abe"]),
+        Step::List(PUPILS, 1, "West", &["Cy"], 0),
+        Step::List(SCHOOLS, 0, "", &["West", "North"], 0),
+        Step::Names(ROLL, 0, "", &["Cy", "Bea", "Abe"]),
+        Step::List(SCHOOLS, 0, "", &[], 0),
+        Step::IsListed(ROLL, 0, "", true),
+        Step::Forget(SCHOOLS, 0, "", 0),
+        Step::IsListed(ROLL, 0, "", false),
+    ];
+    let failed = told(rt.alloc(), 4, false, &story).expect(&rt, "memory");
+    assert!(rt; failed == None);
+}
+
+#[test]
 fn refused_lists(rt: HostRuntime) {
     let story = [
         Step::List(SCHOOLS, 0, "", &["North", "South"], 0),

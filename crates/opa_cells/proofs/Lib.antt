@@ -2,3 +2,4 @@ pub mod Orders
 pub mod Rowed
 pub mod Walked
 pub mod Copied
+pub mod Counted

@@ -2,23 +2,24 @@
 use Rattle.std.specs.Prelude.{◌≡◌, ℕ, zero, suc, ◌+◌, ◌-◌, ◌≤◌, Bool, true, false, cond, ◌==◌, not, List, [], ◌∷◌, ◌++◌, length, Option, None, Some, is_some, refl, Result, Ok, Err, IfOk}
 use Rattle.std.specs.List.{AllByRecursion}
 use Rattle.std.specs.List.Sorted.{IsStrictlySortedBy}
-use Rattle.std.specs.Option.{option_and_then}
+use Rattle.std.specs.Option.{option_and_then, option_or}
 use Rattle.std.specs.Map.{lookup, keys_of}
 use Rattle.std.specs.Ordering.{nat_cmp, is_eq, eq_by_cmp, ordering_then}
 use Rattle.std.specs.declared.cmp.Ordering.TheVariants.{Less}
-use Rattle.std.specs.Cmp.{nat_cmp_total, eq_by_cmp_equiv, tied_itself}
+use Rattle.std.specs.Cmp.{nat_cmp_total, nat_eq_equiv, eq_by_cmp_equiv, tied_itself}
 use Rattle.std.specs.FinMap.{FinMap, get, remove, retain_keys, entries, len, find, put, same_map, empty_of_len, empty, get-empty, get-entries, len-empty, get-remove, len-remove, len-entries, entries-insert}
 use Rattle.std.specs.FinMap.Entries.{by_order}
 use Rattle.std.specs.BTreeMap.{BTreeMap, is_at}
 use Rattle.std.proofs.Common.{arith, ap, sym, subst, ◌∙◌}
+use Rattle.std.proofs.lemmas.Map.Lookups.{exact_unsigned}
 use Rattle.std.proofs.lemmas.Map.Views.{tells_apart, exact_unsigned_eq}
 use mathlib.Core.Bool.{true≢false}
 use Rattle.opa_cells.specs.declared.instance.InstanceId.{InstanceId}
 use Rattle.opa_cells.specs.Instances.{instance_cmp}
 use Rattle.opa_cells.specs.Keys.{cell_cmp}
-use Rattle.opa_cells.specs.Rows.{with_cells, with_rows, row_entries, all_entries, cells_in, AreInOrder, kept_if, cell}
+use Rattle.opa_cells.specs.Rows.{with_cells, with_rows, row_entries, all_entries, cells_in, cells_at, AreInOrder, kept_if, cell}
 use Rattle.opa_cells.proofs.Orders.{cell_exact, cell_total, get_kept}
-use Rattle.opa_cells.proofs.Rowed.{get-rows}
+use Rattle.opa_cells.proofs.Rowed.{in_rows, get-cells, get-rows, or_none}
 
 same_number : (n : ℕ) (i j : InstanceId) → instance_cmp i j ≡ Less → cell_cmp (n, i) (n, j) ≡ Less
 same_number n i j h = ap (λ o. ordering_then o (instance_cmp i j)) (tied_itself nat_cmp_total n) ∙ h
@@ -106,6 +107,45 @@ module _ {V : Type 0} where
   -- how many cells rows have
   pub rows_counted : (rs : List (ℕ × BTreeMap InstanceId V)) → IsStrictlySortedBy nat_cmp (keys_of rs) → AreInOrder rs → len (with_rows rs) ≡ cells_in rs
   rows_counted rs sorted inner = len-entries (with_rows rs) ∙ ap length (rows_entries rs sorted inner) ∙ all_length rs
+
+  -- the cells at a number are those of its row
+  pub row_counted : (rs : List (ℕ × BTreeMap InstanceId V)) (n : ℕ) (row : BTreeMap InstanceId V) → lookup (is_at (nat_cmp n)) rs ≡ Some row → IsStrictlySortedBy instance_cmp (keys_of row.entries) → cells_at (with_rows rs) n ≡ length row.entries
+  row_counted rs n row at sorted =
+      let alone : FinMap cell_cmp V = with_cells n row.entries empty in
+      let none : Above n (entries (empty {X = V} {R = cell_cmp})) = subst (Above n) (sym empty_entries) tt in
+      ap len (same_map cell_total cell_exact (retain_keys (with_rows rs) (λ k. k.0 == n)) alone (λ q.
+      get_kept cell_exact (with_rows rs) (λ k. k.0 == n) q ∙ ap (λ o. cond (q.0 == n) o None) (get-rows rs q.0 q.1)
+      ∙ elim (q.0 == n) as (λ b. (q.0 == n) ≡ b → cond b (in_rows rs q.0 q.1) None ≡ get alone q) [
+        | true ↦ λ e. let same = exact_unsigned_eq q.0 n e in
+            ap (λ m. in_rows rs m q.1) same ∙ ap (option_and_then (λ (r : BTreeMap InstanceId V). cell r.entries q.1)) at
+            ∙ sym (get-cells n row.entries empty q.0 q.1 ∙ ap (λ o. cond (is_eq (nat_cmp q.0 n)) (option_or (cell row.entries q.1) o) o) (get-empty cell_cmp q)
+            ∙ ap (λ b. cond b (option_or (cell row.entries q.1) None) None) (subst (λ m. is_eq (nat_cmp q.0 m) ≡ true) same ((eq_by_cmp_equiv nat_cmp_total).refl q.0)) ∙ or_none (cell row.entries q.1))
+        | false ↦ λ e. sym (get-cells n row.entries empty q.0 q.1 ∙ ap (λ o. cond (is_eq (nat_cmp q.0 n)) (option_or (cell row.entries q.1) o) o) (get-empty cell_cmp q)
+            ∙ elim (is_eq (nat_cmp q.0 n)) as (λ b. is_eq (nat_cmp q.0 n) ≡ b → cond b (option_or (cell row.entries q.1) None) None ≡ None) [
+              | true ↦ λ h. absurd (true≢false (sym (number_itself q.0 n (tells_apart exact_unsigned q.0 n h)) ∙ e))
+              | false ↦ λ _. refl
+            ] refl)
+      ] refl))
+      ∙ len-entries alone ∙ ap length (cells_entries n row.entries empty sorted none) ∙ row_length n row.entries (entries (empty {X = V} {R = cell_cmp}))
+      ∙ ap (λ xs. length row.entries + length xs) empty_entries ∙ nothing_more (length row.entries)
+    where
+      number_itself : (a b : ℕ) → a ≡ b → (a == b) ≡ true
+      number_itself a b e = subst (λ x. (a == x) ≡ true) e (nat_eq_equiv.refl a)
+
+      nothing_more : (a : ℕ) → a + 0 ≡ a
+      nothing_more a = omega arith
+
+  -- a number without a row has no cells
+  pub no_row_counted : (rs : List (ℕ × BTreeMap InstanceId V)) (n : ℕ) → lookup (is_at (nat_cmp n)) rs ≡ None → cells_at (with_rows rs) n ≡ 0
+  no_row_counted rs n none =
+      ap len (same_map cell_total cell_exact (retain_keys (with_rows rs) (λ k. k.0 == n)) empty (λ q.
+      get_kept cell_exact (with_rows rs) (λ k. k.0 == n) q ∙ ap (λ o. cond (q.0 == n) o None) (get-rows rs q.0 q.1)
+      ∙ elim (q.0 == n) as (λ b. (q.0 == n) ≡ b → cond b (in_rows rs q.0 q.1) None ≡ None) [
+        | true ↦ λ e. ap (λ m. in_rows rs m q.1) (exact_unsigned_eq q.0 n e) ∙ ap (option_and_then (λ (r : BTreeMap InstanceId V). cell r.entries q.1)) none
+        | false ↦ λ _. refl
+      ] refl
+      ∙ sym (get-empty cell_cmp q)))
+      ∙ len-empty cell_cmp V
 
   -- a map with a cell isn't empty
   pub some_counted : (m : FinMap cell_cmp V) (k : ℕ × InstanceId) → is_some (get m k) ≡ true → 1 ≤ len m

@@ -51,6 +51,10 @@ abbrev pub AreInOrder : {V : Type 0} → List (ℕ × BTreeMap InstanceId V) →
 AreInOrder [] = Unit {0}
 AreInOrder (r ∷ rs) = IsStrictlySortedBy instance_cmp (keys_of r.1.entries) × AreInOrder rs
 
+-- how many cells a map has at a number
+abbrev pub cells_at : {V : Type 0} → FinMap cell_cmp V → ℕ → ℕ
+cells_at m n = len (retain_keys m (λ k. k.0 == n))
+
 -- how many cells a map has with one at the key
 abbrev pub counted_with : {V : Type 0} → FinMap cell_cmp V → ℕ × InstanceId → ℕ
 counted_with m k = cond (is_some (get m k)) (len m) (len m + 1)

@@ -2,7 +2,7 @@
 ghost use Rattle.std.specs.Prelude.{map as items, ◌≡◌, OnOk, OnErr, IfOk, ℕ, Bool};
 ghost use Rattle.std.specs.Option.{option_copied};
 ghost use Rattle.std.specs.FinMap as map;
-ghost use Rattle.opa_cells.specs.Rows.{kept_if, counted_with, insert_all, seen};
+ghost use Rattle.opa_cells.specs.Rows.{kept_if, cells_at, counted_with, insert_all, seen};
 ghost use Rattle.opa_cells.specs.declared.instance.InstanceId.{InstanceId as InstanceView};
 
 use crate::instance::InstanceId;
@@ -60,6 +60,13 @@ impl<V> Cells<V> {
         ensures { result ≡ map.len self.now }
     {
         self.count
+    }
+
+    /// How many cells there are at a number. It takes no walk over them.
+    pub fn len_of(&self, number: u32) -> u64
+        ensures { result ≡ cells_at self.now number }
+    {
+        self.rows.len_of(number)
     }
 }
 

@@ -3,7 +3,7 @@ ghost use Rattle.std.specs.Option.{option_copied};
 ghost use Rattle.std.specs.FinMap as map;
 ghost use Rattle.std.specs.BTreeMap as tree;
 ghost use Rattle.std.specs.Ordering.{nat_cmp};
-ghost use Rattle.opa_cells.specs.Rows.{with_rows, SetsCell, cell, kept_if, row_entries, all_entries, cells_in, AreInOrder, seen};
+ghost use Rattle.opa_cells.specs.Rows.{with_rows, SetsCell, cell, kept_if, row_entries, all_entries, cells_in, cells_at, AreInOrder, seen};
 ghost use Rattle.opa_cells.specs.Instances.{instance_cmp};
 ghost use Rattle.opa_cells.specs.declared.instance.InstanceId.{InstanceId as InstanceView};
 
@@ -145,6 +145,17 @@ impl<V> Rows<V> {
         ensures { map.len self.now < 2 ^ 64 → result ≡ map.len self.now }
     {
         count(&self.rows)
+    }
+
+    /// How many cells there are at a number.
+    pub(crate) fn len_of(&self, number: u32) -> u64
+        ensures { result ≡ cells_at self.now number }
+    {
+        let row = self.rows.get(&number);
+        match row {
+            Some(row) => row_len(row),
+            None => 0,
+        }
     }
 
     /// The cells in order of their keys.

@@ -1,8 +1,7 @@
 -- Containers that are noted, and points that are added, unless there is one.
 use Rattle.std.proofs.Common.{◌≡◌, ◌<◌, ◌+◌, ◌-◌, ℕ, zero, suc, Bool, true, false, cond, List, [], ◌∷◌, ◌++◌, length, map, drop, arith, refl, sym, ap, ◌∙◌}
 use Rattle.std.specs.Prelude.{Option, Some, None, is_some, ◌||◌, ◌&&◌, not, slice_index_or}
-use denote.Ref.{Bor}
-use Rattle.std.specs.Option.{option_or, option_copied}
+use Rattle.std.specs.Option.{option_or}
 use Rattle.std.specs.List.{list_any}
 use Rattle.std.specs.Ordering.{is_eq}
 use Rattle.std.specs.Cmp.{IsTotalOrder, eq_by_cmp_equiv}
@@ -87,7 +86,3 @@ module _ {A : Type 0} (point : A → Point) where
 
 pub one_more : (xs : Population) (x : InstanceId × InstanceId) (q : InstanceId) → container_of (xs ++ x ∷ []) q ≡ option_or (container_of xs q) (cond (is_same q x.0) (Some x.1) None)
 one_more xs x q = lookup_append (is_same q) xs (x ∷ [])
-
-pub some_copied : {X : Type 0} (o : Option (Bor X)) → is_some (option_copied o) ≡ is_some o
-some_copied None = refl
-some_copied (Some x) = refl

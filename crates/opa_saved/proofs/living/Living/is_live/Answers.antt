@@ -1,7 +1,6 @@
 use Rattle.std.proofs.Common.{sym, ap, ◌∙◌}
 use Rattle.std.specs.Prelude.{is_some}
-use Rattle.opa_case.proofs.Lively.{live_by_container}
-use Rattle.opa_saved.proofs.HomeLaws.{some_copied}
+use Rattle.opa_case.proofs.Lively.{live_by_container, some_copied}
 use Rattle.opa_saved.proofs.living.Living.is_live.Goals as goal
 
 pub returns-else-is_global : goal.returns-else-is_global
