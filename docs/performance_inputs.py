@@ -64,7 +64,11 @@ for count in (5000, 10000):
 # schools with one pupil each: one change of a containment list a school
 with open("schools.txt", "w") as file:
     file.write("global\n  number the total\nentity the school\n  in global: the schools\nentity the pupil\n  in the school: the pupils\n  number the age\nthe total = InstanceCount(the schools)\n")
-for count in (250, 500, 1000, 2000):
+for count in (250, 500, 1000, 2000, 4000):
     with open(f"schools_{count}_input.txt", "w") as file:
         file.write("list the schools = " + ", ".join(f'"s{n}"' for n in range(count)) + "\n")
         file.write("".join(f'list the pupils of "s{n}" = "p{n}"\n' for n in range(count)) + "show the total\n")
+
+# the same with a list of all pupils, which is known once the pupils of each school are
+with open("roll.txt", "w") as file:
+    file.write("global\n  number the total\n  every the roll: the pupil\nentity the school\n  in global: the schools\nentity the pupil\n  in the school: the pupils\n  number the age\nthe total = InstanceCount(the roll)\n")
