@@ -72,3 +72,14 @@ for count in (250, 500, 1000, 2000, 4000):
 # the same with a list of all pupils, which is known once the pupils of each school are
 with open("roll.txt", "w") as file:
     file.write("global\n  number the total\n  every the roll: the pupil\nentity the school\n  in global: the schools\nentity the pupil\n  in the school: the pupils\n  number the age\nthe total = InstanceCount(the roll)\n")
+
+# as many instances and answers as a case can have
+with open("full.txt", "w") as file:
+    file.write("global\n  number the total\nentity the person\n  in global: the persons\n" + "".join(f"  number number {a}\n" for a in "abcde") + "the total = InstanceCount(the persons)\n")
+names = [f"p{n}" for n in range(20000)]
+answers = [{"attribute": f"number {a}", "line": [[0, "n:1"]], "of": name} for name in names for a in "abcde"]
+lists = [{"list": "the persons", "names": names, "of": ""}]
+with open("full.json", "w") as file:
+    json.dump({"answers": answers, "format": "policy-case", "lists": lists, "model": 0, "version": 2}, file, separators=(",", ":"), sort_keys=True)
+with open("full_input.txt", "w") as file:
+    file.write('load "full.json"\nshow the total\n')
