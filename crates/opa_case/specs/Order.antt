@@ -4,7 +4,7 @@ use Rattle.std.specs.Option.{option_map_or}
 use Rattle.std.specs.FinMap.{FinMap}
 use Rattle.opa_cells.specs.Keys.{cell_cmp}
 use Rattle.opa_model.specs.declared.lists.Lists.{Lists as Declared}
-use Rattle.opa_witness.specs.declared.witness.Witness.{Witness}
+use Rattle.opa_io.specs.declared.witness.Witness.{Witness}
 use Rattle.opa_case.specs.Shapes.{shape_of}
 use Rattle.opa_case.specs.Live.{Names, Population, live_of}
 use Rattle.opa_case.specs.Cases.{stored}

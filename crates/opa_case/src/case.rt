@@ -16,11 +16,10 @@ use crate::copies::{EachName, EachValue};
 use crate::listed::Listed;
 use crate::living::Living;
 use opa_cells::{Cells, InstanceId};
-use opa_io::{List, NoMemory, Txt};
+use opa_io::{List, NoMemory, Txt, Witness};
 use opa_line::Line;
 use opa_model::{AttrId, Model, RelId};
 use opa_value::Value;
-use opa_witness::Witness;
 use std::alloc::Global;
 
 /// Answers, known lists, and the instances that they make live.

@@ -25,11 +25,10 @@ use crate::listed::Listed;
 use crate::slots::is_full;
 use crate::turn::{Turn, turn_of};
 use opa_cells::{Cells, InstanceId};
-use opa_io::{List, NoMemory, Txt};
+use opa_io::{List, NoMemory, Txt, Witness};
 use opa_line::Line;
 use opa_model::{AttrId, Model, RelId, Ruled};
 use opa_value::Value;
-use opa_witness::Witness;
 use std::alloc::Global;
 
 impl Case {

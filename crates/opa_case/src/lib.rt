@@ -32,7 +32,3 @@ pub use laws::{
 pub use opa_cells::InstanceId;
 pub use question::Question;
 
-#[cfg(test)]
-mod samples;
-#[cfg(test)]
-mod tests;

@@ -16,5 +16,3 @@ mod verdict;
 pub use laws::{accepted_are_not_refused, circles_are_round, ranks_exist};
 pub use verdict::check;
 
-#[cfg(test)]
-mod tests;

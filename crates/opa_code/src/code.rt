@@ -5,10 +5,9 @@ ghost use Rattle.opa_case.specs.Shapes.{shape_of};
 ghost use Rattle.opa_code.specs.Coding.{coded, is_for};
 
 use crate::rule_code::RuleCode;
-use opa_io::List;
+use opa_io::{List, Witness};
 use opa_model::AttrId;
 use opa_tree::Rulebase;
-use opa_witness::Witness;
 
 /// The rules of a rulebase as flat code. The rulebase itself is kept for proofs alone.
 #[derive(Drop)]

@@ -24,5 +24,3 @@ pub use code::Code;
 pub use laws::code_is_short;
 pub use rules::compile;
 
-#[cfg(test)]
-mod tests;

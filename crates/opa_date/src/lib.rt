@@ -21,5 +21,3 @@ pub use years::years_between;
 /// How many days the calendar has.
 pub const DAYS: u32 = 292_194;
 
-#[cfg(test)]
-mod tests;

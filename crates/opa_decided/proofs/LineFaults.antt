@@ -3,7 +3,7 @@ use Rattle.std.proofs.Common.{◌≡◌, ℕ, Bool, true, false, List, refl, sub
 use Rattle.std.specs.Prelude.{Option, None, Some, codes, if◌then◌else◌}
 use Rattle.std.specs.Str.{bytes_eq}
 use Rattle.opa_model.specs.declared.lists.Lists.{Lists}
-use Rattle.opa_pieces.specs.Pieces.{Piece}
+use Rattle.opa_words.specs.Pieces.{Piece}
 use Rattle.opa_script.specs.declared.fault.CmdFault.TheVariants as fault
 use Rattle.opa_script.specs.Shapes.{HasShape, verb_named}
 use Rattle.opa_script.specs.Commands.{HasSort, AreNone, IsNoCommand}

@@ -10,9 +10,9 @@ use Rattle.opa_verbs.specs.Forms.{beside}
 use Rattle.opa_words.specs.declared.kinds.Token.{Token}
 use Rattle.opa_words.specs.Places.{token_text, IsWithin, IsOfKind}
 use Rattle.opa_words.specs.Reserved.{joined, phrase_text, are_phrase, begins_well, ends_badly, is_phrase_kind, is_word_kind, is_reserved, is_ending}
-use Rattle.opa_pieces.specs.Pieces.{Piece, IsPiece, IsCutInto, piece, pieces}
-use Rattle.opa_pieces.specs.Written.{Written, AreWritten, text_of, pieces_of, ends_before}
-use Rattle.opa_pieces.proofs.Writing.{written_is_cut_holds}
+use Rattle.opa_words.specs.Pieces.{Piece, IsPiece, IsCutInto, piece, pieces}
+use Rattle.opa_words.specs.Written.{Written, AreWritten, text_of, pieces_of, ends_before}
+use Rattle.opa_words.proofs.Writing.{written_is_cut_holds}
 use Rattle.opa_words.proofs.Letters.{token_starts, Starts}
 use Rattle.opa_decl.specs.Phrasing.{IsWorded, IsPhrase}
 use Rattle.opa_decl.proofs.NumberedLaws.{no_parts}

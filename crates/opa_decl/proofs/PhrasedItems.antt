@@ -13,7 +13,7 @@ use Rattle.opa_words.specs.declared.kinds.TokenKind.{TokenKind}
 use Rattle.opa_words.specs.declared.kinds.TokenKind.TheVariants as kind
 use Rattle.opa_words.specs.Places.{IsWithin, IsOfKind}
 use Rattle.opa_words.specs.Reserved.{are_phrase, begins_well, ends_badly, is_phrase_kind, is_word_kind, phrase_text}
-use Rattle.opa_pieces.specs.Pieces.{piece, pieces}
+use Rattle.opa_words.specs.Pieces.{piece, pieces}
 use Rattle.opa_decl.specs.declared.cut.CutBlock.{CutBlock}
 use Rattle.opa_decl.specs.declared.cut.CutLine.{CutLine}
 use Rattle.opa_decl.specs.declared.items.Bounds.{Bounds}

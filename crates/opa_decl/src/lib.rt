@@ -39,5 +39,3 @@ pub use laws::one_reading;
 pub use limits::Limits;
 pub use numbered::{Counts, Numbered};
 
-#[cfg(test)]
-mod tests;

@@ -6,8 +6,8 @@ use Rattle.opa_words.specs.Cuts.{Cuts, Stuck}
 use Rattle.opa_words.proofs.OneCut.{cut_or_stuck_holds}
 use Rattle.opa_layout.specs.Lines.{Row}
 use Rattle.opa_layout.specs.Indents.{level}
-use Rattle.opa_pieces.specs.Pieces.{Piece, pieces, word, text}
-use Rattle.opa_pieces.proofs.LawsHold.{one_cutting_holds}
+use Rattle.opa_words.specs.Pieces.{Piece, pieces, word, text}
+use Rattle.opa_words.proofs.LawsHold.{one_cutting_holds}
 use Rattle.opa_files.specs.declared.source.FileLine.{FileLine}
 use Rattle.opa_files.specs.FileLines.{NamesFile, NamesNone, AreFileLines, first_word, listed}
 

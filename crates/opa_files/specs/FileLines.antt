@@ -2,7 +2,7 @@
 use Rattle.std.specs.Prelude.{ℕ, ◌≡◌, List, [], ◌∷◌, Bool, Option, Some, None, codes, if◌then◌else◌}
 use Rattle.opa_layout.specs.Lines.{Row}
 use Rattle.opa_layout.specs.Indents.{level}
-use Rattle.opa_pieces.specs.Pieces.{IsCutInto, word, text}
+use Rattle.opa_words.specs.Pieces.{IsCutInto, word, text}
 use Rattle.opa_files.specs.declared.source.FileLine.{FileLine}
 
 abbrev pub first_word : Bool → List ℕ

@@ -13,5 +13,3 @@ pub use lines::file_lines;
 pub use source::{FileLine, SourceFile};
 pub use taking::take_files;
 
-#[cfg(test)]
-mod tests;

@@ -1,14 +1,13 @@
 // The lines of the main file that name further ones.
 ghost use Rattle.std.specs.Prelude.{ℕ, ◌≡◌, ◌<◌, ◌^◌, ◌∷◌, ◌++◌, [], List as Seq, Bool, length, IfOk, IfSome, MatchOption};
 ghost use Rattle.opa_layout.specs.Lines.{rows};
-ghost use Rattle.opa_pieces.specs.Pieces.{Piece, seen, AreOfKind, word, text};
+ghost use Rattle.opa_words.specs.Pieces.{Piece, seen, AreOfKind, word, text};
 ghost use Rattle.opa_files.specs.FileLines.{AreFileLines, NamesFile, NamesNone, first_word, listed};
 
 use crate::FileLine;
 use opa_io::{List, NoMemory, Txt};
 use opa_layout::{first_line, indent_of, text_of, without_mark};
-use opa_pieces::Pieces;
-use opa_words::{TokenKind, WordFault, text_of_token, tokens};
+use opa_words::{Pieces, TokenKind, WordFault, text_of_token, tokens};
 use std::alloc::Global;
 
 /// Whether the first token is `table` or `include`, and what follows it.

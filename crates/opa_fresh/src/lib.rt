@@ -15,5 +15,3 @@ pub use laws::{each_once, exactly_the_live};
 pub use lines::Lines;
 pub use told::Fresh;
 
-#[cfg(test)]
-mod tests;

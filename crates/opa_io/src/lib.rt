@@ -12,6 +12,7 @@ mod same;
 mod shelf;
 mod standard;
 mod text;
+mod witness;
 
 pub use boxed::Boxed;
 pub use fault::{Failed, NoMemory, Status, TakeFault};
@@ -23,6 +24,5 @@ pub use same::Same;
 pub use shelf::MemShelf;
 pub use standard::{StdSink, StdSource};
 pub use text::Txt;
+pub use witness::Witness;
 
-#[cfg(test)]
-mod tests;

@@ -15,5 +15,3 @@ pub use laws::one_layout;
 pub use laying::blocks;
 pub use lines::{Line, first_line, text_of, without_mark};
 
-#[cfg(test)]
-mod tests;

@@ -15,5 +15,3 @@ pub use line::Line;
 pub use opa_date::DAYS;
 pub use pairs::LineFault;
 
-#[cfg(test)]
-mod tests;

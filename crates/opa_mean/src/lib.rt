@@ -32,5 +32,3 @@ pub use places::{place_in, place_of};
 pub use plain::{Derive, Plain};
 pub use questions::reads;
 
-#[cfg(test)]
-mod tests;

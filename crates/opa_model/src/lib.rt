@@ -12,5 +12,3 @@ pub use lists::Lists;
 pub use model::{Model, Ruled};
 pub use things::{Attribute, Entity, Item, Kind, Relation, Screen, Sentence, Verb};
 
-#[cfg(test)]
-mod tests;

@@ -3,8 +3,8 @@ use Rattle.std.proofs.Common.{◌≡◌, ◌∙◌, ℕ, ◌≤◌, ◌<◌, Lis
 use Rattle.std.proofs.lemmas.Option.{slice_get_within}
 use Rattle.opa_io.specs.Outside.{Files}
 use Rattle.opa_words.proofs.QuoteLaws.{quoted_tells_apart}
-use Rattle.opa_pieces.specs.Pieces.{Piece, word, text}
-use Rattle.opa_pieces.proofs.LawsHold.{one_cutting_holds}
+use Rattle.opa_words.specs.Pieces.{Piece, word, text}
+use Rattle.opa_words.proofs.LawsHold.{one_cutting_holds}
 use Rattle.opa_layout.specs.Lines.{Row, rows}
 use Rattle.opa_tree.specs.declared.faults.RbKind.{RbKind}
 use Rattle.opa_tree.specs.declared.faults.RbKind.TheVariants.{Limit}

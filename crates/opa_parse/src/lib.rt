@@ -36,5 +36,3 @@ pub use table::Step;
 pub use texts::Texts;
 pub use words::{back, ending_of};
 
-#[cfg(test)]
-mod tests;

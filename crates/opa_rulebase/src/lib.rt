@@ -14,7 +14,3 @@ pub use loading::load_rulebase;
 pub use printed::refusal_text;
 pub use ruled::ruled_of;
 
-#[cfg(test)]
-mod blocks_tests;
-#[cfg(test)]
-mod tests;

@@ -34,9 +34,3 @@ pub use loaded::{Loaded, Origin};
 pub use loading::load;
 pub use saved::saved_text;
 
-#[cfg(test)]
-mod load_tests;
-#[cfg(test)]
-mod samples;
-#[cfg(test)]
-mod tests;

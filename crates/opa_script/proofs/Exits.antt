@@ -12,7 +12,7 @@ use Rattle.opa_cells.specs.declared.instance.InstanceId.{InstanceId}
 use Rattle.opa_case.specs.declared.change.ChangeCommand.TheVariants as change
 use Rattle.opa_words.proofs.QuoteLaws.{quoted_tells_apart}
 use Rattle.opa_words.specs.declared.kinds.TokenKind.TheVariants as kind
-use Rattle.opa_pieces.specs.Pieces.{Piece, text, number}
+use Rattle.opa_words.specs.Pieces.{Piece, text, number}
 use Rattle.opa_text.specs.Spelled.{SpellsLine, SpellsNames}
 use Rattle.opa_script.specs.declared.command.Command.{Command}
 use Rattle.opa_script.specs.declared.command.Command.TheVariants as command

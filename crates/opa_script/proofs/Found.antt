@@ -18,8 +18,8 @@ use Rattle.opa_words.specs.declared.kinds.TokenKind.TheVariants as kind
 use Rattle.opa_words.specs.Kinds.{quoted}
 use Rattle.opa_words.specs.Cuts.{Cuts}
 use Rattle.opa_words.proofs.QuoteLaws.{quoted_tells_apart}
-use Rattle.opa_pieces.specs.declared.pieces.Pieces.{Pieces}
-use Rattle.opa_pieces.specs.Pieces.{Piece, IsCutInto, seen, pieces, is_nothing}
+use Rattle.opa_words.specs.declared.pieces.Pieces.{Pieces}
+use Rattle.opa_words.specs.Pieces.{Piece, IsCutInto, seen, pieces, is_nothing}
 use Rattle.opa_text.specs.Spelled.{SpellsLine}
 use Rattle.opa_text.proofs.WholeLaws.{cut_into}
 use Rattle.opa_script.specs.declared.fault.CmdFault.{CmdFault}

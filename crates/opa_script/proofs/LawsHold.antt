@@ -2,8 +2,8 @@
 use Rattle.std.proofs.Common.{◌≡◌, ℕ, List, ◌∷◌, true, false, refl, sym, ap, subst, ◌∙◌, inl, inr}
 use Rattle.std.specs.Prelude.{Some}
 use Rattle.opa_model.specs.declared.lists.Lists.{Lists}
-use Rattle.opa_pieces.specs.Pieces.{Piece, word}
-use Rattle.opa_pieces.proofs.LawsHold.{one_cutting_holds}
+use Rattle.opa_words.specs.Pieces.{Piece, word}
+use Rattle.opa_words.proofs.LawsHold.{one_cutting_holds}
 use Rattle.opa_script.specs.declared.command.Command.{Command}
 use Rattle.opa_script.specs.declared.fault.CmdFault.{CmdFault}
 use Rattle.opa_script.specs.declared.fault.CmdFault.TheVariants as fault

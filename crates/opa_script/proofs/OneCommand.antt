@@ -14,7 +14,7 @@ use Rattle.opa_model.specs.Models.{IsModel}
 use Rattle.opa_cells.specs.declared.instance.InstanceId.{InstanceId}
 use Rattle.opa_case.specs.declared.change.ChangeCommand.TheVariants as change
 use Rattle.opa_words.proofs.QuoteLaws.{quoted_tells_apart}
-use Rattle.opa_pieces.specs.Pieces.{Piece, text, number}
+use Rattle.opa_words.specs.Pieces.{Piece, text, number}
 use Rattle.opa_text.specs.Spelled.{SpellsLine, SpellsNames}
 use Rattle.opa_text.proofs.ChangeLaws.{pairs_one}
 use Rattle.opa_text.proofs.NameLaws.{names_one}

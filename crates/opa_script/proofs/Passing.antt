@@ -4,7 +4,7 @@ use Rattle.std.specs.Prelude.{not, codes, ◌&&◌}
 use Rattle.opa_words.specs.declared.kinds.TokenKind.{TokenKind}
 use Rattle.opa_words.specs.declared.kinds.TokenKind.TheVariants as kind
 use Rattle.std.proofs.lemmas.Slice.Eq.{bytes_eq-Decides}
-use Rattle.opa_pieces.specs.Pieces.{Piece, symbol}
+use Rattle.opa_words.specs.Pieces.{Piece, symbol}
 use Rattle.opa_script.specs.Shapes.{is_equals, has_no_equals, IsAtEquals, IsShort, AreShort}
 use Rattle.opa_script.proofs.PieceLists.{same_cut}
 use Rattle.opa_script.proofs.PointLaws.{no_equals_more}

@@ -6,7 +6,7 @@ use Rattle.opa_words.specs.declared.kinds.TokenKind.TheVariants as kind
 use Rattle.opa_words.specs.Kinds.{quoted}
 use Rattle.opa_words.specs.Reserved.{is_word_kind, is_phrase_kind}
 use Rattle.opa_words.proofs.QuoteLaws.{quoted_tells_apart}
-use Rattle.opa_pieces.specs.Pieces.{Piece, word, text, symbol, date}
+use Rattle.opa_words.specs.Pieces.{Piece, word, text, symbol, date}
 use Rattle.opa_script.specs.declared.points.Point.{Point}
 use Rattle.opa_script.specs.Shapes.{is_run, are_words, phrase_of, name_part, SpellsPoint, SpellsGiven, SpellsDated, EndsWith, IsPlain, IsNamed, is_equals, has_no_equals, is_this_word}
 use Rattle.std.proofs.lemmas.Slice.Eq.{bytes_eq-Decides}

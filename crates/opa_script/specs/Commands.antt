@@ -13,7 +13,7 @@ use Rattle.opa_model.specs.Lookups.{attribute_at, relation_at, attribute_named, 
 use Rattle.opa_cells.specs.declared.instance.InstanceId.{InstanceId}
 use Rattle.opa_cells.specs.Instances.{global}
 use Rattle.opa_case.specs.declared.change.ChangeCommand.TheVariants as change
-use Rattle.opa_pieces.specs.Pieces.{Piece, number, text}
+use Rattle.opa_words.specs.Pieces.{Piece, number, text}
 use Rattle.opa_text.specs.Spelled.{SpellsLine, SpellsNames}
 use Rattle.opa_script.specs.declared.command.Command.{Command}
 use Rattle.opa_script.specs.declared.command.Command.TheVariants as command

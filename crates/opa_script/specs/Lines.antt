@@ -1,7 +1,7 @@
 -- A line as it is read: its blanks, its text and its tokens.
 use Rattle.std.specs.Prelude.{◌≡◌, ◌≤◌, ℕ, List, [], ◌∷◌, length, Bool, true, ◌||◌, ◌==◌, if◌then◌else◌}
 use Rattle.std.specs.Str.{IsUtf8}
-use Rattle.opa_pieces.specs.Pieces.{Piece, IsCutInto}
+use Rattle.opa_words.specs.Pieces.{Piece, IsCutInto}
 use Rattle.opa_script.specs.declared.fault.CmdFault.{CmdFault}
 use Rattle.opa_script.specs.declared.fault.CmdFault.TheVariants as fault
 

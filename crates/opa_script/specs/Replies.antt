@@ -6,7 +6,7 @@ use Rattle.opa_case.specs.declared.change.ChangeCommand.{ChangeCommand}
 use Rattle.opa_case.specs.declared.change.ChangeCommand.TheVariants as change
 use Rattle.opa_case.specs.declared.question.Question.{Question}
 use Rattle.opa_case.specs.declared.question.Question.TheVariants as question
-use Rattle.opa_pieces.specs.Pieces.{Piece}
+use Rattle.opa_words.specs.Pieces.{Piece}
 use Rattle.opa_text.specs.Spelled.{SpellsLine, SpellsNames}
 use Rattle.opa_script.specs.declared.command.Command.{Command}
 use Rattle.opa_script.specs.declared.command.Command.TheVariants as command

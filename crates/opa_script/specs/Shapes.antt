@@ -6,7 +6,7 @@ use Rattle.opa_words.specs.declared.kinds.TokenKind.{TokenKind}
 use Rattle.opa_words.specs.declared.kinds.TokenKind.TheVariants as kind
 use Rattle.opa_words.specs.Kinds.{quoted}
 use Rattle.opa_words.specs.Reserved.{is_word_kind, is_phrase_kind, joined}
-use Rattle.opa_pieces.specs.Pieces.{Piece, is_nothing, word, number, date, symbol, text}
+use Rattle.opa_words.specs.Pieces.{Piece, is_nothing, word, number, date, symbol, text}
 use Rattle.opa_script.specs.declared.points.Point.{Point}
 use Rattle.opa_script.specs.declared.verbs.Verb.{Verb}
 use Rattle.opa_script.specs.declared.verbs.Verb.TheVariants as verb

@@ -1,6 +1,6 @@
 // Commands that change a case, behind their words.
 ghost use Rattle.std.specs.Prelude.{IfOk, IfErr};
-ghost use Rattle.opa_pieces.specs.Pieces.{seen, AreOfKind};
+ghost use Rattle.opa_words.specs.Pieces.{seen, AreOfKind};
 ghost use Rattle.opa_script.specs.Commands.{IsRead, IsRefused};
 ghost use Rattle.opa_script.specs.declared.verbs.Verb.TheVariants as verb;
 
@@ -10,7 +10,7 @@ use crate::targets::{attribute_of, relation_of};
 use crate::{CmdFault, Command};
 use opa_case::ChangeCommand;
 use opa_model::Model;
-use opa_pieces::Pieces;
+use opa_words::Pieces;
 use opa_text::{line_of, names_of};
 use std::alloc::Global;
 

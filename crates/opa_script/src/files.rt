@@ -1,12 +1,12 @@
 // Commands without a point, behind their words.
 ghost use Rattle.std.specs.Prelude.{◌≡◌, ◌≢◌, ◌<◌, ◌*◌, ◌^◌, ◌∷◌, [], ℕ, pos, List, IfOk, IfErr, IfSome, MatchOption};
-ghost use Rattle.opa_pieces.specs.Pieces.{seen, AreOfKind};
+ghost use Rattle.opa_words.specs.Pieces.{seen, AreOfKind};
 ghost use Rattle.opa_script.specs.Commands.{IsRead, IsRefused};
 ghost use Rattle.opa_script.specs.declared.verbs.Verb.TheVariants as verb;
 ghost use Rattle.std.specs.Str.{chars};
 ghost use Rattle.opa_words.specs.declared.kinds.TokenKind.TheVariants as kinds;
 ghost use Rattle.opa_words.specs.Kinds.{IsToken};
-ghost use Rattle.opa_pieces.specs.Pieces.{text, number};
+ghost use Rattle.opa_words.specs.Pieces.{text, number};
 ghost use Rattle.opa_script.specs.Commands.{SaysCount, IsFile, IsNoFile};
 ghost use Rattle.opa_script.specs.Shapes.{IsNotOne};
 ghost use Rattle.opa_script.specs.declared.fault.CmdFault.TheVariants as faults;
@@ -15,9 +15,8 @@ ghost use Rattle.opa_model.specs.declared.lists.Lists.{Lists};
 use crate::short::are_short;
 use crate::{CmdFault, Command};
 use opa_io::{NoMemory, Txt};
-use opa_pieces::Pieces;
+use opa_words::{Pieces, TokenKind, text_of_token};
 use opa_value::Number;
-use opa_words::{TokenKind, text_of_token};
 use std::alloc::Global;
 
 /// How many bytes the name of a file has at most.

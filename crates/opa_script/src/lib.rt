@@ -23,5 +23,3 @@ pub use laws::{commands_are_in_range, one_command, refused_or_read};
 pub use reading::read_command;
 pub use replies::read_reply;
 
-#[cfg(test)]
-mod tests;

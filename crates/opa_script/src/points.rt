@@ -5,14 +5,13 @@ ghost use Rattle.opa_words.specs.declared.kinds.TokenKind.{TokenKind as Sort};
 ghost use Rattle.opa_words.specs.declared.kinds.TokenKind.TheVariants as kinds;
 ghost use Rattle.opa_words.specs.Kinds.{IsToken};
 ghost use Rattle.opa_words.specs.Reserved.{is_word_kind, is_phrase_kind};
-ghost use Rattle.opa_pieces.specs.Pieces.{Piece, seen, AreOfKind, symbol, is_nothing};
+ghost use Rattle.opa_words.specs.Pieces.{Piece, seen, AreOfKind, symbol, is_nothing};
 ghost use Rattle.opa_script.specs.Shapes as meant;
 ghost use Rattle.opa_script.specs.Shapes.{EndsWith, IsPlain, IsNamed, IsAtEquals, SpellsPoint, SpellsGiven, has_no_equals};
 ghost use Rattle.opa_script.specs.declared.points.Point.{Point as Place};
 
 use opa_io::{NoMemory, Txt};
-use opa_pieces::Pieces;
-use opa_words::{TokenKind, phrase_text, text_of_token};
+use opa_words::{Pieces, TokenKind, phrase_text, text_of_token};
 use std::alloc::Global;
 
 /// A phrase, and the name behind `of`.

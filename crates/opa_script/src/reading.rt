@@ -1,6 +1,6 @@
 // A line as a command.
 ghost use Rattle.std.specs.Prelude.{List, IfOk, IfErr, IfSome, MatchOption};
-ghost use Rattle.opa_pieces.specs.Pieces.{Piece, seen, AreOfKind};
+ghost use Rattle.opa_words.specs.Pieces.{Piece, seen, AreOfKind};
 ghost use Rattle.opa_script.specs.declared.verbs.Verb.{Verb as Word};
 ghost use Rattle.opa_script.specs.Shapes.{Begins};
 ghost use Rattle.opa_script.specs.Commands.{IsRead, IsRefused, AreCommand, AreNone, IsCommand, IsNoCommand};
@@ -12,7 +12,7 @@ use crate::shows::{report, show};
 use crate::verbs::{Verb, verb_of};
 use crate::{CmdFault, Command};
 use opa_model::Model;
-use opa_pieces::Pieces;
+use opa_words::Pieces;
 use std::alloc::Global;
 
 /// Reads a line as a command. A blank line or a comment is `Nothing`.

@@ -3,7 +3,7 @@ ghost use Rattle.std.specs.Prelude.{◌≡◌, Some, None, IfOk, IfErr, MatchOpt
 ghost use Rattle.std.specs.Option.{option_map};
 ghost use denote.Ref.{Bor};
 ghost use Rattle.std.specs.Prelude.{ℕ, List as Seq};
-ghost use Rattle.opa_pieces.specs.Pieces.{seen, AreOfKind};
+ghost use Rattle.opa_words.specs.Pieces.{seen, AreOfKind};
 ghost use Rattle.opa_script.specs.Lines.{past_blanks};
 ghost use Rattle.opa_script.specs.Commands.{IsCommand};
 ghost use Rattle.opa_script.specs.Replies.{after_slash, slashed, IsReply, IsNoReply, IsPlainReply, IsNoPlainReply, IsNotLong, IsNoSlashed, AreReply, SaysChange, SaysNothing, IsUnanswered};
@@ -15,7 +15,7 @@ use crate::{CmdFault, Command};
 use opa_case::{ChangeCommand, Question};
 use opa_io::NoMemory;
 use opa_model::Model;
-use opa_pieces::Pieces;
+use opa_words::Pieces;
 use opa_text::{line_of, names_of};
 use std::alloc::Global;
 

@@ -3,12 +3,11 @@ ghost use Rattle.std.specs.Prelude.{◌≡◌, length, IfOk};
 ghost use Rattle.std.specs.Bool.{MatchBool};
 ghost use Rattle.std.specs.Str.{chars};
 ghost use Rattle.opa_words.specs.Kinds.{IsToken};
-ghost use Rattle.opa_pieces.specs.Pieces.{seen, AreOfKind};
+ghost use Rattle.opa_words.specs.Pieces.{seen, AreOfKind};
 ghost use Rattle.opa_script.specs.Shapes.{AreShort, IsShort};
 
 use opa_io::NoMemory;
-use opa_pieces::Pieces;
-use opa_words::{TokenKind, text_of_token};
+use opa_words::{Pieces, TokenKind, text_of_token};
 use std::alloc::Global;
 
 /// Whether each text between quotes has at most 1,000 bytes.

@@ -1,6 +1,6 @@
 // Commands that show what a case has, behind their words.
 ghost use Rattle.std.specs.Prelude.{◌≡◌, None, IfOk, IfErr, MatchOption};
-ghost use Rattle.opa_pieces.specs.Pieces.{seen, AreOfKind};
+ghost use Rattle.opa_words.specs.Pieces.{seen, AreOfKind};
 ghost use Rattle.opa_script.specs.Commands.{IsRead, IsRefused, Shows, NamesNothing};
 ghost use Rattle.opa_model.specs.Lookups.{attribute_named, relation_named};
 ghost use Rattle.opa_script.specs.declared.verbs.Verb.TheVariants as verb;
@@ -12,7 +12,7 @@ use crate::{CmdFault, Command};
 use opa_date::parse_day;
 use opa_io::NoMemory;
 use opa_model::Model;
-use opa_pieces::Pieces;
+use opa_words::Pieces;
 use std::alloc::Global;
 
 /// `POINT`.

@@ -31,5 +31,3 @@ pub use sorts::{Frame, Sort};
 pub use table::{Step, relation_at};
 pub use whole::{line_of, operand_of};
 
-#[cfg(test)]
-mod tests;

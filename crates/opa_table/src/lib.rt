@@ -20,5 +20,3 @@ pub use taking::{read_table, take_table};
 pub use whole::{TableFile, read_all_rules, take_tables};
 pub use words::Words;
 
-#[cfg(test)]
-mod tests;

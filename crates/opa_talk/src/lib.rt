@@ -13,5 +13,3 @@ pub use line::without_mark;
 pub use replier::{Prompt, Replier};
 pub use talk::cut;
 
-#[cfg(test)]
-mod tests;

@@ -11,7 +11,7 @@ use Rattle.opa_date.proofs.ReadTexts.{only_texts_are_read}
 use Rattle.opa_line.specs.Lines.{at}
 use Rattle.opa_line.specs.Pairs.{fault_of, rises_from, all_below}
 use Rattle.opa_line.specs.declared.pairs.LineFault.TheVariants.{Range, Order, FirstDay}
-use Rattle.opa_pieces.specs.Pieces.{Piece}
+use Rattle.opa_words.specs.Pieces.{Piece}
 use Rattle.opa_text.specs.Spelled.{SpellsDay, SpellsValue, SpellsChange, SpellsLater, SpellsChanges, SpellsPairs, SpellsLine}
 use Rattle.opa_text.specs.Texts.{IsOfCalendar, HasDays}
 use Rattle.opa_text.proofs.Lists.{all_days}

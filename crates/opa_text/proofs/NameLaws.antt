@@ -4,7 +4,7 @@ use Rattle.std.specs.Prelude.{codes, Option, Some, None}
 use Rattle.opa_words.specs.declared.kinds.TokenKind.TheVariants as kind
 use Rattle.opa_words.specs.Kinds.{quoted}
 use Rattle.opa_words.proofs.QuoteLaws.{quoted_tells_apart}
-use Rattle.opa_pieces.specs.Pieces.{Piece, is_nothing, word, text}
+use Rattle.opa_words.specs.Pieces.{Piece, is_nothing, word, text}
 use Rattle.opa_text.specs.Spelled.{SpellsNext, SpellsMore, SpellsNames}
 use Rattle.opa_text.specs.Readers.{is_only, is_end, past_word}
 use Rattle.opa_text.proofs.Readings.{one_next, word_here}

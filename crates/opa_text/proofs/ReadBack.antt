@@ -9,9 +9,9 @@ use Rattle.opa_date.proofs.ReadTexts.{texts_are_read}
 use Rattle.opa_line.specs.Lines.{Follows}
 use Rattle.opa_words.specs.Kinds.{quoted}
 use Rattle.opa_model.specs.declared.things.Kind.{Kind}
-use Rattle.opa_pieces.specs.Pieces.{word, date, symbol, text, IsCutInto}
-use Rattle.opa_pieces.specs.Written.{Written, AreWritten, text_of, pieces_of, spaced, joined}
-use Rattle.opa_pieces.proofs.LawsHold.{written_is_cut_holds, quoted_is_token_holds}
+use Rattle.opa_words.specs.Pieces.{word, date, symbol, text, IsCutInto}
+use Rattle.opa_words.specs.Written.{Written, AreWritten, text_of, pieces_of, spaced, joined}
+use Rattle.opa_words.proofs.LawsHold.{written_is_cut_holds, quoted_is_token_holds}
 use Rattle.opa_text.specs.Texts.{value_text, changes_text, line_text}
 use Rattle.opa_text.specs.Points.{known_names, more_names}
 use Rattle.opa_text.specs.Spelled.{SpellsChanges, SpellsMore}

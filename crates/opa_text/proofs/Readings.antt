@@ -19,7 +19,7 @@ use Rattle.opa_words.specs.declared.kinds.TokenKind.{TokenKind}
 use Rattle.opa_words.specs.declared.kinds.TokenKind.TheVariants as kind
 use Rattle.opa_words.specs.Kinds.{quoted}
 use Rattle.opa_words.proofs.QuoteLaws.{quoted_tells_apart}
-use Rattle.opa_pieces.specs.Pieces.{Piece, word, number, date, symbol, text}
+use Rattle.opa_words.specs.Pieces.{Piece, word, number, date, symbol, text}
 use Rattle.opa_text.specs.Spelled.{SpellsDay, SpellsValue, SpellsChange, SpellsNext}
 use Rattle.opa_text.specs.Readers as reads
 use Rattle.opa_text.specs.Readers.{as_written, value_at, day_at, change_at, changed_day, value_from, past_symbol, past_word, past_from, name_at, next_name, word_value, token_value, negative_token, after_minus, with_rest, number_of, number_read, negative, day_of, day_read, is_symbol, is_word, text_token}

@@ -6,8 +6,8 @@ use Rattle.opa_line.specs.Lines.{at}
 use Rattle.opa_line.proofs.LineLaws.{equal_where_values_are}
 use Rattle.opa_words.specs.declared.kinds.Token.{Token}
 use Rattle.opa_words.specs.Cuts.{Cuts}
-use Rattle.opa_pieces.specs.Pieces.{Piece, IsCutInto, pieces}
-use Rattle.opa_pieces.proofs.LawsHold.{one_cutting_holds}
+use Rattle.opa_words.specs.Pieces.{Piece, IsCutInto, pieces}
+use Rattle.opa_words.proofs.LawsHold.{one_cutting_holds}
 use Rattle.opa_text.specs.declared.fault.ReadFault.{ReadFault}
 use Rattle.opa_text.specs.declared.fault.ReadFault.TheVariants as fault
 use Rattle.opa_text.specs.Spelled.{SpellsPairs, SpellsLine, SpellsNames, IsLineOf, IsNamesOf, IsNotCut, SaysNoLine, SaysNoNames}

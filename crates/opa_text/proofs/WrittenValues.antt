@@ -24,11 +24,11 @@ use Rattle.opa_words.specs.Kinds.{IsToken, IsNumber, is_date, is_word}
 use Rattle.opa_words.proofs.Letters.{left, both, date_parts}
 use Rattle.opa_model.specs.declared.things.Kind.{Kind}
 use Rattle.opa_model.specs.declared.things.Kind.TheVariants as kinds
-use Rattle.opa_pieces.specs.Pieces.{Piece, IsPiece, word, number, date, symbol, text}
-use Rattle.opa_pieces.specs.Written.{Written, AreWritten, text_of, pieces_of, gap, joined, ends_before, begins_apart, stands_alone}
-use Rattle.opa_pieces.proofs.Ascii.{is_ascii, ascii_chars}
-use Rattle.opa_pieces.proofs.LawsHold.{ascii_is_token_holds, quoted_is_token_holds}
-use Rattle.opa_pieces.proofs.Separate.{all_wider, numeric, dated, number_numeric, date_dated}
+use Rattle.opa_words.specs.Pieces.{Piece, IsPiece, word, number, date, symbol, text}
+use Rattle.opa_words.specs.Written.{Written, AreWritten, text_of, pieces_of, gap, joined, ends_before, begins_apart, stands_alone}
+use Rattle.opa_words.proofs.Ascii.{is_ascii, ascii_chars}
+use Rattle.opa_words.proofs.LawsHold.{ascii_is_token_holds, quoted_is_token_holds}
+use Rattle.opa_words.proofs.Separate.{all_wider, numeric, dated, number_numeric, date_dated}
 use Rattle.opa_text.specs.Texts.{value_text, number_text, bool_text}
 use Rattle.opa_text.specs.Spelled.{SpellsNumber, SpellsValue}
 use Rattle.opa_text.specs.Laws.{CanBeWritten, HasDecimals}

@@ -11,7 +11,7 @@ use Rattle.opa_line.specs.Lines.{IsLine}
 use Rattle.opa_words.specs.Characters.{is_control}
 use Rattle.opa_model.specs.declared.things.Kind.{Kind}
 use Rattle.opa_model.specs.declared.things.Kind.TheVariants as kind
-use Rattle.opa_pieces.specs.Pieces.{Piece}
+use Rattle.opa_words.specs.Pieces.{Piece}
 use Rattle.opa_text.specs.Texts.{line_text}
 use Rattle.opa_text.specs.Points.{known_names}
 use Rattle.opa_text.specs.Spelled.{SpellsValue, HasPairs, IsLineOf, IsNamesOf}

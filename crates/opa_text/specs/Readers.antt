@@ -13,7 +13,7 @@ use Rattle.opa_date.specs.Texts.{read_day}
 use Rattle.opa_words.specs.declared.kinds.TokenKind.{TokenKind}
 use Rattle.opa_words.specs.declared.kinds.TokenKind.TheVariants as kind
 use Rattle.opa_words.specs.Kinds.{quoted}
-use Rattle.opa_pieces.specs.Pieces.{Piece, is_nothing}
+use Rattle.opa_words.specs.Pieces.{Piece, is_nothing}
 
 -- the value with its text between quotes
 abbrev pub as_written : Value → Value

@@ -6,7 +6,7 @@ use Rattle.opa_value.specs.NumberText.{read_number}
 use Rattle.opa_date.specs.declared.TheConstants.{DAYS}
 use Rattle.opa_date.specs.Texts.{read_day}
 use Rattle.opa_line.specs.Lines.{at}
-use Rattle.opa_pieces.specs.Pieces.{Piece, IsCutInto, word, number, date, symbol, text}
+use Rattle.opa_words.specs.Pieces.{Piece, IsCutInto, word, number, date, symbol, text}
 use Rattle.opa_text.specs.declared.fault.ReadFault.{ReadFault}
 use Rattle.opa_text.specs.declared.fault.ReadFault.TheVariants as fault
 use Rattle.opa_text.specs.Texts.{bool_text}

@@ -4,14 +4,14 @@ ghost use Rattle.opa_value.specs.declared.value.Value.{Value};
 ghost use Rattle.opa_date.specs.declared.TheConstants.{DAYS};
 ghost use Rattle.opa_line.specs.Lines.{at};
 ghost use Rattle.opa_line.specs.Pairs.{fault_of};
-ghost use Rattle.opa_pieces.specs.Pieces.{Piece, seen, AreOfKind};
+ghost use Rattle.opa_words.specs.Pieces.{Piece, seen, AreOfKind};
 ghost use Rattle.opa_text.specs.Texts.{HasDays};
 ghost use Rattle.opa_text.specs.Spelled.{SpellsValue, SpellsLater, SpellsChanges, SpellsPairs, SpellsLine};
 
 use crate::reading::{change_at, value_at};
 use opa_io::NoMemory;
 use opa_line::Line;
-use opa_pieces::Pieces;
+use opa_words::Pieces;
 use opa_value::Value;
 use std::alloc::Global;
 

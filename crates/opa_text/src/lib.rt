@@ -22,5 +22,3 @@ pub use questions::question_text;
 pub use values::value_text;
 pub use whole::{read_line, read_names};
 
-#[cfg(test)]
-mod tests;

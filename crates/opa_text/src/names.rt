@@ -2,14 +2,13 @@
 ghost use Rattle.std.specs.Prelude.{◌≡◌, ◌∷◌, ℕ, List as Seq, IfOk, IfSome, MatchOption};
 ghost use Rattle.std.specs.Option.{option_map};
 ghost use denote.Ref.{Bor};
-ghost use Rattle.opa_pieces.specs.Pieces.{Piece, seen, AreOfKind, text};
+ghost use Rattle.opa_words.specs.Pieces.{Piece, seen, AreOfKind, text};
 ghost use Rattle.opa_text.specs.Points.{names_text as names_text_of, known_names as known_names_of, more_names as more_names_of};
 ghost use Rattle.opa_text.specs.Spelled.{SpellsNext, SpellsMore, SpellsNames};
 
 use crate::reading::{is_only, name_at, next_name};
 use opa_io::{List, NoMemory, Txt, front};
-use opa_pieces::Pieces;
-use opa_words::quoted;
+use opa_words::{Pieces, quoted};
 use std::alloc::Global;
 
 /// The text of the names of a list, which may be unknown: `unknown`, `none`, `"Anna", "Ben"`.

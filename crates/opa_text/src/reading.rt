@@ -4,15 +4,14 @@ ghost use Rattle.std.specs.Option.{option_map};
 ghost use Rattle.std.specs.Str.{chars};
 ghost use Rattle.opa_date.specs.declared.TheConstants.{DAYS};
 ghost use Rattle.opa_words.specs.Kinds.{IsToken, quoted};
-ghost use Rattle.opa_pieces.specs.Pieces.{seen, AreOfKind};
+ghost use Rattle.opa_words.specs.Pieces.{seen, AreOfKind};
 ghost use Rattle.opa_text.specs.Readers as meant;
 ghost use Rattle.opa_text.specs.Readers.{as_written};
 
 use opa_date::parse_day;
 use opa_io::{NoMemory, Txt};
-use opa_pieces::Pieces;
+use opa_words::{Pieces, TokenKind, text_of_token};
 use opa_value::{Number, Value};
-use opa_words::{TokenKind, text_of_token};
 use std::alloc::Global;
 
 fn word_value(word: &str) -> Option<Value>

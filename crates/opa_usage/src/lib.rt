@@ -7,5 +7,3 @@ mod reading;
 pub use clapped::WordsFault;
 pub use reading::{Asked, Mode, read_words};
 
-#[cfg(test)]
-mod tests;

@@ -5,5 +5,3 @@ mod sentence;
 
 pub use sentence::{Form, say};
 
-#[cfg(test)]
-mod tests;

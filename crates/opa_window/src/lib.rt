@@ -23,7 +23,3 @@ pub use laws::{greatest_is_greatest, least_is_least, longest_is_longest, reads_t
 pub use rolling::{rolling_always, rolling_sometimes};
 pub use years::years_since;
 
-#[cfg(test)]
-mod tests;
-#[cfg(test)]
-mod walks;

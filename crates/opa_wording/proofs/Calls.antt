@@ -10,8 +10,8 @@ use Rattle.opa_tree.specs.declared.kinds.WinKind.TheVariants as win
 use Rattle.opa_tree.specs.declared.expr.Expr.{Expr}
 use Rattle.opa_tree.specs.declared.expr.Expr.TheVariants as V
 use Rattle.opa_tree.specs.Trees.{op_arity, quant_arity, window_arity}
-use Rattle.opa_pieces.specs.Pieces.{Piece, word}
-use Rattle.opa_pieces.specs.Written.{Written}
+use Rattle.opa_words.specs.Pieces.{Piece, word}
+use Rattle.opa_words.specs.Written.{Written}
 use Rattle.opa_sentence.specs.declared.class.Class.TheVariants as class
 use Rattle.opa_sentence.specs.declared.functions.Function.{Function}
 use Rattle.opa_sentence.specs.declared.functions.Function.TheVariants as function

@@ -17,10 +17,10 @@ use Rattle.opa_words.specs.declared.kinds.TokenKind.TheVariants as kind
 use Rattle.opa_words.specs.Kinds.{IsToken}
 use Rattle.opa_words.specs.Reserved.{is_ending, is_word_kind}
 use Rattle.opa_words.proofs.Letters.{starts, Starts, token_starts}
-use Rattle.opa_pieces.specs.Pieces.{Piece, IsPiece, word, symbol, number, date, text}
-use Rattle.opa_pieces.specs.Written.{Written, AreWritten, joined}
-use Rattle.opa_pieces.proofs.Ascii.{ascii_chars}
-use Rattle.opa_pieces.proofs.Separate.{none_of}
+use Rattle.opa_words.specs.Pieces.{Piece, IsPiece, word, symbol, number, date, text}
+use Rattle.opa_words.specs.Written.{Written, AreWritten, joined}
+use Rattle.opa_words.proofs.Ascii.{ascii_chars}
+use Rattle.opa_words.proofs.Separate.{none_of}
 use Rattle.opa_text.specs.Laws.{CanBeWritten}
 use Rattle.opa_text.specs.Texts.{bool_text}
 use Rattle.opa_tree.specs.declared.kinds.OpKind.{OpKind}

@@ -12,8 +12,8 @@ use Rattle.opa_tree.specs.declared.kinds.WinKind.{WinKind}
 use Rattle.opa_tree.specs.declared.expr.Expr.{Expr}
 use Rattle.opa_tree.specs.declared.expr.Row.{Row}
 use Rattle.opa_tree.specs.declared.expr.Expr.TheVariants as V
-use Rattle.opa_pieces.specs.Pieces.{word}
-use Rattle.opa_pieces.specs.Written.{text_of}
+use Rattle.opa_words.specs.Pieces.{word}
+use Rattle.opa_words.specs.Written.{text_of}
 use Rattle.opa_wording.specs.declared.joint.Joint.TheVariants as joint
 use Rattle.opa_wording.specs.Signs.{quant_text, window_text, rolling_text}
 use Rattle.opa_wording.specs.Wordings.{Wording, token, bracketed, call, denial, in_brackets, listed, literal, operation, over_days, phrase, phrase_of_attribute, wording}

@@ -15,8 +15,8 @@ use Rattle.opa_model.specs.Models.{HasAttribute}
 use Rattle.opa_words.specs.declared.kinds.Token.{Token}
 use Rattle.opa_words.specs.Reserved.{is_ending, is_word_kind, is_phrase_kind, begins_well, ends_badly, phrase_text}
 use Rattle.opa_words.proofs.PlaceLaws.{tokens_within, tokens_of_kind}
-use Rattle.opa_pieces.specs.Pieces.{Piece, IsPiece, word, symbol, piece, pieces}
-use Rattle.opa_pieces.specs.Written.{Written, spaced}
+use Rattle.opa_words.specs.Pieces.{Piece, IsPiece, word, symbol, piece, pieces}
+use Rattle.opa_words.specs.Written.{Written, spaced}
 use Rattle.opa_sentence.specs.declared.names.Operand.{Operand}
 use Rattle.opa_sentence.specs.Lexemes.{Lexeme, class_of}
 use Rattle.opa_sentence.specs.Phrases.{is_word, past_words}

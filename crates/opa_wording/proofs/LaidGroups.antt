@@ -12,8 +12,8 @@ use Rattle.opa_tree.specs.declared.expr.Expr.TheViews.{out-Expr}
 use Rattle.opa_tree.specs.declared.expr.Expr.TheVariants as V
 use Rattle.opa_tree.specs.Trees.{depth, highest}
 use Rattle.opa_words.specs.Reserved.{is_ending}
-use Rattle.opa_pieces.specs.Pieces.{IsPiece, word}
-use Rattle.opa_pieces.specs.Written.{Written, AreWritten, spaced}
+use Rattle.opa_words.specs.Pieces.{IsPiece, word}
+use Rattle.opa_words.specs.Written.{Written, AreWritten, spaced}
 use Rattle.opa_sentence.specs.declared.names.Names.{Names}
 use Rattle.opa_sentence.specs.Grammar.{LINE}
 use Rattle.opa_sentence.specs.Measures.{nodes, total}

@@ -20,9 +20,9 @@ use Rattle.opa_layout.specs.Indents.{is_blank, past_blanks, is_void, is_passed, 
 use Rattle.opa_layout.specs.Blocks.{line_of, kept, block_lines}
 use Rattle.opa_layout.specs.Faults.{is_over, is_astray, next_most, faults_from, layout_faults}
 use Rattle.opa_words.proofs.Letters.{left, right}
-use Rattle.opa_pieces.specs.Pieces.{Piece, IsPiece, word}
-use Rattle.opa_pieces.specs.Written.{Written, AreWritten, text_of}
-use Rattle.opa_pieces.proofs.Separate.{all_append}
+use Rattle.opa_words.specs.Pieces.{Piece, IsPiece, word}
+use Rattle.opa_words.specs.Written.{Written, AreWritten, text_of}
+use Rattle.opa_words.proofs.Separate.{all_append}
 use Rattle.opa_wording.specs.Wordings.{token}
 use Rattle.opa_wording.specs.Laid.{Laid, block_line, block_from, size, indent, line_bytes, laid_text}
 use Rattle.opa_wording.proofs.TokenBytes.{avoids, openings, unbroken, text_unbroken, OpensLine, piece_opens}

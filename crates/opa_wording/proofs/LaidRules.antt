@@ -19,8 +19,8 @@ use Rattle.opa_tree.specs.declared.rules.Inferred.{Inferred}
 use Rattle.opa_tree.specs.declared.rules.Rule.{Rule}
 use Rattle.opa_tree.proofs.DepthLaws.{depth-Table}
 use Rattle.opa_words.specs.Kinds.{is_word}
-use Rattle.opa_pieces.specs.Pieces.{IsPiece, word, symbol}
-use Rattle.opa_pieces.specs.Written.{Written, AreWritten, spaced, ends_before}
+use Rattle.opa_words.specs.Pieces.{IsPiece, word, symbol}
+use Rattle.opa_words.specs.Written.{Written, AreWritten, spaced, ends_before}
 use Rattle.opa_sentence.specs.declared.names.Names.{Names}
 use Rattle.opa_sentence.specs.Bounding.{bound}
 use Rattle.opa_sentence.specs.Grammar.{LINE, Spells}

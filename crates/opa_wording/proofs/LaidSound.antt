@@ -17,8 +17,8 @@ use Rattle.opa_words.specs.declared.kinds.TokenKind.TheVariants as kind
 use Rattle.opa_words.specs.Reserved.{is_word_kind}
 use Rattle.opa_layout.specs.Blocks.{block_lines}
 use Rattle.opa_layout.specs.Faults.{layout_faults}
-use Rattle.opa_pieces.specs.Pieces.{Piece, IsPiece, word, symbol}
-use Rattle.opa_pieces.specs.Written.{Written, AreWritten, spaced}
+use Rattle.opa_words.specs.Pieces.{Piece, IsPiece, word, symbol}
+use Rattle.opa_words.specs.Written.{Written, AreWritten, spaced}
 use Rattle.opa_wording.specs.Grammatical.{IsGrammatical, AreGrammatical}
 use Rattle.opa_wording.specs.Grammatical as tree
 use Rattle.opa_wording.specs.Given.{AreRows, IsTree, IsRule}

@@ -10,8 +10,8 @@ use Rattle.opa_tree.specs.declared.expr.Expr.TheOpen.{Expr-F, Const, Attr, All, 
 use Rattle.opa_tree.specs.declared.expr.Expr.TheViews.{out-Expr}
 use Rattle.opa_tree.specs.declared.expr.Expr.TheVariants as V
 use Rattle.opa_tree.specs.declared.rules.Rule.{Rule}
-use Rattle.opa_pieces.specs.Pieces.{word, symbol}
-use Rattle.opa_pieces.specs.Written.{Written, spaced, text_of}
+use Rattle.opa_words.specs.Pieces.{word, symbol}
+use Rattle.opa_words.specs.Written.{Written, spaced, text_of}
 use Rattle.opa_wording.specs.Lines.{line_text}
 use Rattle.opa_wording.specs.Rules.{written, items, group_by, group_text, cases, concluded_by, concluded, conditioned, rule_text}
 use Rattle.opa_wording.specs.Wordings.{wording, phrase_of_attribute}

@@ -9,9 +9,9 @@ use Rattle.opa_words.specs.declared.kinds.Token.{Token}
 use Rattle.opa_words.specs.Cuts.{Cuts}
 use Rattle.opa_words.specs.Reserved.{is_ending}
 use Rattle.opa_layout.specs.declared.block.BlockLine.{BlockLine}
-use Rattle.opa_pieces.specs.Pieces.{Piece, pieces, word}
-use Rattle.opa_pieces.specs.Written.{Written, AreWritten, pieces_of, text_of, spaced}
-use Rattle.opa_pieces.proofs.LawsHold.{written_is_cut_holds}
+use Rattle.opa_words.specs.Pieces.{Piece, pieces, word}
+use Rattle.opa_words.specs.Written.{Written, AreWritten, pieces_of, text_of, spaced}
+use Rattle.opa_words.proofs.LawsHold.{written_is_cut_holds}
 use Rattle.opa_sentence.specs.declared.names.Names.{Names}
 use Rattle.opa_sentence.specs.declared.reading.Reading.{Reading}
 use Rattle.opa_sentence.specs.Bounding.{bound}

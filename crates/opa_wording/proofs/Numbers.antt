@@ -10,10 +10,10 @@ use Rattle.opa_value.proofs.ReadBack.{number_spelled, needed_shows}
 use Rattle.opa_words.specs.declared.kinds.TokenKind.TheVariants as kind
 use Rattle.opa_words.specs.Kinds.{IsNumber}
 use Rattle.opa_words.proofs.Letters.{left}
-use Rattle.opa_pieces.specs.Pieces.{IsPiece, number}
-use Rattle.opa_pieces.proofs.Ascii.{is_ascii}
-use Rattle.opa_pieces.proofs.LawsHold.{ascii_is_token_holds}
-use Rattle.opa_pieces.proofs.Separate.{all_wider, numeric, number_numeric}
+use Rattle.opa_words.specs.Pieces.{IsPiece, number}
+use Rattle.opa_words.proofs.Ascii.{is_ascii}
+use Rattle.opa_words.proofs.LawsHold.{ascii_is_token_holds}
+use Rattle.opa_words.proofs.Separate.{all_wider, numeric, number_numeric}
 
 numeric_ascii : (c : ℕ) → numeric c ≡ true → is_ascii c ≡ true
 numeric_ascii c h = grind (arith, h)

@@ -5,8 +5,8 @@ use Rattle.opa_tree.specs.declared.kinds.OpKind.{OpKind}
 use Rattle.opa_tree.specs.declared.kinds.OpKind.TheVariants as op
 use Rattle.opa_tree.specs.declared.expr.Expr.{Expr}
 use Rattle.opa_tree.specs.declared.expr.Expr.TheVariants as V
-use Rattle.opa_pieces.specs.Pieces.{symbol, word}
-use Rattle.opa_pieces.specs.Written.{Written, joined}
+use Rattle.opa_words.specs.Pieces.{symbol, word}
+use Rattle.opa_words.specs.Written.{Written, joined}
 use Rattle.opa_sentence.specs.declared.names.Names.{Names}
 use Rattle.opa_sentence.specs.declared.reading.Reading.{Reading}
 use Rattle.opa_sentence.specs.declared.reading.Parts.{Parts}

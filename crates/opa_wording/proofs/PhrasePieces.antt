@@ -20,9 +20,9 @@ use Rattle.opa_words.specs.Places.{IsWithin, IsOfKind, token_text}
 use Rattle.opa_words.specs.Reserved.{phrase_text, begins_well, ends_badly, is_phrase_kind, is_word_kind, is_reserved}
 use Rattle.opa_words.proofs.Letters.{left, right, both}
 use Rattle.opa_words.proofs.PlaceLaws.{tokens_within, tokens_of_kind}
-use Rattle.opa_pieces.specs.Pieces.{Piece, IsPiece, word, number, piece, pieces}
-use Rattle.opa_pieces.specs.Written.{Written, AreWritten, ends_before}
-use Rattle.opa_pieces.proofs.Separate.{none_of, all_append, numeric, number_numeric}
+use Rattle.opa_words.specs.Pieces.{Piece, IsPiece, word, number, piece, pieces}
+use Rattle.opa_words.specs.Written.{Written, AreWritten, ends_before}
+use Rattle.opa_words.proofs.Separate.{none_of, all_append, numeric, number_numeric}
 use Rattle.opa_parse.specs.Phrasing.{IsPhrase}
 use Rattle.opa_wording.specs.Told.{is_sign}
 use Rattle.opa_wording.specs.Wordings.{token, phrase, phrase_word, words_from}

@@ -19,7 +19,7 @@ use Rattle.opa_words.specs.declared.kinds.TokenKind.{TokenKind}
 use Rattle.opa_words.specs.declared.kinds.TokenKind.TheVariants as kind
 use Rattle.opa_words.specs.Phrases.{first_position}
 use Rattle.opa_words.specs.Reserved.{is_word_kind, is_reserved, reserved}
-use Rattle.opa_pieces.specs.Pieces.{Piece, word, number}
+use Rattle.opa_words.specs.Pieces.{Piece, word, number}
 use Rattle.opa_sentence.specs.declared.class.Class.{Class}
 use Rattle.opa_sentence.specs.declared.class.Class.TheVariants as class
 use Rattle.opa_sentence.specs.declared.functions.Function.{Function}

@@ -21,8 +21,8 @@ use Rattle.opa_layout.specs.declared.block.Block.{Block}
 use Rattle.opa_layout.specs.declared.block.BlockLine.{BlockLine}
 use Rattle.opa_layout.specs.Blocks.{AreBlocks, AreDeeper, IsHeaded, block_lines, lines_of}
 use Rattle.opa_layout.proofs.OneLayout.{one_layout_holds}
-use Rattle.opa_pieces.specs.Pieces.{word}
-use Rattle.opa_pieces.specs.Written.{Written, AreWritten, text_of}
+use Rattle.opa_words.specs.Pieces.{word}
+use Rattle.opa_words.specs.Written.{Written, AreWritten, text_of}
 use Rattle.opa_sentence.specs.declared.measure.TheConstants.{MOST_DEPTH, MOST_NODES}
 use Rattle.opa_sentence.specs.declared.names.Names.{Names}
 use Rattle.opa_sentence.specs.declared.reading.Reading.{Reading}

@@ -6,8 +6,8 @@ use Rattle.std.proofs.lemmas.List.{take_more}
 use Rattle.opa_value.specs.declared.value.Value.{Value}
 use Rattle.opa_value.specs.declared.value.Value.TheVariants as value
 use Rattle.opa_value.specs.NumberText.{plain_text, number_text}
-use Rattle.opa_pieces.specs.Pieces.{Piece, word, number, symbol}
-use Rattle.opa_pieces.specs.Written.{Written, gap, text_of, joined}
+use Rattle.opa_words.specs.Pieces.{Piece, word, number, symbol}
+use Rattle.opa_words.specs.Written.{Written, gap, text_of, joined}
 use Rattle.opa_wording.specs.declared.joint.Joint.{Joint}
 use Rattle.opa_wording.specs.Wordings.{Wording, token, bracketed, part, together, literal, phrase, phrase_word, words_from}
 use Rattle.opa_wording.specs.Lines.{literal_text}

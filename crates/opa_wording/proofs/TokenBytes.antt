@@ -13,9 +13,9 @@ use Rattle.opa_words.specs.declared.kinds.TokenKind.TheVariants as kind
 use Rattle.opa_words.specs.Characters.{begins_word, continues_word, is_control}
 use Rattle.opa_words.specs.Kinds.{IsToken, is_word, is_symbol, doubled}
 use Rattle.opa_words.proofs.Letters.{left, right, both, starts, Starts, token_starts, date_parts}
-use Rattle.opa_pieces.specs.Pieces.{Piece, IsPiece}
-use Rattle.opa_pieces.specs.Written.{Written, AreWritten, text_of, gap}
-use Rattle.opa_pieces.proofs.Separate.{none_of, all_wider, all_append, numeric, number_numeric, dated, date_dated}
+use Rattle.opa_words.specs.Pieces.{Piece, IsPiece}
+use Rattle.opa_words.specs.Written.{Written, AreWritten, text_of, gap}
+use Rattle.opa_words.proofs.Separate.{none_of, all_wider, all_append, numeric, number_numeric, dated, date_dated}
 
 -- it is none of these
 abbrev pub avoids : List ℕ → ℕ → Bool

@@ -17,8 +17,8 @@ use Rattle.opa_tree.specs.declared.expr.Expr.{Expr}
 use Rattle.opa_tree.specs.declared.expr.Expr.TheVariants as V
 use Rattle.opa_tree.specs.Trees.{op_arity, quant_arity, window_arity, depth, highest}
 use Rattle.opa_tree.proofs.DepthLaws.{depth-All, depth-Any, depth-Not, depth-Op, depth-Certain, depth-Known, depth-Over, depth-Window, depth-Rolling}
-use Rattle.opa_pieces.specs.Pieces.{symbol, word, number}
-use Rattle.opa_pieces.specs.Written.{joined}
+use Rattle.opa_words.specs.Pieces.{symbol, word, number}
+use Rattle.opa_words.specs.Written.{joined}
 use Rattle.opa_sentence.specs.declared.functions.Function.TheVariants as function
 use Rattle.opa_sentence.specs.declared.names.Names.{Names}
 use Rattle.opa_sentence.specs.declared.names.Relation.TheVariants as relation

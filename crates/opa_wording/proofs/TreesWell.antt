@@ -9,9 +9,9 @@ use Rattle.opa_date.specs.Texts.{day_text}
 use Rattle.opa_model.specs.declared.lists.Lists.{Lists}
 use Rattle.opa_model.specs.Lookups.{attribute_at, relation_at}
 use Rattle.opa_model.specs.declared.things.Kind.TheVariants as kinds
-use Rattle.opa_pieces.specs.Pieces.{Piece, IsPiece, word, number, date}
-use Rattle.opa_pieces.specs.Written.{Written, AreWritten, joined, ends_before}
-use Rattle.opa_pieces.proofs.LawsHold.{written_is_cut_holds}
+use Rattle.opa_words.specs.Pieces.{Piece, IsPiece, word, number, date}
+use Rattle.opa_words.specs.Written.{Written, AreWritten, joined, ends_before}
+use Rattle.opa_words.proofs.LawsHold.{written_is_cut_holds}
 use Rattle.opa_text.specs.Laws.{CanBeWritten}
 use Rattle.opa_text.proofs.WrittenValues.{Apart, apart_ends, value_written}
 use Rattle.opa_tree.specs.declared.kinds.OpKind.{OpKind}

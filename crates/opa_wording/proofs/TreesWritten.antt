@@ -6,10 +6,10 @@ use Rattle.std.specs.Str.{chars}
 use Rattle.ucd_derived.proofs.Computing.{ucd_derived}
 use Rattle.opa_words.specs.declared.kinds.TokenKind.TheVariants as kind
 use Rattle.opa_words.specs.Kinds.{is_word, is_symbol, is_single}
-use Rattle.opa_pieces.specs.Pieces.{Piece, IsPiece, word, symbol}
-use Rattle.opa_pieces.specs.Written.{Written, AreWritten, joined, ends_before, begins_apart, stands_alone}
-use Rattle.opa_pieces.proofs.Ascii.{is_ascii, ascii_chars}
-use Rattle.opa_pieces.proofs.LawsHold.{ascii_is_token_holds}
+use Rattle.opa_words.specs.Pieces.{Piece, IsPiece, word, symbol}
+use Rattle.opa_words.specs.Written.{Written, AreWritten, joined, ends_before, begins_apart, stands_alone}
+use Rattle.opa_words.proofs.Ascii.{is_ascii, ascii_chars}
+use Rattle.opa_words.proofs.LawsHold.{ascii_is_token_holds}
 use Rattle.opa_text.proofs.WrittenValues.{Apart, apart_ends}
 use Rattle.opa_tree.specs.declared.kinds.OpKind.{OpKind}
 use Rattle.opa_tree.specs.declared.kinds.OpKind.TheVariants as op

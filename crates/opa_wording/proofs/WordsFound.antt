@@ -11,8 +11,8 @@ use Rattle.opa_words.specs.declared.kinds.Token.{Token}
 use Rattle.opa_words.specs.Places.{IsWithin, IsOfKind}
 use Rattle.opa_words.specs.Reserved.{joined, phrase_text, is_phrase_kind}
 use Rattle.opa_words.proofs.PlaceLaws.{tokens_within, tokens_of_kind}
-use Rattle.opa_pieces.specs.Pieces.{Piece, word, number, piece, pieces}
-use Rattle.opa_pieces.specs.Written.{Written}
+use Rattle.opa_words.specs.Pieces.{Piece, word, number, piece, pieces}
+use Rattle.opa_words.specs.Written.{Written}
 use Rattle.opa_parse.specs.Phrasing.{IsWorded, IsPhrase}
 use Rattle.opa_sentence.specs.Lexemes.{Lexeme}
 use Rattle.opa_sentence.specs.Phrases.{front_text}

@@ -1,8 +1,8 @@
 -- Laws of written lines.
 use Rattle.std.specs.Prelude.{◌≡◌, ◌*◌, Bool, true, false, List, [], ◌++◌}
 use Rattle.std.specs.Str.{IsUtf8}
-use Rattle.opa_pieces.specs.Pieces.{IsCutInto}
-use Rattle.opa_pieces.specs.Written.{pieces_of}
+use Rattle.opa_words.specs.Pieces.{IsCutInto}
+use Rattle.opa_words.specs.Written.{pieces_of}
 use Rattle.opa_model.specs.declared.lists.Lists.{Lists}
 use Rattle.opa_tree.specs.declared.expr.Expr.{Expr}
 use Rattle.opa_tree.specs.Trees.{depth}

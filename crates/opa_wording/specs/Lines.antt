@@ -4,7 +4,7 @@ use Rattle.opa_value.specs.declared.value.Value.{Value}
 use Rattle.opa_value.specs.declared.value.Value.TheVariants as value
 use Rattle.opa_model.specs.declared.lists.Lists.{Lists}
 use Rattle.opa_model.specs.declared.things.Kind.TheVariants as kind
-use Rattle.opa_pieces.specs.Written.{text_of}
+use Rattle.opa_words.specs.Written.{text_of}
 use Rattle.opa_text.specs.Texts.{value_text}
 use Rattle.opa_tree.specs.declared.expr.Expr.{Expr}
 use Rattle.opa_wording.specs.Wordings.{wording, date_text}

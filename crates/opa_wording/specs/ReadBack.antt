@@ -11,8 +11,8 @@ use Rattle.opa_tree.specs.declared.rules.Rule.{Rule}
 use Rattle.opa_tree.specs.Trees.{depth}
 use Rattle.opa_words.specs.declared.kinds.Token.{Token}
 use Rattle.opa_words.specs.Cuts.{Cuts}
-use Rattle.opa_pieces.specs.Pieces.{Piece}
-use Rattle.opa_pieces.specs.Written.{Written, AreWritten, joined, text_of}
+use Rattle.opa_words.specs.Pieces.{Piece}
+use Rattle.opa_words.specs.Written.{Written, AreWritten, joined, text_of}
 use Rattle.opa_layout.specs.declared.block.Block.{Block}
 use Rattle.opa_layout.specs.Indents.{is_blank}
 use Rattle.opa_layout.specs.Blocks.{AreBlocks, block_lines, lines_of}

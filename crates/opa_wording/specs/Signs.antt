@@ -6,7 +6,7 @@ use Rattle.opa_tree.specs.declared.kinds.Quant.{Quant}
 use Rattle.opa_tree.specs.declared.kinds.Quant.TheVariants as quant
 use Rattle.opa_tree.specs.declared.kinds.WinKind.{WinKind}
 use Rattle.opa_tree.specs.declared.kinds.WinKind.TheVariants as win
-use Rattle.opa_pieces.specs.Pieces.{Piece, word, symbol}
+use Rattle.opa_words.specs.Pieces.{Piece, word, symbol}
 
 -- an operation that is written between its operands
 abbrev pub is_infix : OpKind → Bool

@@ -7,7 +7,7 @@ use Rattle.opa_model.specs.declared.ids.RelId.{RelId}
 use Rattle.opa_model.specs.declared.lists.Lists.{Lists}
 use Rattle.opa_model.specs.Lookups.{attribute_at, relation_at, attribute_phrases, relation_phrases}
 use Rattle.opa_model.specs.Models.{HasAttribute, HasRelation}
-use Rattle.opa_pieces.specs.Written.{Written, AreWritten}
+use Rattle.opa_words.specs.Written.{Written, AreWritten}
 use Rattle.opa_tree.specs.declared.expr.Expr.{Expr}
 use Rattle.opa_tree.specs.declared.expr.Expr.TheVariants as expr
 use Rattle.opa_tree.specs.declared.rules.Inferred.{Inferred}

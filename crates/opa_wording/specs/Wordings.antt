@@ -16,8 +16,8 @@ use Rattle.opa_tree.specs.declared.kinds.OpKind.{OpKind}
 use Rattle.opa_tree.specs.declared.expr.Expr.{Expr}
 use Rattle.opa_tree.specs.declared.expr.Expr.TheOpen.{Expr-F, Row-F, Const, Attr, All, Any, Not, Op, Certain, Known, Over, Window, Rolling, Table}
 use Rattle.opa_tree.specs.declared.expr.Expr.TheFolds.{fold-Expr}
-use Rattle.opa_pieces.specs.Pieces.{Piece, word, number, date, symbol, text}
-use Rattle.opa_pieces.specs.Written.{Written, spaced, joined}
+use Rattle.opa_words.specs.Pieces.{Piece, word, number, date, symbol, text}
+use Rattle.opa_words.specs.Written.{Written, spaced, joined}
 use Rattle.opa_text.specs.Texts.{bool_text}
 use Rattle.opa_wording.specs.declared.joint.Joint.{Joint}
 use Rattle.opa_wording.specs.declared.joint.Joint.TheVariants as joint

@@ -18,5 +18,3 @@ pub use lines::line_text;
 pub use rules::rule_text;
 pub use texts::{blocks_are_texts, phrases_are_texts};
 
-#[cfg(test)]
-mod tests;

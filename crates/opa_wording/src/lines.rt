@@ -2,8 +2,8 @@
 ghost use Rattle.std.specs.Prelude.{◌≡◌, ◌++◌, ◌∷◌, [], map, true, false, decimal, OnOk, IfOk};
 ghost use Rattle.std.specs.String.{string_bytes};
 ghost use Rattle.opa_model.specs.Lookups.{attribute_at, relation_at};
-ghost use Rattle.opa_pieces.specs.Pieces.{word};
-ghost use Rattle.opa_pieces.specs.Written.{gap, text_of};
+ghost use Rattle.opa_words.specs.Pieces.{word};
+ghost use Rattle.opa_words.specs.Written.{gap, text_of};
 ghost use Rattle.opa_wording.specs.Signs.{quant_text as quant_text_of, rolling_text as rolling_text_of};
 ghost use Rattle.opa_wording.specs.Wordings.{token, bracketed, call, denial, in_brackets, listed, operation, over_days, part, phrase_of_attribute, phrase_of_relation, placed, separator as separator_of, together, wording};
 ghost use Rattle.opa_wording.specs.Lines.{line_text as line_text_of};

@@ -2,7 +2,7 @@
 ghost use Rattle.std.specs.Prelude.{◌≡◌, ◌++◌, ◌<◌, OnOk, IfOk, if◌then◌else◌, nat_lt, []};
 ghost use Rattle.std.specs.String.{string_bytes};
 ghost use Rattle.opa_model.specs.declared.things.Kind.TheVariants.{Number as NumberKind};
-ghost use Rattle.opa_pieces.specs.Written.{gap, text_of};
+ghost use Rattle.opa_words.specs.Written.{gap, text_of};
 ghost use Rattle.opa_text.specs.Texts.{value_text as value_text_of};
 ghost use Rattle.opa_wording.specs.Wordings.{literal, phrase, date_text as date_text_of};
 ghost use Rattle.opa_wording.specs.Lines.{literal_text as literal_text_of};

@@ -10,3 +10,9 @@ pub mod PhraseLaws
 pub mod JoinedLaws
 pub mod FoundLaws
 pub mod QuoteLaws
+pub mod Separate
+pub mod LongestPieces
+pub mod Ascii
+pub mod Quoting
+pub mod Writing
+pub mod LawsHold

@@ -7,3 +7,6 @@ pub mod Places
 pub mod Reserved
 pub mod Phrases
 pub mod Quotes
+pub mod Pieces
+pub mod Written
+pub mod PieceLaws

@@ -1,4 +1,4 @@
-//! The tokens of a text, and the phrases that stand among them.
+//! The tokens of a text with their texts, texts that are written token by token, and the phrases that stand among tokens.
 #![tactic(auto)]
 
 mod characters;
@@ -8,6 +8,8 @@ mod fault;
 mod kinds;
 mod laws;
 mod phrases;
+mod piece_laws;
+mod pieces;
 mod positions;
 mod quotes;
 mod reserved;
@@ -18,8 +20,8 @@ pub use fault::WordFault;
 pub use kinds::{Token, TokenKind};
 pub use laws::{one_cut, quoted_tells_apart};
 pub use phrases::Phrases;
+pub use piece_laws::{ascii_is_token, one_cutting, quoted_is_token, written_is_cut};
+pub use pieces::Pieces;
 pub use quotes::{quoted, text_of_token};
 pub use reserved::{is_ending, is_phrase, is_reserved, phrase_text, token_text};
 
-#[cfg(test)]
-mod tests;

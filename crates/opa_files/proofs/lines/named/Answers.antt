@@ -2,7 +2,7 @@ use Rattle.std.proofs.Common.{◌≡◌, length, subst, ap, ◌∙◌, arith}
 use Rattle.std.specs.Str.{chars}
 use Rattle.opa_words.specs.Cuts.{IsCause}
 use Rattle.opa_layout.specs.Indents.{level}
-use Rattle.opa_pieces.specs.Pieces.{seen, pieces}
+use Rattle.opa_words.specs.Pieces.{seen, pieces}
 use Rattle.opa_files.proofs.FileLineLaws.{stuck_names_none, read_as}
 use Rattle.opa_files.proofs.lines.named.Goals as goal
 

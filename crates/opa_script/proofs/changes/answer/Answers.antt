@@ -1,7 +1,7 @@
 use Rattle.std.proofs.Common.{ℕ, List}
 use Rattle.opa_value.specs.declared.value.Value.{Value}
 use Rattle.opa_text.specs.Spelled.{SpellsLine}
-use Rattle.opa_pieces.specs.Pieces.{seen}
+use Rattle.opa_words.specs.Pieces.{seen}
 use Rattle.opa_text.proofs.ChangeLaws.{match_none}
 use Rattle.opa_script.proofs.Found.{given_found, given_missing, attribute_found, attribute_missing}
 use Rattle.opa_script.proofs.Exits.{answer_shape, answer_name, answer_unread}

@@ -1,4 +1,4 @@
-use Rattle.opa_pieces.specs.Pieces.{seen}
+use Rattle.opa_words.specs.Pieces.{seen}
 use Rattle.opa_script.proofs.Found.{point_found, point_missing, relation_missing}
 use Rattle.opa_script.proofs.Exits.{forget_name}
 use Rattle.opa_script.proofs.changes.forget.Goals as goal

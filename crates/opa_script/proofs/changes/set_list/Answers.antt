@@ -1,6 +1,6 @@
 use Rattle.std.proofs.Common.{ℕ, List}
 use Rattle.opa_text.specs.Spelled.{SpellsNames}
-use Rattle.opa_pieces.specs.Pieces.{seen}
+use Rattle.opa_words.specs.Pieces.{seen}
 use Rattle.opa_text.proofs.ChangeLaws.{match_none}
 use Rattle.opa_script.proofs.Found.{given_found, given_missing, relation_found, relation_missing}
 use Rattle.opa_script.proofs.Exits.{list_shape, list_name, list_unread}

@@ -1,5 +1,5 @@
 use Rattle.std.proofs.Common.{◌≡◌, ◌∷◌, [], ℕ, List, length, ap, arith}
-use Rattle.opa_pieces.specs.Pieces.{seen, text}
+use Rattle.opa_words.specs.Pieces.{seen, text}
 use Rattle.opa_text.proofs.ChangeLaws.{match_some}
 use Rattle.opa_script.proofs.Exits.{no_file_name}
 use Rattle.opa_script.proofs.files.file_name.Goals as goal

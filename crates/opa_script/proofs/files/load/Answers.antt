@@ -1,4 +1,4 @@
-use Rattle.opa_pieces.specs.Pieces.{seen}
+use Rattle.opa_words.specs.Pieces.{seen}
 use Rattle.opa_script.proofs.Exits.{load_read}
 use Rattle.opa_script.proofs.files.load.Goals as goal
 

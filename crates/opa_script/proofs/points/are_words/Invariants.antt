@@ -1,5 +1,5 @@
 use Rattle.std.proofs.Common.{◌≡◌, length}
-use Rattle.opa_pieces.specs.Pieces.{seen, AreOfKind}
+use Rattle.opa_words.specs.Pieces.{seen, AreOfKind}
 use Rattle.opa_script.specs.Shapes as meant
 use Rattle.opa_script.proofs.points.are_words.Given as goal
 

@@ -1,5 +1,5 @@
 use Rattle.std.proofs.Common.{sym}
-use Rattle.opa_pieces.specs.Pieces.{seen}
+use Rattle.opa_words.specs.Pieces.{seen}
 use Rattle.opa_script.proofs.Passing.{passed_more, passed_equals}
 use Rattle.opa_script.proofs.points.at_equals.Goals as goal
 

@@ -1,5 +1,5 @@
 use Rattle.std.proofs.Common.{sym}
-use Rattle.opa_pieces.specs.Pieces.{seen}
+use Rattle.opa_words.specs.Pieces.{seen}
 use Rattle.opa_script.proofs.PieceLists.{last_left}
 use Rattle.opa_script.proofs.PointLaws.{ends_here, ends_not}
 use Rattle.opa_script.proofs.points.ends_with.Goals as goal

@@ -1,5 +1,5 @@
 use Rattle.std.proofs.Common.{sym}
-use Rattle.opa_pieces.specs.Pieces.{seen}
+use Rattle.opa_words.specs.Pieces.{seen}
 use Rattle.opa_script.proofs.Found.{given_nothing, given_pointless, point_missing}
 use Rattle.opa_script.proofs.points.given.Goals as goal
 

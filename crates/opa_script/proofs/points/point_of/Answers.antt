@@ -1,5 +1,5 @@
 use Rattle.std.proofs.lemmas.Result.{IfOk-weaker}
-use Rattle.opa_pieces.specs.Pieces.{seen}
+use Rattle.opa_words.specs.Pieces.{seen}
 use Rattle.opa_script.proofs.Found.{named_or}
 use Rattle.opa_script.proofs.points.point_of.Goals as goal
 

@@ -1,6 +1,6 @@
 use Rattle.std.proofs.Common.{sym, ap, ◌∙◌, inr}
 use Rattle.std.proofs.lemmas.Result.{IfErr-weaker, IfOk-weaker}
-use Rattle.opa_pieces.specs.Pieces.{seen, pieces}
+use Rattle.opa_words.specs.Pieces.{seen, pieces}
 use Rattle.opa_script.proofs.Found.{has_tokens, uncut_command, tokens_none}
 use Rattle.opa_script.proofs.reading.read_command.Goals as goal
 

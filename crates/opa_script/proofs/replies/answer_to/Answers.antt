@@ -1,6 +1,6 @@
 use Rattle.std.proofs.Common.{ℕ, List}
 use Rattle.opa_value.specs.declared.value.Value.{Value}
-use Rattle.opa_pieces.specs.Pieces.{seen}
+use Rattle.opa_words.specs.Pieces.{seen}
 use Rattle.opa_text.specs.Spelled.{SpellsLine}
 use Rattle.opa_text.proofs.ChangeLaws.{match_none}
 use Rattle.opa_script.proofs.Found.{no_line_change}

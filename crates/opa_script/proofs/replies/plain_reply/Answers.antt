@@ -1,6 +1,6 @@
 use Rattle.std.proofs.Common.{sym, ap, ◌∙◌}
 use Rattle.std.proofs.lemmas.Result.{IfErr-weaker}
-use Rattle.opa_pieces.specs.Pieces.{seen, pieces}
+use Rattle.opa_words.specs.Pieces.{seen, pieces}
 use Rattle.opa_script.proofs.Found.{has_tokens, uncut_reply, unanswered}
 use Rattle.opa_script.proofs.replies.plain_reply.Goals as goal
 

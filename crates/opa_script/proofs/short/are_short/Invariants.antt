@@ -1,5 +1,5 @@
 use Rattle.std.proofs.Common.{length}
-use Rattle.opa_pieces.specs.Pieces.{seen, AreOfKind}
+use Rattle.opa_words.specs.Pieces.{seen, AreOfKind}
 use Rattle.opa_script.proofs.Passing.{IsAsShort}
 use Rattle.opa_script.proofs.short.are_short.Given as goal
 

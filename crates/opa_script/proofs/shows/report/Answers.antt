@@ -1,5 +1,5 @@
 use Rattle.std.proofs.Common.{sym}
-use Rattle.opa_pieces.specs.Pieces.{seen}
+use Rattle.opa_words.specs.Pieces.{seen}
 use Rattle.opa_script.proofs.Found.{point_found, point_missing, attribute_found, attribute_missing}
 use Rattle.opa_script.proofs.Exits.{report_shape, report_name, report_unread, is_dated, no_day}
 use Rattle.opa_script.proofs.shows.report.Goals as goal

@@ -1,4 +1,4 @@
-use Rattle.opa_pieces.specs.Pieces.{seen}
+use Rattle.opa_words.specs.Pieces.{seen}
 use Rattle.opa_text.proofs.ChangeLaws.{match_none}
 use Rattle.opa_script.specs.Commands.{NamesNothing, Shows}
 use Rattle.opa_script.proofs.Found.{point_found, point_missing}

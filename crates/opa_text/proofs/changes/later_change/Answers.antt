@@ -1,5 +1,5 @@
 use Rattle.std.proofs.Common.{arith}
-use Rattle.opa_pieces.specs.Pieces.{seen}
+use Rattle.opa_words.specs.Pieces.{seen}
 use Rattle.opa_text.proofs.ChangeLaws.{change_told, no_change, not_later, change_shorter}
 use Rattle.opa_text.proofs.changes.later_change.Goals as goal
 

@@ -1,6 +1,6 @@
 use Rattle.std.proofs.Common.{ℕ, List}
 use Rattle.opa_value.specs.declared.value.Value.{Value}
-use Rattle.opa_pieces.specs.Pieces.{seen}
+use Rattle.opa_words.specs.Pieces.{seen}
 use Rattle.opa_text.specs.Spelled.{SpellsPairs}
 use Rattle.opa_text.proofs.ChangeLaws.{pairs_faultless, line_days, match_some}
 use Rattle.opa_text.proofs.changes.line_of.Goals as goal

@@ -1,7 +1,7 @@
 use Rattle.std.proofs.Common.{ℕ, List, sym, ◌∙◌}
 use Rattle.opa_value.specs.declared.value.Value.{Value}
-use Rattle.opa_pieces.specs.declared.pieces.Pieces.{Pieces}
-use Rattle.opa_pieces.specs.Pieces.{Piece, seen, AreOfKind}
+use Rattle.opa_words.specs.declared.pieces.Pieces.{Pieces}
+use Rattle.opa_words.specs.Pieces.{Piece, seen, AreOfKind}
 use Rattle.opa_text.specs.Spelled.{SpellsLater}
 use Rattle.opa_text.proofs.ChangeLaws.{match_some, match_none, if_some, reached_more, reached_none, reached_end}
 use Rattle.opa_text.proofs.NameLaws.{empty_is, empty_not}

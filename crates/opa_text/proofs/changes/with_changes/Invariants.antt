@@ -1,5 +1,5 @@
 use Rattle.std.proofs.Common.{length}
-use Rattle.opa_pieces.specs.Pieces.{seen, AreOfKind}
+use Rattle.opa_words.specs.Pieces.{seen, AreOfKind}
 use Rattle.opa_text.proofs.ChangeLaws.{Reached}
 use Rattle.opa_text.proofs.changes.with_changes.Given as goal
 

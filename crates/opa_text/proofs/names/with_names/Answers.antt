@@ -1,6 +1,6 @@
 use Rattle.std.proofs.Common.{ℕ, List, sym, ◌∙◌}
-use Rattle.opa_pieces.specs.declared.pieces.Pieces.{Pieces}
-use Rattle.opa_pieces.specs.Pieces.{Piece, seen, AreOfKind}
+use Rattle.opa_words.specs.declared.pieces.Pieces.{Pieces}
+use Rattle.opa_words.specs.Pieces.{Piece, seen, AreOfKind}
 use Rattle.opa_text.specs.Spelled.{SpellsNext}
 use Rattle.opa_text.proofs.ChangeLaws.{match_some, match_none, if_some}
 use Rattle.opa_text.proofs.NameLaws.{named_more, named_none, named_end, empty_is, empty_not}

@@ -1,6 +1,6 @@
 use Rattle.std.proofs.Common.{ℕ, List, ap, ◌∙◌}
 use Rattle.opa_value.specs.declared.value.Value.{Value}
-use Rattle.opa_pieces.specs.Pieces.{seen, pieces}
+use Rattle.opa_words.specs.Pieces.{seen, pieces}
 use Rattle.opa_text.specs.Spelled.{SpellsLine}
 use Rattle.opa_text.proofs.ChangeLaws.{match_none}
 use Rattle.opa_text.proofs.WholeLaws.{uncut_line, no_line}

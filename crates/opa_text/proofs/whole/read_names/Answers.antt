@@ -1,5 +1,5 @@
 use Rattle.std.proofs.Common.{ℕ, List, ap, ◌∙◌}
-use Rattle.opa_pieces.specs.Pieces.{seen, pieces}
+use Rattle.opa_words.specs.Pieces.{seen, pieces}
 use Rattle.opa_text.specs.Spelled.{SpellsNames}
 use Rattle.opa_text.proofs.ChangeLaws.{match_none}
 use Rattle.opa_text.proofs.WholeLaws.{uncut_names, no_names}

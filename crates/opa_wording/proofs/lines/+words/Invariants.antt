@@ -1,7 +1,7 @@
 use Rattle.std.proofs.Common.{◌≡◌, ◌++◌, map, take}
 use Rattle.std.specs.Prelude.{◌&&◌}
 use Rattle.std.specs.String.{string_bytes}
-use Rattle.opa_pieces.specs.Written.{text_of}
+use Rattle.opa_words.specs.Written.{text_of}
 use Rattle.opa_wording.specs.Wordings.{together, wording}
 use Rattle.opa_wording.proofs.TextLaws.{is_nil}
 use Rattle.opa_wording.proofs.lines.+words.Given as goal

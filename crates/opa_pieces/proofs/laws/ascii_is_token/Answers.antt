@@ -1,5 +1,0 @@
-use Rattle.opa_pieces.proofs.LawsHold.{ascii_is_token_holds}
-use Rattle.opa_pieces.proofs.laws.ascii_is_token.Goals as goal
-
-pub returns : goal.returns
-returns c = ascii_is_token_holds

@@ -1,5 +1,0 @@
-use Rattle.opa_pieces.proofs.LawsHold.{quoted_is_token_holds}
-use Rattle.opa_pieces.proofs.laws.quoted_is_token.Goals as goal
-
-pub returns : goal.returns
-returns c = quoted_is_token_holds

@@ -1,5 +1,0 @@
-use Rattle.opa_pieces.proofs.LawsHold.{written_is_cut_holds}
-use Rattle.opa_pieces.proofs.laws.written_is_cut.Goals as goal
-
-pub returns : goal.returns
-returns c = written_is_cut_holds
