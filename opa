@@ -1,18 +1,34 @@
 #!/usr/bin/env bash
 # Builds the proved program where it isn't built yet, and runs it with the words given.
+# With --unproved before them it runs the program before any proof: a first look in minutes, over which nothing was proved.
 set -e
 here="$(cd "$(dirname "${BASH_SOURCE[0]}")" && pwd)"
 program="$here/crates/opa/out/opa"
+
+if [ "${1:-}" = "--unproved" ]; then
+  shift
+  echo "opa: nothing is proved for this run" >&2
+  # `rt try` hands the program a copy of each file of its folder that a word names.
+  room="$(mktemp -d)"
+  trap 'rm -rf "$room"' EXIT
+  mkdir "$room/crates"
+  cp "$here/crates.txt" "$here/HANDLES" "$room/"
+  cp -r "$here/crates/"* "$room/crates/"
+  rm -rf "$room"/crates/*/out
+  files=()
+  for word in "$@"; do
+    if [ -f "$word" ]; then
+      cp "$word" "$room/crates/opa/$(basename "$word")"
+      files+=("$(basename "$word")")
+    else
+      files+=("$word")
+    fi
+  done
+  cd "$room/crates/opa" && rt try -- "${files[@]}"
+  exit
+fi
+
 if [ ! -x "$program" ]; then
-  echo "building the proved program; this takes some minutes the first time" >&2
-  log="$(mktemp)"
-  # `rt run` proves and links the program, and then runs it without words, which is Usage.
-  (cd "$here/crates/opa" && rt run >"$log" 2>&1 </dev/null) || true
-  if [ ! -x "$program" ]; then
-    cat "$log" >&2
-    rm -f "$log"
-    exit 70
-  fi
-  rm -f "$log"
+  "$here/tools/build" "$here" >&2
 fi
 exec "$program" "$@"

@@ -1,0 +1,67 @@
+// Plays a story: the public call over a shelf, a source and a sink in memory.
+use crate::story::{Fault, Story, StoryFile};
+use opa_io::{MemShelf, MemSink, MemSource};
+use opa_top::run;
+use std::alloc::Global;
+
+/// What a run did otherwise than its story says.
+#[derive(Drop)]
+pub enum Difference {
+    Status(u8),
+    Prints(Vec<u8>),
+    After(String),
+    Gone(String),
+}
+
+/// The files, as a shelf in memory has them.
+fn held(alloc: Global, files: &[StoryFile]) -> Result<Vec<(String, Vec<u8>)>, Fault> {
+    let mut held = Vec::new(alloc);
+    for file in files {
+        let name = String::from_str(alloc, file.name.as_str())?;
+        held.push((name, file.bytes.as_slice().to_vec(alloc)?))?;
+    }
+    Ok(held)
+}
+
+/// The first file that isn't as it must be afterwards.
+fn other_file(alloc: Global, story: &Story, shelf: &MemShelf) -> Result<Option<Difference>, Fault> {
+    for file in story.after.as_slice() {
+        if shelf
+            .file(file.name.as_str())
+            .is_none_or(|bytes| bytes != file.bytes.as_slice())
+        {
+            return Ok(Some(Difference::After(String::from_str(alloc, file.name.as_str())?)));
+        }
+    }
+    for name in story.gone.as_slice() {
+        if shelf.file(name.as_str()).is_some() {
+            return Ok(Some(Difference::Gone(String::from_str(alloc, name.as_str())?)));
+        }
+    }
+    Ok(None)
+}
+
+/// Runs what the story asks for. Answers what differs, where something does.
+pub fn play(alloc: Global, story: &Story) -> Result<Option<Difference>, Fault> {
+    let failing = &story.failing;
+    let takes = failing.takes.as_slice().to_vec(alloc)?;
+    let keeps = failing.keeps.as_slice().to_vec(alloc)?;
+    let mut shelf = MemShelf::new(alloc, held(alloc, &story.shelf)?, takes, keeps);
+    let reads = failing.reads.as_slice().to_vec(alloc)?;
+    let input = story.input.as_slice().to_vec(alloc)?;
+    let mut source = MemSource::new(input, reads, story.read.max(1));
+    let writes = failing.writes.as_slice().to_vec(alloc)?;
+    let mut sink = MemSink::new(alloc, writes, story.written.max(1));
+    let status = run(alloc, &story.words, &mut shelf, &mut source, &mut sink).number();
+    if u64::from(status) != story.status {
+        return Ok(Some(Difference::Status(status)));
+    }
+    if story
+        .prints
+        .as_ref()
+        .is_none_or(|prints| prints.as_slice() != sink.bytes())
+    {
+        return Ok(Some(Difference::Prints(sink.bytes().to_vec(alloc)?)));
+    }
+    other_file(alloc, story, &shelf)
+}

@@ -1,0 +1,111 @@
+// Changes that are made by hand.
+use crate::points::{attribute, instance};
+use crate::told::after;
+use opa_case::{ChangeCommand, InstanceId, Refusal};
+use opa_io::{List, NoMemory, Txt};
+use opa_line::Line;
+use opa_model::{AttrId, EntityId, Model, RelId};
+use opa_session::Session;
+use opa_value::Value;
+use std::alloc::Global;
+use std::test::Fail;
+use tests_samples::texts;
+
+/// True and false in turn, so many pairs.
+fn alternating(alloc: Global, count: u32) -> Result<Line<Value>, Fail> {
+    let mut pairs = Vec::new(alloc);
+    for day in 0..count {
+        pairs.push((day, Value::Bool(day % 2 == 0)))?;
+    }
+    let line = Line::from_pairs(alloc, pairs)?;
+    Ok(line)
+}
+
+/// Makes a change of something that is declared.
+fn made(session: &mut Session, change: ChangeCommand) -> Result<(), Refusal> {
+    if session.declares(&change) {
+        session.apply(change)
+    } else {
+        Err(Refusal::Name)
+    }
+}
+
+/// The answer that the claimant is an adult, by so many pairs.
+fn long_answer(alloc: Global, model: &Model, count: u32) -> Result<ChangeCommand, Fail> {
+    let attr = attribute(model, "the claimant is an adult")?;
+    let inst = instance(alloc, model, attr, "")?;
+    let line = alternating(alloc, count)?;
+    Ok(ChangeCommand::Answer(attr, inst, line))
+}
+
+/// Why an answer of so many pairs is refused.
+fn refusal_of(alloc: Global, count: u32) -> Result<Option<Refusal>, Fail> {
+    let mut session = after(alloc, &[("main", texts::CLAIMANT)], &[])?;
+    let change = long_answer(alloc, &session.base().model, count)?;
+    Ok(made(&mut session, change).err())
+}
+
+#[test]
+fn pairs_of_an_answer(rt: HostRuntime) -> Result<(), Fail> {
+    for (count, want) in [(1_001, Some(Refusal::Limit)), (1_000, None)] {
+        let refusal = refusal_of(rt.alloc(), count)?;
+        assert_eq!(rt; refusal, want);
+    }
+    Ok(())
+}
+
+/// A withdrawal of a global answer.
+fn withdrawal(alloc: Global, place: u32) -> Result<ChangeCommand, NoMemory> {
+    let inst = InstanceId::global(alloc)?;
+    Ok(ChangeCommand::Withdraw(AttrId(place), inst))
+}
+
+/// A list of no names.
+fn no_names(alloc: Global, place: u32) -> Result<ChangeCommand, NoMemory> {
+    let inst = InstanceId::global(alloc)?;
+    Ok(ChangeCommand::SetList(RelId(place), inst, List::new(alloc)))
+}
+
+/// Whether the family's rulebase declares an attribute and a relation with this number.
+fn declares_both(alloc: Global, place: u32) -> Result<(bool, bool), Fail> {
+    let session = after(alloc, &[("main", texts::FAMILY)], &[])?;
+    let answer = withdrawal(alloc, place)?;
+    let list = no_names(alloc, place)?;
+    Ok((session.declares(&answer), session.declares(&list)))
+}
+
+#[test]
+fn what_is_declared(rt: HostRuntime) -> Result<(), Fail> {
+    for (place, want) in [(0, true), (1, true), (2, false)] {
+        let found = declares_both(rt.alloc(), place)?;
+        assert_eq!(rt; found, (want, want));
+    }
+    Ok(())
+}
+
+/// Whether an attribute of Anna's family has a place at the instance of an entity with a name.
+fn has_place(alloc: Global, attr: u32, entity: u32, name: &str) -> Result<bool, Fail> {
+    let session = after(alloc, &[("main", texts::FAMILY)], &[ANNA])?;
+    let inst = InstanceId {
+        entity: EntityId(entity),
+        name: Txt::from_str(alloc, name)?,
+    };
+    Ok(session.has_place(AttrId(attr), &inst))
+}
+
+const ANNA: &str = "list the children = \"Anna\"";
+
+#[test]
+fn places(rt: HostRuntime) -> Result<(), Fail> {
+    for (attr, entity, name, want) in [
+        (0, 0, "", true),
+        (1, 1, "Anna", true),
+        (1, 1, "Ben", false),
+        (1, 0, "", false),
+        (0, 1, "Anna", false),
+    ] {
+        let found = has_place(rt.alloc(), attr, entity, name)?;
+        assert_eq!(rt; found, want);
+    }
+    Ok(())
+}

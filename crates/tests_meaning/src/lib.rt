@@ -1,0 +1,19 @@
+//! Tests alone: what is determined of loaded rulebases, day by day and as code, and what rules look at.
+#![tactic(auto)]
+
+#[cfg(test)]
+mod carried;
+#[cfg(test)]
+mod changed;
+#[cfg(test)]
+mod looked;
+#[cfg(test)]
+mod meant;
+#[cfg(test)]
+mod placed;
+#[cfg(test)]
+mod points;
+#[cfg(test)]
+mod printed;
+#[cfg(test)]
+mod told;

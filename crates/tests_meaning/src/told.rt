@@ -1,0 +1,110 @@
+// What a session answers to lines of input.
+use crate::printed::line_words;
+use opa_case::{ChangeCommand, InstanceId};
+use opa_line::Line;
+use opa_model::{AttrId, Model, RelId};
+use opa_script::{CmdFault, Command, read_command};
+use opa_session::Session;
+use opa_text::{names_text, point_text};
+use opa_value::Value;
+use std::alloc::Global;
+use std::test::Fail;
+use tests_samples::load;
+
+/// The session after lines of input, each of which prints nothing.
+pub(crate) fn after(
+    alloc: Global,
+    files: &[(&str, &str)],
+    input: &[&str],
+) -> Result<Session, Fail> {
+    let base = load(alloc, files)?;
+    let mut session = Session::start(alloc, base)?;
+    for line in input {
+        let found = reply(alloc, &mut session, line)?;
+        if !found.is_empty() {
+            return Err(Fail::new("a line is refused"));
+        }
+    }
+    Ok(session)
+}
+
+/// What a line of input prints.
+fn reply(alloc: Global, session: &mut Session, line: &str) -> Result<String, Fail> {
+    match read_command(alloc, &session.base().model, line.as_bytes()) {
+        Ok(command) => carry_out(alloc, session, command),
+        Err(fault) => refused_command(alloc, fault),
+    }
+}
+
+fn refused_command(alloc: Global, fault: CmdFault) -> Result<String, Fail> {
+    let number = match fault {
+        CmdFault::NotACommand => 1,
+        CmdFault::Name => 2,
+        CmdFault::Value => 3,
+        CmdFault::NoMemory => 0,
+    };
+    Ok(format!(in alloc; "refused: command {number}")?)
+}
+
+fn carry_out(alloc: Global, session: &mut Session, command: Command) -> Result<String, Fail> {
+    match command {
+        Command::Change(change) => changed(alloc, session, change),
+        Command::ShowAttr(attr, inst) => shown(alloc, session, attr, &inst),
+        Command::ShowMembers(rel, inst) => listed(alloc, session, rel, &inst),
+        _ => Ok(String::from_str(alloc, "another command")?),
+    }
+}
+
+/// Makes a change: nothing is printed, or why it is refused.
+fn changed(alloc: Global, session: &mut Session, change: ChangeCommand) -> Result<String, Fail> {
+    if !session.declares(&change) {
+        return Ok(String::from_str(alloc, "undeclared")?);
+    }
+    match session.apply(change) {
+        Ok(()) => Ok(String::new(alloc)),
+        Err(refusal) => {
+            let number = refusal.number();
+            Ok(format!(in alloc; "refused: change {number}")?)
+        }
+    }
+}
+
+/// An attribute with the line that is shown.
+fn shown(
+    alloc: Global,
+    session: &Session,
+    attr: AttrId,
+    inst: &InstanceId,
+) -> Result<String, Fail> {
+    match session.value(alloc, attr, inst)? {
+        None => Ok(String::from_str(alloc, "refused: point")?),
+        Some(line) => point_line(alloc, &session.base().model, attr, inst, &line),
+    }
+}
+
+fn point_line(
+    alloc: Global,
+    model: &Model,
+    attr: AttrId,
+    inst: &InstanceId,
+    line: &Line<Value>,
+) -> Result<String, Fail> {
+    if attr.0 >= model.attribute_count() {
+        return Ok(String::from_str(alloc, "undeclared")?);
+    }
+    let declared = model.attribute(attr);
+    let point = point_text(alloc, &declared.phrase, inst)?;
+    let words = line_words(alloc, declared.kind, line)?;
+    Ok(format!(in alloc; "{}: {words}", point.as_str())?)
+}
+
+/// A relation with the names that it lists.
+fn listed(alloc: Global, session: &Session, rel: RelId, inst: &InstanceId) -> Result<String, Fail> {
+    if rel.0 >= session.base().model.relation_count() {
+        return Ok(String::from_str(alloc, "undeclared")?);
+    }
+    let declared = session.base().model.relation(rel);
+    let point = point_text(alloc, &declared.phrase, inst)?;
+    let names = names_text(alloc, session.case().list_of(rel, inst))?;
+    Ok(format!(in alloc; "{}: {}", point.as_str(), names.as_str())?)
+}
