@@ -1,7 +1,7 @@
 // The outside in memory and of the system; texts, lists and boxes.
 use opa_io::{
-    Boxed, FileShelf, List, MemShelf, Same, Shelf, Sink, Source, Status, StdSink, StdSource, Txt,
-    front, write_all_of,
+    Boxed, FileShelf, List, MemShelf, Same, Shelf, Sink, Source, Status, StdSink, StdSource,
+    TakeFault, Txt, front, write_all_of,
 };
 use std::cmp::Ordering;
 use std::test::Fail;
@@ -36,8 +36,14 @@ fn files_are_a_shelf(rt: HostRuntime) -> Result<(), Fail> {
         taken.is_ok_and(|bytes| bytes.as_slice() == b"abc".as_slice()),
         true
     );
-    assert_eq!(rt; shelf.take(alloc, "kept.txt", 2).is_err(), true);
-    assert_eq!(rt; shelf.take(alloc, "no such file.txt", 3).is_err(), true);
+    assert!(rt; matches!(shelf.take(alloc, "kept.txt", 2), Err(TakeFault::TooLong)));
+    assert!(rt; matches!(shelf.take(alloc, ".", 3), Err(TakeFault::Failed)));
+    assert!(rt;
+        matches!(
+            shelf.take(alloc, "no such file.txt", 3),
+            Err(TakeFault::Missing)
+        )
+    );
     Ok(())
 }
 
