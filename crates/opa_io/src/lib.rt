@@ -11,6 +11,7 @@ mod outside;
 mod same;
 mod shelf;
 mod standard;
+mod steps;
 mod text;
 mod witness;
 
@@ -23,6 +24,6 @@ pub use outside::{Shelf, Sink, Source, write_all_of};
 pub use same::Same;
 pub use shelf::MemShelf;
 pub use standard::{StdSink, StdSource};
+pub use steps::Steps;
 pub use text::Txt;
 pub use witness::Witness;
-

@@ -10,6 +10,7 @@ pub mod PhraseLaws
 pub mod JoinedLaws
 pub mod FoundLaws
 pub mod QuoteLaws
+pub mod FrontLaws
 pub mod Separate
 pub mod LongestPieces
 pub mod Ascii

@@ -7,7 +7,7 @@ use Rattle.std.specs.Str.{chars, IsUtf8}
 use lib.Utf8.{encode, encodes}
 use Rattle.std.proofs.lemmas.Str.{encodes-chars, encodes-append, inside_one}
 use Rattle.opa_words.specs.Kinds.{doubled, quoted, IsText}
-use Rattle.opa_words.specs.Quotes.{HasNoQuote, SplitsAtQuote, BeginsWithQuote, IsDoubled, QuotedTellsApart}
+use Rattle.opa_words.specs.Quotes.{HasNoQuote, SplitsAtQuote, BeginsWithQuote, IsDoubled, IsQuoted, QuotedTellsApart}
 
 not_quote : (b : ℕ) → b ≢ 34 → (b == 34) ≡ false
 not_quote b h = grind (arith, h)
@@ -116,7 +116,8 @@ encodes_doubled (c ∷ cs) = go (c == 34) refl (encodes_doubled cs)
     go true e h = ap (λ x. 34 ∷ 34 ∷ x) h ∙ ap (λ x. doubled (encode x ++ encodes cs)) (sym (quote_is c e))
     go false e h = ap (λ x. encode c ++ x) h ∙ ap (λ x. x ++ doubled (encodes cs)) (sym (doubled_plain (encode c) (encode_plain c e))) ∙ sym (doubled-append (encode c) (encodes cs))
 
-pub text_is : (bs : List ℕ) → IsUtf8 bs → IsText (chars bs) → (inner : List ℕ) × (bs ≡ quoted inner)
+-- a Text token is a text between quotes in bytes too
+pub text_is : (bs : List ℕ) → IsUtf8 bs → IsText (chars bs) → IsQuoted bs
 unfolding encode
 text_is bs u t =
     (encodes t.0, sym (encodes-chars bs u) ∙ ap encodes t.2 ∙ ap (λ x. 34 ∷ x) (encodes-append (doubled t.0) (34 ∷ []) ∙ ap (λ x. x ++ 34 ∷ []) (encodes_doubled t.0)))
@@ -130,17 +131,17 @@ same_last xs ys e =
     let wide : length xs ≡ length ys = omega (arith, ap length e, length-append xs (34 ∷ []), length-append ys (34 ∷ [])) in
     sym (take-append_seam xs (34 ∷ [])) ∙ ap (take (length xs)) e ∙ ap (λ n. take n (ys ++ 34 ∷ [])) wide ∙ take-append_seam ys (34 ∷ [])
 
-inner_is : (bs more : List ℕ) → IsUtf8 bs → IsText (chars bs) → bs ≡ 34 ∷ more → (inner : List ℕ) × (more ≡ doubled inner ++ 34 ∷ [])
-inner_is bs more u t e = let x = text_is bs u t in (x.0, let f : 34 ∷ more ≡ 34 ∷ (doubled x.0 ++ 34 ∷ []) = sym e ∙ x.1 in let g : more ≡ doubled x.0 ++ 34 ∷ [] = cc f in g)
+inner_is : (bs more : List ℕ) → IsQuoted bs → bs ≡ 34 ∷ more → (inner : List ℕ) × (more ≡ doubled inner ++ 34 ∷ [])
+inner_is bs more q e = (q.0, let f : 34 ∷ more ≡ 34 ∷ (doubled q.0 ++ 34 ∷ []) = sym e ∙ q.1 in let g : more ≡ doubled q.0 ++ 34 ∷ [] = cc f in g)
 
-pub text_begins : (bs : List ℕ) → IsUtf8 bs → IsText (chars bs) → BeginsWithQuote bs
-text_begins bs u t = let x = text_is bs u t in subst BeginsWithQuote (sym x.1) refl
+pub quoted_begins : (bs : List ℕ) → IsQuoted bs → BeginsWithQuote bs
+quoted_begins bs q = subst BeginsWithQuote (sym q.1) refl
 
-pub text_ends : (bs more : List ℕ) → IsUtf8 bs → IsText (chars bs) → bs ≡ 34 ∷ more → ((front : List ℕ) → more ≢ front ++ 34 ∷ []) → ⊥
-text_ends bs more u t e n = let x = inner_is bs more u t e in n (doubled x.0) x.1
+pub quoted_ends : (bs more : List ℕ) → IsQuoted bs → bs ≡ 34 ∷ more → ((front : List ℕ) → more ≢ front ++ 34 ∷ []) → ⊥
+quoted_ends bs more q e n = let x = inner_is bs more q e in n (doubled x.0) x.1
 
-pub text_inner : (bs more inner : List ℕ) → IsUtf8 bs → IsText (chars bs) → bs ≡ 34 ∷ more → more ≡ inner ++ 34 ∷ [] → IsDoubled inner
-text_inner bs more inner u t e f = let x = inner_is bs more u t e in (x.0, same_last inner (doubled x.0) (sym f ∙ x.1))
+pub quoted_inner : (bs more inner : List ℕ) → IsQuoted bs → bs ≡ 34 ∷ more → more ≡ inner ++ 34 ∷ [] → IsDoubled inner
+quoted_inner bs more inner q e f = let x = inner_is bs more q e in (x.0, same_last inner (doubled x.0) (sym f ∙ x.1))
 
 pub quoted_tells_apart : QuotedTellsApart
 quoted_tells_apart bs cs e = undo bs cs (same_last (doubled bs) (doubled cs) (let f : doubled bs ++ 34 ∷ [] ≡ doubled cs ++ 34 ∷ [] = cc e in f))

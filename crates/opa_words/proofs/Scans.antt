@@ -365,7 +365,8 @@ inside_reaches (c ∷ cs) r h = go (c == 34) refl (inside_reaches cs r (or_right
 quoted-append : (cs r : List ℕ) → quoted cs ++ r ≡ 34 ∷ (doubled cs ++ 34 ∷ r)
 quoted-append cs r = ap (λ x. 34 ∷ x) (append_assoc (doubled cs) (34 ∷ []) r)
 
-text_reaches : (f r : List ℕ) → IsText f → AtMost (text (f ++ r)) (length r)
+-- no text reaches further than the one that is scanned
+pub text_reaches : (f r : List ℕ) → IsText f → AtMost (text (f ++ r)) (length r)
 text_reaches f r h = subst (λ x. AtMost (text x) (length r)) (sym (ap (λ x. x ++ r) h.2 ∙ quoted-append h.0 r)) (inside_reaches h.0 r h.1)
 
 -- what was read inside a text
@@ -413,7 +414,8 @@ inside_found false (c ∷ cs) rest = λ h. go (c == 34) (is_control c) refl refl
     go false true e f r s h = absurd (cc h)
     go false false e f r s h = inner_more c cs rest e f (s h)
 
-text_found : (cs rest : List ℕ) → text cs ≡ Some rest → Found kind.Text cs rest
+-- what is scanned is a text
+pub text_found : (cs rest : List ℕ) → text cs ≡ Some rest → Found kind.Text cs rest
 text_found cs rest h =
     let t = thened (one (λ c. c == 34) cs) (inside false) rest h in
     let a = stepped (λ c. c == 34) cs t.0 t.1 in

@@ -13,7 +13,7 @@ use Rattle.opa_words.proofs.Letters.{left, right, both, date_parts, DateParts}
 use Rattle.opa_words.specs.Written.{parts}
 
 abbrev pub partings : List ℕ
-partings = 32 ∷ codes ";,()"
+partings = 32 ∷ codes ";,():"
 
 -- a character of the list is none that passes
 pub none_of : (p : ℕ → Bool) (c : ℕ) (ds : List ℕ) → list_all (λ d. not (p d)) ds ≡ true → list_any (λ d. c == d) ds ≡ true → p c ≡ true → ⊥

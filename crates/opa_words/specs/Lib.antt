@@ -10,3 +10,5 @@ pub mod Quotes
 pub mod Pieces
 pub mod Written
 pub mod PieceLaws
+pub mod Fronts
+pub mod Names

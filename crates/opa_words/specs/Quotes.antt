@@ -18,6 +18,10 @@ BeginsWithQuote (b ∷ bs) = b ≡ 34
 abbrev pub IsDoubled : List ℕ → Type 0
 IsDoubled bs = (inner : List ℕ) × (bs ≡ doubled inner)
 
+-- the bytes are a text between quotes
+abbrev pub IsQuoted : List ℕ → Type 0
+IsQuoted bs = (inner : List ℕ) × (bs ≡ quoted inner)
+
 -- no two texts are written alike between quotes
 abbrev pub QuotedTellsApart : Type 0
 QuotedTellsApart = (bs cs : List ℕ) → quoted bs ≡ quoted cs → bs ≡ cs

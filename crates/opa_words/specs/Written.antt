@@ -26,7 +26,7 @@ text_of (w ∷ ws) = gap w.spaced ++ (w.piece.text ++ text_of ws)
 
 -- a character that goes on no token but a text between quotes
 abbrev pub parts : ℕ → Bool
-parts c = list_any (λ d. c == d) (32 ∷ codes ";,()")
+parts c = list_any (λ d. c == d) (32 ∷ codes ";,():")
 
 abbrev pub begins_apart : List ℕ → Bool
 begins_apart [] = false

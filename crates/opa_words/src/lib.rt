@@ -5,8 +5,10 @@ mod characters;
 mod cursor;
 mod cutting;
 mod fault;
+mod fronts;
 mod kinds;
 mod laws;
+mod names;
 mod phrases;
 mod piece_laws;
 mod pieces;
@@ -17,11 +19,12 @@ mod scan;
 
 pub use cutting::tokens;
 pub use fault::WordFault;
+pub use fronts::front_text;
 pub use kinds::{Token, TokenKind};
 pub use laws::{one_cut, quoted_tells_apart};
+pub use names::printed_name;
 pub use phrases::Phrases;
 pub use piece_laws::{ascii_is_token, one_cutting, quoted_is_token, written_is_cut};
 pub use pieces::Pieces;
 pub use quotes::{quoted, text_of_token};
 pub use reserved::{is_ending, is_phrase, is_reserved, phrase_text, token_text};
-

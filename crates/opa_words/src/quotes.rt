@@ -2,7 +2,7 @@
 ghost use Rattle.std.specs.Prelude.{◌≡◌, ◌++◌, ◌∷◌, [], IfOk, MatchOption};
 ghost use Rattle.std.specs.Str.{chars};
 ghost use Rattle.opa_words.specs.Kinds.{quoted, doubled, IsText};
-ghost use Rattle.opa_words.specs.Quotes.{SplitsAtQuote, HasNoQuote, BeginsWithQuote, IsDoubled};
+ghost use Rattle.opa_words.specs.Quotes.{SplitsAtQuote, HasNoQuote, BeginsWithQuote, IsDoubled, IsQuoted};
 
 use opa_io::{NoMemory, Txt};
 use std::alloc::Global;
@@ -24,16 +24,25 @@ pub fn quoted(alloc: Global, text: &str) -> Result<Txt, NoMemory>
 }
 
 /// The text that the text of a Text token stands for.
-#[tactic(auto, using(crate::proofs::QuoteLaws::read_whole))]
+#[tactic(auto, using(crate::proofs::QuoteLaws::text_is))]
 pub fn text_of_token(alloc: Global, token: &str) -> Result<Txt, NoMemory>
     requires { IsText (chars token.now) }
+    ensures { IfOk result (λ t. quoted t ≡ token.now) }
+{
+    text_of_quoted(alloc, token)
+}
+
+/// The text that stands between quotes.
+#[tactic(auto, using(crate::proofs::QuoteLaws::read_whole))]
+pub(crate) fn text_of_quoted(alloc: Global, token: &str) -> Result<Txt, NoMemory>
+    requires { IsQuoted token.now }
     ensures { IfOk result (λ t. quoted t ≡ token.now) }
 {
     undoubled(alloc, between_quotes(token))
 }
 
 /// What stands before the first quote, and what after it.
-fn at_quote(text: &str) -> Option<(&str, &str)>
+pub(crate) fn at_quote(text: &str) -> Option<(&str, &str)>
     ensures { MatchOption result (HasNoQuote text.now) (λ x. SplitsAtQuote text.now x.0.now x.1.now) }
 {
     match text.split_once('"') {
@@ -53,9 +62,9 @@ fn past_quote(text: &str) -> &str
     }
 }
 
-/// What stands between the quotes of a Text token.
+/// What stands between the quotes of a text between quotes.
 fn between_quotes(token: &str) -> &str
-    requires { IsText (chars token.now) }
+    requires { IsQuoted token.now }
     ensures token { token.now ≡ 34 ∷ (result.now ++ 34 ∷ []) }
     ensures doubled { IsDoubled result.now }
 {
