@@ -3,3 +3,4 @@ pub mod Rowed
 pub mod Walked
 pub mod Copied
 pub mod Counted
+pub mod Fronts

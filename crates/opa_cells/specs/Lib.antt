@@ -1,3 +1,4 @@
 pub mod Instances
 pub mod Keys
 pub mod Rows
+pub mod Lending

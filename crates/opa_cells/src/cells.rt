@@ -14,7 +14,7 @@ use std::marker::Model;
 /// A finite map from pairs of a number and an instance. Look-ups take no walk over it.
 #[derive(Drop)]
 pub struct Cells<V> {
-    rows: Rows<V>,
+    pub(crate) rows: Rows<V>,
     count: u64,
 }
 

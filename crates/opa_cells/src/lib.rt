@@ -2,7 +2,9 @@
 #![tactic(auto)]
 
 mod cells;
+mod first;
 mod instance;
+mod lent;
 mod rows;
 
 pub use cells::{Cells, Copies};

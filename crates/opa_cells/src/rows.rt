@@ -17,7 +17,7 @@ use std::marker::Model;
 #[derive(Drop)]
 pub(crate) struct Rows<V> {
     alloc: Global,
-    rows: BTreeMap<u32, BTreeMap<InstanceId, V>>,
+    pub(crate) rows: BTreeMap<u32, BTreeMap<InstanceId, V>>,
 }
 
 impl<V> Model for Rows<V> {
@@ -178,7 +178,7 @@ fn count<V>(rows: &BTreeMap<u32, BTreeMap<InstanceId, V>>) -> u64
     count
 }
 
-fn row_len<V>(row: &BTreeMap<InstanceId, V>) -> u64
+pub(crate) fn row_len<V>(row: &BTreeMap<InstanceId, V>) -> u64
     ensures len { result ≡ length row.now.entries }
     ensures order { tree.IsOrdered instance_cmp row.now }
 {
