@@ -31,4 +31,3 @@ pub use laws::{
 };
 pub use opa_cells::InstanceId;
 pub use question::Question;
-

@@ -15,4 +15,3 @@ mod verdict;
 
 pub use laws::{accepted_are_not_refused, circles_are_round, ranks_exist};
 pub use verdict::check;
-

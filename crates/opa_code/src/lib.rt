@@ -23,4 +23,3 @@ mod windows;
 pub use code::Code;
 pub use laws::code_is_short;
 pub use rules::compile;
-

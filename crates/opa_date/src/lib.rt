@@ -20,4 +20,3 @@ pub use years::years_between;
 
 /// How many days the calendar has.
 pub const DAYS: u32 = 292_194;
-

@@ -38,4 +38,3 @@ pub use items::{
 pub use laws::one_reading;
 pub use limits::Limits;
 pub use numbered::{Counts, Numbered};
-

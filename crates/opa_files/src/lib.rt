@@ -12,4 +12,3 @@ pub use fault::{TakeError, Unread};
 pub use lines::file_lines;
 pub use source::{FileLine, SourceFile};
 pub use taking::take_files;
-

@@ -4,4 +4,3 @@
 mod laws;
 
 pub use laws::{conditions_are_truths, memberships_count, values_have_kinds};
-

@@ -14,4 +14,3 @@ pub use indent::{Indent, indent_of};
 pub use laws::one_layout;
 pub use laying::blocks;
 pub use lines::{Line, first_line, text_of, without_mark};
-

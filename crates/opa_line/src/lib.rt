@@ -14,4 +14,3 @@ pub use laws::{at_is_of_the_last_pair, canon_is_the_line, equal_where_values_are
 pub use line::Line;
 pub use opa_date::DAYS;
 pub use pairs::LineFault;
-

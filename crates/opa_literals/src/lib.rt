@@ -4,4 +4,3 @@
 mod laws;
 
 pub use laws::{inferences_are_of_calendar, rules_are_of_calendar};
-

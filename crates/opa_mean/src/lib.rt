@@ -31,4 +31,3 @@ pub use operations::{op_of_one, op_of_two};
 pub use places::{place_in, place_of};
 pub use plain::{Derive, Plain};
 pub use questions::reads;
-

@@ -11,4 +11,3 @@ pub use ids::{AttrId, EntityId, RelId};
 pub use lists::Lists;
 pub use model::{Model, Ruled};
 pub use things::{Attribute, Entity, Item, Kind, Relation, Screen, Sentence, Verb};
-

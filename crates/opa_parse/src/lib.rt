@@ -35,4 +35,3 @@ pub use sayings::{and_then, line_marks};
 pub use table::Step;
 pub use texts::Texts;
 pub use words::{back, ending_of};
-

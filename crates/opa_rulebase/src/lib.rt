@@ -13,4 +13,3 @@ pub use fault::{LoadError, Refusal, Unaccepted};
 pub use loading::load_rulebase;
 pub use printed::refusal_text;
 pub use ruled::ruled_of;
-

@@ -33,4 +33,3 @@ pub use laws::{any_order, first_is_raised, one_outcome, saved_loads};
 pub use loaded::{Loaded, Origin};
 pub use loading::load;
 pub use saved::saved_text;
-

@@ -10,8 +10,8 @@ use crate::targets::{attribute_of, relation_of};
 use crate::{CmdFault, Command};
 use opa_case::ChangeCommand;
 use opa_model::Model;
-use opa_words::Pieces;
 use opa_text::{line_of, names_of};
+use opa_words::Pieces;
 use std::alloc::Global;
 
 /// `POINT = LINE`.

@@ -19,4 +19,3 @@ pub use laws::one_table;
 pub use taking::{read_table, take_table};
 pub use whole::{TableFile, read_all_rules, take_tables};
 pub use words::Words;
-

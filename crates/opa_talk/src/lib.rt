@@ -12,4 +12,3 @@ pub use halt::Halt;
 pub use line::without_mark;
 pub use replier::{Prompt, Replier};
 pub use talk::cut;
-

@@ -11,8 +11,8 @@ ghost use Rattle.opa_text.specs.Spelled.{SpellsValue, SpellsLater, SpellsChanges
 use crate::reading::{change_at, value_at};
 use opa_io::NoMemory;
 use opa_line::Line;
-use opa_words::Pieces;
 use opa_value::Value;
+use opa_words::Pieces;
 use std::alloc::Global;
 
 /// The line that these tokens say, all of them: `VALUE; from DATE VALUE; ..`.

@@ -21,4 +21,3 @@ pub use points::point_text;
 pub use questions::question_text;
 pub use values::value_text;
 pub use whole::{read_line, read_names};
-

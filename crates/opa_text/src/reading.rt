@@ -10,8 +10,8 @@ ghost use Rattle.opa_text.specs.Readers.{as_written};
 
 use opa_date::parse_day;
 use opa_io::{NoMemory, Txt};
-use opa_words::{Pieces, TokenKind, text_of_token};
 use opa_value::{Number, Value};
+use opa_words::{Pieces, TokenKind, text_of_token};
 use std::alloc::Global;
 
 fn word_value(word: &str) -> Option<Value>

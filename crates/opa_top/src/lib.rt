@@ -6,4 +6,3 @@ mod talk;
 mod top;
 
 pub use top::run;
-

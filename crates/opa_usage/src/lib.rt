@@ -6,4 +6,3 @@ mod reading;
 
 pub use clapped::WordsFault;
 pub use reading::{Asked, Mode, read_words};
-

@@ -4,4 +4,3 @@
 mod sentence;
 
 pub use sentence::{Form, say};
-

@@ -22,4 +22,3 @@ pub use interval::{
 pub use laws::{greatest_is_greatest, least_is_least, longest_is_longest, reads_the_calendar};
 pub use rolling::{rolling_always, rolling_sometimes};
 pub use years::years_since;
-

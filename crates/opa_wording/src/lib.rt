@@ -17,4 +17,3 @@ pub use laws::{
 pub use lines::line_text;
 pub use rules::rule_text;
 pub use texts::{blocks_are_texts, phrases_are_texts};
-
