@@ -15,8 +15,8 @@ ghost use Rattle.opa_model.specs.declared.lists.Lists.{Lists};
 use crate::short::are_short;
 use crate::{CmdFault, Command};
 use opa_io::{NoMemory, Txt};
-use opa_words::{Pieces, TokenKind, text_of_token};
 use opa_value::Number;
+use opa_words::{Pieces, TokenKind, text_of_token};
 use std::alloc::Global;
 
 /// How many bytes the name of a file has at most.

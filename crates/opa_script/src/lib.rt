@@ -22,4 +22,3 @@ pub use fault::CmdFault;
 pub use laws::{commands_are_in_range, one_command, refused_or_read};
 pub use reading::read_command;
 pub use replies::read_reply;
-

@@ -15,8 +15,8 @@ use crate::{CmdFault, Command};
 use opa_case::{ChangeCommand, Question};
 use opa_io::NoMemory;
 use opa_model::Model;
-use opa_words::Pieces;
 use opa_text::{line_of, names_of};
+use opa_words::Pieces;
 use std::alloc::Global;
 
 /// Reads a line of an interview in which a question was asked: a command behind `/`, or the answer.

@@ -12,8 +12,8 @@ use crate::changes::line_of;
 use crate::names::names_of;
 use opa_io::{List, NoMemory, Txt};
 use opa_line::Line;
-use opa_words::{Pieces, Token, WordFault, tokens};
 use opa_value::Value;
+use opa_words::{Pieces, Token, WordFault, tokens};
 use std::alloc::Global;
 
 /// Reads a line: `VALUE; from DATE VALUE; ..`, with rising dates after 1600-01-01.
