@@ -18,11 +18,13 @@ use Rattle.opa_script.specs.declared.command.Command.{Command}
 use Rattle.opa_script.specs.declared.command.Command.TheVariants as command
 use Rattle.opa_script.specs.declared.fault.CmdFault.{CmdFault}
 use Rattle.opa_script.specs.declared.fault.CmdFault.TheVariants as fault
-use Rattle.opa_script.specs.declared.points.Point.{Point}
+use Rattle.opa_text.specs.declared.pointed.Point.{Point}
 use Rattle.opa_script.specs.declared.verbs.Verb.TheVariants as verb
-use Rattle.opa_script.specs.Shapes.{EndsWith, SpellsPoint, SpellsGiven, SpellsDated, AreShort}
+use Rattle.opa_text.specs.Pointed.{EndsWith, SpellsPoint, SpellsDated}
+use Rattle.opa_script.specs.Shapes.{SpellsGiven, AreShort}
 use Rattle.opa_script.specs.Commands.{NamesAttribute, NamesRelation, NamesNothing, IsAttribute, IsRelation, Shows, IsRead, IsRefused, IsFileName, IsFile, IsNoFile, SaysCount}
-use Rattle.opa_script.proofs.PointLaws.{one_point, one_given, one_dated, dated_front}
+use Rattle.opa_text.proofs.PointLaws.{one_point, one_dated, dated_front}
+use Rattle.opa_script.proofs.PointLaws.{one_given}
 use Rattle.opa_date.specs.declared.fault.DayFault.{DayFault}
 use Rattle.std.specs.Prelude.{codes}
 

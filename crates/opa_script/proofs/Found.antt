@@ -1,6 +1,6 @@
 -- What the answers of readers tell.
 use Rattle.std.proofs.Common.{◌≡◌, ◌≤◌, ℕ, List, length, true, false, refl, sym, ap, subst, ◌∙◌, arith}
-use Rattle.std.specs.Prelude.{Option, Some, None, MatchOption, Bool, nat_le, codes}
+use Rattle.std.specs.Prelude.{Option, Some, None, MatchOption, Bool, nat_le}
 use Rattle.std.specs.Bool.{MatchBool}
 use Rattle.std.specs.Str.{chars}
 use Rattle.std.proofs.lemmas.Bool.{leb-true, leb-false}
@@ -24,13 +24,14 @@ use Rattle.opa_text.specs.Spelled.{SpellsLine}
 use Rattle.opa_text.proofs.WholeLaws.{cut_into}
 use Rattle.opa_script.specs.declared.fault.CmdFault.{CmdFault}
 use Rattle.opa_script.specs.declared.fault.CmdFault.TheVariants as fault
-use Rattle.opa_script.specs.declared.points.Point.{Point}
+use Rattle.opa_text.specs.declared.pointed.Point.{Point}
 use Rattle.opa_script.specs.declared.verbs.Verb.{Verb}
 use Rattle.opa_script.specs.Lines.{is_idle, HasTokens, IsText, IsNotCut}
-use Rattle.opa_script.specs.Shapes.{is_run, Begins, HasShape, IsShort, IsAtEquals, IsNamed, EndsWith, SpellsPoint, SpellsGiven}
+use Rattle.opa_text.specs.Pointed.{SpellsPoint}
+use Rattle.opa_script.specs.Shapes.{Begins, HasShape, IsShort, IsAtEquals, SpellsGiven}
 use Rattle.opa_script.specs.Commands.{NamesAttribute, NamesRelation, IsRefused, AreNone, IsNoCommand}
 use Rattle.opa_script.specs.Replies.{SaysNothing, IsUnanswered, IsNoPlainReply}
-use Rattle.opa_script.proofs.PointLaws.{named_is, no_named, one_cut, point_no_equals}
+use Rattle.opa_script.proofs.PointLaws.{one_cut, point_no_equals}
 use Rattle.opa_script.proofs.LawsHold.{same_begin, same_tokens}
 
 -- ---- points
@@ -64,12 +65,6 @@ relation_missing o m p e h = subst (λ y. MatchOption y (relation_named m p.phra
 pub relation_found : (o : Option (RelId × InstanceId)) (m : Lists) (p : Point) (a : RelId) (i : InstanceId) → o ≡ Some (a, i)
     → MatchOption o (relation_named m p.phrase ≡ None) (λ (x : RelId × InstanceId). NamesRelation m p x.0 x.1) → NamesRelation m p a i
 relation_found o m p a i e h = subst (λ y. MatchOption y (relation_named m p.phrase ≡ None) (λ (x : RelId × InstanceId). NamesRelation m p x.0 x.1)) e h
-
--- with a name
-pub named_or : (r : Option Point) (t : List ℕ) (front ps : List Piece) → EndsWith (codes "of") kind.Text t front ps
-    → MatchOption r (is_run front ≡ false) (λ p. IsNamed p t front) → MatchOption r ((p : Point) → SpellsPoint p ps → ⊥) (λ p. SpellsPoint p ps)
-named_or None t front ps e h = no_named t front ps e h
-named_or (Some p) t front ps e h = named_is p t front ps e h
 
 -- nothing stands behind `=`, or no point before it
 pub given_nothing : (front back ps : List Piece) → IsAtEquals front back ps → is_nothing back ≡ true → (p : Point) (after : List Piece) → SpellsGiven p after ps → ⊥

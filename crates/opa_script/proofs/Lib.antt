@@ -1,4 +1,3 @@
-pub mod PieceLists
 pub mod PointLaws
 pub mod Passing
 pub mod Exits

@@ -16,7 +16,7 @@ use Rattle.opa_model.specs.Lookups.{attribute_at, relation_at, attribute_named, 
 use Rattle.opa_model.specs.Models.{IsModel}
 use Rattle.opa_model.proofs.PhrasesLaws.{position-found}
 use Rattle.opa_cells.specs.declared.instance.InstanceId.{InstanceId}
-use Rattle.opa_script.specs.declared.points.Point.{Point}
+use Rattle.opa_text.specs.declared.pointed.Point.{Point}
 use Rattle.opa_script.specs.Commands.{instance_of, HasEntityOf, HasSourceOf, NamesAttribute, NamesRelation}
 
 -- ---- at most one

@@ -20,12 +20,13 @@ use Rattle.opa_text.proofs.ChangeLaws.{pairs_one}
 use Rattle.opa_text.proofs.NameLaws.{names_one}
 use Rattle.opa_script.specs.declared.command.Command.{Command}
 use Rattle.opa_script.specs.declared.command.Command.TheVariants as command
-use Rattle.opa_script.specs.declared.points.Point.{Point}
+use Rattle.opa_text.specs.declared.pointed.Point.{Point}
 use Rattle.opa_script.specs.declared.verbs.Verb.{Verb}
 use Rattle.opa_script.specs.declared.verbs.Verb.TheVariants as verb
 use Rattle.opa_script.specs.Commands.{Shows, Says, AreCommand, SaysCount}
 use Rattle.opa_script.specs.Laws.{IsWellFormed, OneCommand}
-use Rattle.opa_script.proofs.PointLaws.{one_point, one_given, one_dated}
+use Rattle.opa_text.proofs.PointLaws.{one_point, one_dated}
+use Rattle.opa_script.proofs.PointLaws.{one_given}
 use Rattle.opa_script.proofs.NamedOnce.{one_attribute, one_relation, not_both}
 use Rattle.opa_script.proofs.LawsHold.{same_tokens, same_begin, idle_apart}
 

@@ -6,7 +6,7 @@ use Rattle.opa_words.specs.declared.kinds.TokenKind.TheVariants as kind
 use Rattle.std.proofs.lemmas.Slice.Eq.{bytes_eq-Decides}
 use Rattle.opa_words.specs.Pieces.{Piece, symbol}
 use Rattle.opa_script.specs.Shapes.{is_equals, has_no_equals, IsAtEquals, IsShort, AreShort}
-use Rattle.opa_script.proofs.PieceLists.{same_cut}
+use Rattle.opa_words.proofs.PieceLists.{same_cut}
 use Rattle.opa_script.proofs.PointLaws.{no_equals_more}
 use Rattle.std.proofs.lemmas.List.{length-append}
 

@@ -10,7 +10,7 @@ use Rattle.opa_cells.specs.declared.instance.InstanceId.{InstanceId}
 use Rattle.opa_words.specs.Pieces.{Piece}
 use Rattle.opa_script.specs.declared.command.Command.{Command}
 use Rattle.opa_script.specs.declared.command.Command.TheVariants as command
-use Rattle.opa_script.specs.declared.points.Point.{Point}
+use Rattle.opa_text.specs.declared.pointed.Point.{Point}
 use Rattle.opa_script.specs.declared.verbs.Verb.{Verb}
 use Rattle.opa_script.specs.declared.verbs.Verb.TheVariants as verb
 use Rattle.opa_script.specs.Commands.{HasEntityOf, HasSourceOf, NamesAttribute, NamesRelation, Shows, Says, IsCommand}

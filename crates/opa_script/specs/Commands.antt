@@ -19,11 +19,12 @@ use Rattle.opa_script.specs.declared.command.Command.{Command}
 use Rattle.opa_script.specs.declared.command.Command.TheVariants as command
 use Rattle.opa_script.specs.declared.fault.CmdFault.{CmdFault}
 use Rattle.opa_script.specs.declared.fault.CmdFault.TheVariants as fault
-use Rattle.opa_script.specs.declared.points.Point.{Point}
+use Rattle.opa_text.specs.declared.pointed.Point.{Point}
 use Rattle.opa_script.specs.declared.verbs.Verb.{Verb}
 use Rattle.opa_script.specs.declared.verbs.Verb.TheVariants as verb
 use Rattle.opa_script.specs.Lines.{is_idle, HasTokens}
-use Rattle.opa_script.specs.Shapes.{Begins, SpellsPoint, SpellsGiven, SpellsDated, HasShape, AreShort}
+use Rattle.opa_text.specs.Pointed.{SpellsPoint, SpellsDated}
+use Rattle.opa_script.specs.Shapes.{Begins, SpellsGiven, HasShape, AreShort}
 
 -- ---- what a phrase names
 

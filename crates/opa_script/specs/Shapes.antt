@@ -1,13 +1,12 @@
 -- What a line may look like, before anything is asked of the model.
-use Rattle.std.specs.Prelude.{◌≡◌, ◌≤◌, ℕ, List, [], ◌∷◌, ◌++◌, length, map, Bool, true, false, ◌&&◌, not, Option, None, Some, codes, if◌then◌else◌}
+use Rattle.std.specs.Prelude.{◌≡◌, ◌≤◌, ℕ, List, [], ◌∷◌, ◌++◌, length, Bool, true, false, not, Option, None, Some, codes, if◌then◌else◌}
 use Rattle.std.specs.List.{list_all}
 use Rattle.std.specs.Str.{bytes_eq}
 use Rattle.opa_words.specs.declared.kinds.TokenKind.{TokenKind}
 use Rattle.opa_words.specs.declared.kinds.TokenKind.TheVariants as kind
-use Rattle.opa_words.specs.Kinds.{quoted}
-use Rattle.opa_words.specs.Reserved.{is_word_kind, is_phrase_kind, joined}
-use Rattle.opa_words.specs.Pieces.{Piece, is_nothing, word, number, date, symbol, text}
-use Rattle.opa_script.specs.declared.points.Point.{Point}
+use Rattle.opa_words.specs.Pieces.{Piece, is_nothing, word, number, symbol, text}
+use Rattle.opa_text.specs.declared.pointed.Point.{Point}
+use Rattle.opa_text.specs.Pointed.{SpellsPoint, SpellsDated}
 use Rattle.opa_script.specs.declared.verbs.Verb.{Verb}
 use Rattle.opa_script.specs.declared.verbs.Verb.TheVariants as verb
 
@@ -38,34 +37,9 @@ Begins v ps rest = (w : List ℕ) × (ps ≡ word w ∷ rest) × (verb_named w �
 
 -- ---- points
 
--- any Word followed by Words and Numbers
-abbrev pub are_words : List Piece → Bool
-are_words ps = list_all (λ p. is_phrase_kind p.kind) ps
-
-abbrev pub is_run : List Piece → Bool
-is_run [] = false
-is_run (p ∷ ps) = is_word_kind p.kind && are_words ps
-
--- the phrase that such tokens are
-abbrev pub phrase_of : List Piece → List ℕ
-phrase_of ps = joined (map (λ p. p.text) ps)
-
--- nothing, or `of` and a name between quotes
-abbrev pub name_part : Option (List ℕ) → List Piece
-name_part None = []
-name_part (Some n) = word (codes "of") ∷ text n ∷ []
-
--- `PHRASE`, or `PHRASE of TEXT`
-abbrev pub SpellsPoint : Point → List Piece → Type 0
-SpellsPoint p ps = (ws : List Piece) × (is_run ws ≡ true) × (p.phrase ≡ phrase_of ws) × (ps ≡ ws ++ name_part p.name)
-
 -- a point, `=`, and tokens, at least one
 abbrev pub SpellsGiven : Point → List Piece → List Piece → Type 0
 SpellsGiven p after ps = (front : List Piece) × SpellsPoint p front × (ps ≡ front ++ symbol (codes "=") ∷ after) × (is_nothing after ≡ false)
-
--- a point, `at` and a date
-abbrev pub SpellsDated : Point → List ℕ → List Piece → Type 0
-SpellsDated p t ps = (front : List Piece) × SpellsPoint p front × (ps ≡ front ++ word (codes "at") ∷ date t ∷ [])
 
 -- ---- shapes
 
@@ -97,15 +71,6 @@ AreShort (p ∷ ps) = IsShort p × AreShort ps
 
 -- ---- on the way there
 
--- these tokens end with a word and one more token
-abbrev pub EndsWith : List ℕ → TokenKind → List ℕ → List Piece → List Piece → Type 0
-EndsWith w k t front ps = ps ≡ front ++ word w ∷ record { kind = k; text = t } ∷ []
-
--- the token is this word
-abbrev pub is_this_word : List ℕ → TokenKind → List ℕ → Bool
-is_this_word w kind.Word t = bytes_eq t w
-is_this_word w k t = false
-
 -- the token is `=`
 abbrev pub is_equals : TokenKind → List ℕ → Bool
 is_equals kind.Symbol t = bytes_eq t (codes "=")
@@ -118,14 +83,6 @@ has_no_equals ps = list_all (λ p. not (is_equals p.kind p.text)) ps
 -- the tokens before and behind the first `=`
 abbrev pub IsAtEquals : List Piece → List Piece → List Piece → Type 0
 IsAtEquals front after ps = (ps ≡ front ++ symbol (codes "=") ∷ after) × (has_no_equals front ≡ true)
-
--- these tokens are the point's phrase, and it has no name
-abbrev pub IsPlain : Point → List Piece → Type 0
-IsPlain p ps = (is_run ps ≡ true) × (p.phrase ≡ phrase_of ps) × (p.name ≡ None)
-
--- these tokens are the point's phrase, and its name stands between these quotes
-abbrev pub IsNamed : Point → List ℕ → List Piece → Type 0
-IsNamed p t ps = (is_run ps ≡ true) × (p.phrase ≡ phrase_of ps) × ((n : List ℕ) × (p.name ≡ Some n) × (quoted n ≡ t))
 
 -- there isn't one token alone
 abbrev pub IsNotOne : List Piece → Type 0

@@ -4,13 +4,13 @@ ghost use Rattle.opa_words.specs.Pieces.{seen, AreOfKind};
 ghost use Rattle.opa_script.specs.Commands.{IsRead, IsRefused};
 ghost use Rattle.opa_script.specs.declared.verbs.Verb.TheVariants as verb;
 
-use crate::points::{given, point_of};
+use crate::points::given;
 use crate::short::are_short;
 use crate::targets::{attribute_of, relation_of};
 use crate::{CmdFault, Command};
 use opa_case::ChangeCommand;
 use opa_model::Model;
-use opa_text::{line_of, names_of};
+use opa_text::{line_of, names_of, point_of};
 use opa_words::Pieces;
 use std::alloc::Global;
 

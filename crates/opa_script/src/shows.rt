@@ -5,13 +5,13 @@ ghost use Rattle.opa_script.specs.Commands.{IsRead, IsRefused, Shows, NamesNothi
 ghost use Rattle.opa_model.specs.Lookups.{attribute_named, relation_named};
 ghost use Rattle.opa_script.specs.declared.verbs.Verb.TheVariants as verb;
 
-use crate::points::{Point, before_date, point_of};
 use crate::short::are_short;
 use crate::targets::{attribute_of, relation_of};
 use crate::{CmdFault, Command};
 use opa_date::parse_day;
 use opa_io::NoMemory;
 use opa_model::Model;
+use opa_text::{Point, before_date, point_of};
 use opa_words::Pieces;
 use std::alloc::Global;
 

@@ -5,10 +5,10 @@ ghost use Rattle.opa_model.specs.Models.{HasAttribute, HasRelation};
 ghost use Rattle.opa_script.specs.Commands.{NamesAttribute, NamesRelation, HasEntityOf, HasSourceOf};
 ghost use Rattle.opa_script.specs.Commands as meant;
 
-use crate::points::Point;
 use opa_cells::InstanceId;
 use opa_io::{NoMemory, Txt};
 use opa_model::{AttrId, EntityId, Model, RelId};
+use opa_text::Point;
 use std::alloc::Global;
 
 fn instance_of(alloc: Global, entity: EntityId, name: Option<Txt>) -> Result<InstanceId, NoMemory>

@@ -172,6 +172,11 @@ value_days (value.Num n) ps rest h = tt
 value_days (value.Words t) ps rest h = tt
 value_days (value.Day d) ps rest h = day_below d ps rest h
 
+-- a value that is read has a day of the calendar
+pub told_days : {X : Type 0} (view : X → List Piece) (ps : List Piece) (r : Option (Value × X)) → MatchOption r ((v : Value) (rest : List Piece) → SpellsValue v ps rest → ⊥) (λ x. SpellsValue x.0 ps (view x.1)) → IfSome r (λ x. IsOfCalendar x.0)
+told_days view ps None h = tt
+told_days view ps (Some x) h = value_days x.0 ps (view x.1) h
+
 changes_days : (d : ℕ) (cs : List (ℕ × Value)) (ps : List Piece) → SpellsChanges d cs ps → AllByRecursion (λ (p : ℕ × Value). IsOfCalendar p.1) cs
 changes_days d [] ps h = tt
 changes_days d (p ∷ cs) ps h = (value_days p.1 h.1.0.1 h.0 h.1.0.4, changes_days p.0 cs h.0 h.2)

@@ -6,3 +6,6 @@ pub mod WholeLaws
 pub mod WrittenValues
 pub mod ReadBack
 pub mod SampleModels
+pub mod PointLaws
+pub mod FirstPoints
+pub mod WrittenPoints

@@ -326,3 +326,8 @@ pub next_told : {X : Type 0} (view : X → List Piece) (ps : List Piece) (r : Op
     → MatchOption r ((n : List ℕ) (rest : List Piece) → SpellsNext n ps rest → ⊥) (λ x. SpellsNext x.0 ps (view x.1))
 next_told view ps None e = λ n rest s. absurd (let f : None ≡ Some (quoted n, rest) = e ∙ next_complete n ps rest s in cc f)
 next_told view ps (Some x) e = next_sound x.0 ps (view x.1) (sym e)
+
+pub day_told : {X : Type 0} (view : X → List Piece) (ps : List Piece) (r : Option (ℕ × X)) → option_map (λ (x : ℕ × X). (x.0, view x.1)) r ≡ day_at ps
+    → MatchOption r ((d : ℕ) (rest : List Piece) → SpellsDay d ps rest → ⊥) (λ x. SpellsDay x.0 ps (view x.1))
+day_told view ps None e = λ d rest s. absurd (let f : None ≡ Some (d, rest) = e ∙ day_complete d ps rest s in cc f)
+day_told view ps (Some x) e = day_sound x.0 ps (view x.1) (sym e)

@@ -4,3 +4,4 @@ pub mod Spelled
 pub mod Readers
 pub mod Laws
 pub mod Samples
+pub mod Pointed

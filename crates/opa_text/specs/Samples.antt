@@ -1,5 +1,5 @@
 -- What the smallest model with a number and a list has.
-use Rattle.std.specs.Prelude.{ℕ, ◌≡◌, false, None}
+use Rattle.std.specs.Prelude.{◌≡◌, false, None}
 use Rattle.opa_model.specs.declared.things.Attribute.{Attribute}
 use Rattle.opa_model.specs.declared.things.Relation.{Relation}
 use Rattle.opa_model.specs.declared.things.Kind.TheVariants as kind

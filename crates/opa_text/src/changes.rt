@@ -5,10 +5,10 @@ ghost use Rattle.opa_date.specs.declared.TheConstants.{DAYS};
 ghost use Rattle.opa_line.specs.Lines.{at};
 ghost use Rattle.opa_line.specs.Pairs.{fault_of};
 ghost use Rattle.opa_words.specs.Pieces.{Piece, seen, AreOfKind};
-ghost use Rattle.opa_text.specs.Texts.{HasDays};
-ghost use Rattle.opa_text.specs.Spelled.{SpellsValue, SpellsLater, SpellsChanges, SpellsPairs, SpellsLine};
+ghost use Rattle.opa_text.specs.Texts.{HasDays, IsOfCalendar};
+ghost use Rattle.opa_text.specs.Spelled.{SpellsDay, SpellsValue, SpellsLater, SpellsChanges, SpellsPairs, SpellsLine};
 
-use crate::reading::{change_at, value_at};
+use crate::reading::{change_at, day_at, value_at};
 use opa_io::NoMemory;
 use opa_line::Line;
 use opa_value::Value;
@@ -48,15 +48,27 @@ fn pairs_of(alloc: Global, pieces: Pieces<'_>) -> Result<Option<Vec<(u32, Value)
     }
 }
 
-fn first_value<'t>(
+/// The value at the front, and what follows it.
+pub fn first_value<'t>(
     alloc: Global,
     pieces: Pieces<'t>,
 ) -> Result<Option<(Value, Pieces<'t>)>, NoMemory>
     requires { AreOfKind pieces }
     ensures value { IfOk result (λ r. MatchOption r ((v : Value) (rest : List Piece) → SpellsValue v (seen pieces.entry) rest → ⊥) (λ x. SpellsValue x.0 (seen pieces.entry) (seen x.1))) }
+    ensures days { IfOk result (λ r. IfSome r (λ x. IsOfCalendar x.0)) }
     ensures later { IfOk result (λ r. IfSome r (λ x. AreOfKind x.1)) }
 {
     value_at(alloc, pieces)
+}
+
+/// The day at the front, and what follows it.
+pub fn first_day<'t>(pieces: Pieces<'t>) -> Option<(u32, Pieces<'t>)>
+    requires { AreOfKind pieces }
+    ensures day { MatchOption result ((d : ℕ) (rest : List Piece) → SpellsDay d (seen pieces.entry) rest → ⊥) (λ x. SpellsDay x.0 (seen pieces.entry) (seen x.1)) }
+    ensures bound { IfSome result (λ x. x.0 < DAYS) }
+    ensures later { IfSome result (λ x. AreOfKind x.1) }
+{
+    day_at(pieces)
 }
 
 /// The pairs that begin with a value.

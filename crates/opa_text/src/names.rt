@@ -62,7 +62,11 @@ pub fn names_of(alloc: Global, pieces: Pieces<'_>) -> Result<Option<List<Txt>>, 
     }
 }
 
-fn first_name<'t>(alloc: Global, pieces: Pieces<'t>) -> Result<Option<(Txt, Pieces<'t>)>, NoMemory>
+/// The name between quotes at the front, and what follows it.
+pub fn first_name<'t>(
+    alloc: Global,
+    pieces: Pieces<'t>,
+) -> Result<Option<(Txt, Pieces<'t>)>, NoMemory>
     requires { AreOfKind pieces }
     ensures name { IfOk result (λ r. MatchOption r ((n : Seq ℕ) (rest : Seq Piece) → seen pieces.entry ≡ text n ∷ rest → ⊥) (λ x. seen pieces.entry ≡ text x.0 ∷ seen x.1)) }
     ensures later { IfOk result (λ r. IfSome r (λ x. AreOfKind x.1)) }

@@ -83,7 +83,7 @@ fn is_symbol(symbol: &str, kind: TokenKind, text: &str) -> bool
     }
 }
 
-fn is_word(word: &str, kind: TokenKind, text: &str) -> bool
+pub(crate) fn is_word(word: &str, kind: TokenKind, text: &str) -> bool
     ensures { result ≡ meant.is_word word.now kind text.now }
 {
     match kind {
@@ -160,9 +160,11 @@ fn day_token(kind: TokenKind, text: &str) -> Option<u32>
     }
 }
 
-fn day_at<'t>(pieces: Pieces<'t>) -> Option<(u32, Pieces<'t>)>
+/// The day at the front.
+pub(crate) fn day_at<'t>(pieces: Pieces<'t>) -> Option<(u32, Pieces<'t>)>
     requires { AreOfKind pieces }
     ensures value { option_map (λ x. (x.0, seen x.1)) result ≡ meant.day_at (seen pieces.entry) }
+    ensures bound { IfSome result (λ x. x.0 < DAYS) }
     ensures later { IfSome result (λ x. AreOfKind x.1) }
 {
     let (kind, text, rest) = pieces.first()?;

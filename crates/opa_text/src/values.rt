@@ -43,7 +43,7 @@ fn number_text(alloc: Global, kind: Kind, number: Number) -> Result<Txt, NoMemor
 }
 
 /// The text of a day, as YYYY-MM-DD.
-pub(crate) fn date_text(alloc: Global, day: u32) -> Result<Txt, NoMemory>
+pub fn date_text(alloc: Global, day: u32) -> Result<Txt, NoMemory>
     requires { day < DAYS }
     ensures { IfOk result (λ t. t ≡ day_text_of day) }
 {

@@ -17,3 +17,4 @@ pub mod Ascii
 pub mod Quoting
 pub mod Writing
 pub mod LawsHold
+pub mod PieceLists

@@ -8,6 +8,7 @@ use Rattle.opa_words.specs.declared.kinds.Token.{Token}
 use Rattle.opa_words.specs.Places.{token_text, IsOfKind}
 use Rattle.opa_words.specs.Kinds.{IsToken, quoted}
 use Rattle.opa_words.specs.Cuts.{Cuts}
+use Rattle.opa_words.specs.Reserved.{joined}
 use Rattle.opa_words.specs.declared.pieces.Pieces.{Pieces}
 
 -- a token with its text
@@ -28,6 +29,10 @@ seen p = pieces p.text.now p.tokens.now
 abbrev pub is_nothing : List Piece → Bool
 is_nothing [] = true
 is_nothing (p ∷ ps) = false
+
+-- the phrase that such tokens are
+abbrev pub phrase_of : List Piece → List ℕ
+phrase_of ps = joined (map (λ p. p.text) ps)
 
 -- each is what its kind says
 abbrev pub AreOfKind : Pieces → Type 0

@@ -5,8 +5,7 @@ use Rattle.std.proofs.lemmas.List.Elements.{All-take, All-drop}
 use Rattle.opa_words.specs.declared.kinds.Token.{Token}
 use Rattle.opa_words.specs.Reserved.{joined, phrase_text}
 use Rattle.opa_words.specs.Places.{token_text}
-use Rattle.opa_words.specs.Pieces.{Piece, pieces, piece, is_nothing}
-use Rattle.opa_script.specs.Shapes.{phrase_of}
+use Rattle.opa_words.specs.Pieces.{Piece, pieces, piece, is_nothing, phrase_of}
 
 pub pieces_parts : (bytes : List ℕ) (front back : List Token) → pieces bytes (front ++ back) ≡ pieces bytes front ++ pieces bytes back
 pieces_parts bytes [] back = refl

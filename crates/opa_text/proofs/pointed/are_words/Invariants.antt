@@ -1,7 +1,7 @@
 use Rattle.std.proofs.Common.{◌≡◌, length}
 use Rattle.opa_words.specs.Pieces.{seen, AreOfKind}
-use Rattle.opa_script.specs.Shapes as meant
-use Rattle.opa_script.proofs.points.are_words.Given as goal
+use Rattle.opa_text.specs.Pointed as meant
+use Rattle.opa_text.proofs.pointed.are_words.Given as goal
 
 abbrev pub invariant-loop-kind : goal.invariant-loop-kind
 invariant-loop-kind l = record {
