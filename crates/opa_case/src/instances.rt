@@ -2,32 +2,35 @@
 ghost use Rattle.std.specs.Prelude.{◌≡◌, ◌<◌, ◌+◌, ◌++◌, [], map, length, slice_index_or, IfOk, OnOk};
 ghost use Rattle.opa_cells.specs.Instances.{named};
 ghost use Rattle.opa_case.specs.Cases.{list_of};
+ghost use Rattle.opa_case.specs.Fits.{Fits};
+ghost use Rattle.opa_case.specs.Instances.{AreInstances, listed_by};
 ghost use Rattle.opa_case.specs.Live.{members};
 ghost use Rattle.opa_case.specs.Shapes.{shape_of};
-ghost use Rattle.opa_mean.specs.Rulebases.{IsOf};
-ghost use Rattle.opa_fresh.specs.Instances.{AreInstances, listed_by};
+ghost use Rattle.opa_model.specs.Models.{IsModel};
 
-use opa_case::{Case, InstanceId};
+use crate::case::Case;
+use crate::declared::nest_of;
+use opa_cells::InstanceId;
 use opa_io::{List, NoMemory, Txt};
-use opa_model::{EntityId, Model, RelId};
-use opa_tree::Rulebase;
+use opa_model::{EntityId, Model, RelId, Ruled};
 use std::alloc::Global;
 
 /// A list for each entity: its live instances in instance order.
 pub fn live_instances(
     alloc: Global,
-    base: &Rulebase,
+    model: &Model,
+    ruled: &Ruled,
     case: &Case,
 ) -> Result<List<List<InstanceId>>, NoMemory>
-    requires { IsOf base.now case.now }
-    ensures { IfOk result (λ lists. AreInstances (length base.now.model.entities) case.now lists) }
+    requires { Fits (shape_of model.now) ruled.now case.now }
+    ensures { IfOk result (λ lists. AreInstances (length model.now.entities) case.now lists) }
 {
-    let count = base.model.entity_count();
+    let count = model.entity_count();
     let mut lists = List::new(alloc);
     lists.push(only_global(alloc)?)?;
     let mut entity = 1;
     while entity < count {
-        add_entity(alloc, base, case, entity, &mut lists)?;
+        add_entity(alloc, model, ruled, case, entity, &mut lists)?;
         entity += 1;
     }
     Ok(lists)
@@ -44,30 +47,27 @@ fn only_global(alloc: Global) -> Result<List<InstanceId>, NoMemory>
 /// Adds the instances of the next entity.
 fn add_entity(
     alloc: Global,
-    base: &Rulebase,
+    model: &Model,
+    ruled: &Ruled,
     case: &Case,
     entity: u32,
     lists: &mut List<List<InstanceId>>,
 ) -> Result<(), NoMemory>
-    requires is_of { IsOf base.now case.now }
+    requires form { IsModel model.now }
+    requires fits { Fits (shape_of model.now) ruled.now case.now }
     requires contained { 0 < entity }
-    requires declared { entity < length base.now.model.entities }
+    requires declared { entity < length model.now.entities }
     requires before { AreInstances entity case.now lists.old }
     ensures { OnOk result (AreInstances (entity + 1) case.now lists.new) }
 {
-    let parent = parent_of(&base.model, entity);
-    let found = listed_in(
-        alloc,
-        case,
-        relation_of(&base.model, entity),
-        entity,
-        at(lists.as_slice(), parent),
-    )?;
+    let nest = nest_of(model, entity);
+    let containers = instances_of(lists.as_slice(), nest.parent);
+    let found = listed_in(alloc, case, nest.contained, entity, containers)?;
     lists.push(found)
 }
 
 /// The instances of an entity; none past the entities that have a list.
-pub(crate) fn at(lists: &[List<InstanceId>], entity: u32) -> &[InstanceId]
+pub fn instances_of(lists: &[List<InstanceId>], entity: u32) -> &[InstanceId]
     ensures { result.now ≡ slice_index_or lists.now entity [] }
 {
     match lists.get(entity as usize) {
@@ -111,26 +111,4 @@ fn add_names(
         found.push(inst)?;
     }
     Ok(())
-}
-
-/// The entity whose instances contain those of this one.
-fn parent_of(model: &Model, entity: u32) -> u32
-    ensures { result ≡ (shape_of model.now).parent entity }
-{
-    if entity < model.entity_count() {
-        model.entity(EntityId(entity)).parent.0
-    } else {
-        0
-    }
-}
-
-/// The relation by which they contain them.
-fn relation_of(model: &Model, entity: u32) -> RelId
-    ensures { result ≡ (shape_of model.now).contained entity }
-{
-    if entity < model.entity_count() {
-        model.entity(EntityId(entity)).contained
-    } else {
-        RelId(0)
-    }
 }

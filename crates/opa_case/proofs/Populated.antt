@@ -8,7 +8,7 @@ use Rattle.opa_cells.specs.Instances.{global, named}
 use Rattle.opa_case.specs.Live.{Names, Lists, Population, members, in_container, held, live_upto, live_of}
 use Rattle.opa_case.specs.Shapes.{Shape, IsShape}
 use Rattle.opa_case.proofs.Stands.{same_number}
-use Rattle.opa_fresh.specs.Instances.{listed_by}
+use Rattle.opa_case.specs.Instances.{listed_by}
 
 -- those of an entity other than the global one
 abbrev pub picked : ℕ → Population → List InstanceId
