@@ -1,21 +1,17 @@
 -- The live instances of a case, entity by entity.
-use Rattle.std.proofs.Common.{◌≡◌, ◌⊎◌, inl, inr, ℕ, zero, suc, ◌+◌, ◌-◌, ◌<◌, ◌≤◌, List, [], ◌∷◌, ◌++◌, length, get_or, Bool, true, false, cond, Option, None, Some, Result, Ok, Err, Contains, refl, sym, ◌∙◌, ap, subst, arith}
-use Rattle.std.specs.Prelude.{map, filter, unwrap_or, ◌==◌, ◌||◌}
+use Rattle.std.proofs.Common.{◌≡◌, ℕ, ◌-◌, ◌<◌, ◌≤◌, List, [], ◌∷◌, Bool, true, false, cond, Contains, refl, sym, ◌∙◌, ap, subst, arith}
+use Rattle.std.specs.Prelude.{map, filter, ◌==◌, ◌||◌}
 use Rattle.std.specs.List.{list_any, AllByRecursion}
-use Rattle.std.specs.Option.{option_or}
-use Rattle.std.specs.Result.{OnOk}
-use Rattle.std.specs.FinMap.{get}
-use Rattle.std.proofs.lemmas.Bool.{eqb-true, cases_lt}
+use Rattle.std.proofs.lemmas.Bool.{eqb-true}
 use Rattle.opa_cells.specs.declared.instance.InstanceId.{InstanceId}
-use Rattle.opa_cells.specs.Instances.{is_same, global, named}
+use Rattle.opa_cells.specs.Instances.{is_same, global}
 use Rattle.opa_cells.proofs.Orders.{same_is}
-use Rattle.opa_case.specs.Cases.{CaseView, IsLive, stored, list_of}
-use Rattle.opa_case.specs.Live.{Names, Population, members, live_of, is_live}
+use Rattle.opa_case.specs.Cases.{CaseView, IsLive, stored}
+use Rattle.opa_case.specs.Live.{Population, members, is_live}
 use Rattle.opa_case.specs.Shapes.{IsShape, shape_of}
 use Rattle.opa_case.proofs.Lively.{all_live, members_live}
-use Rattle.opa_case.proofs.Losing.{is_every}
 use Rattle.opa_case.proofs.Shaped.{shape_is}
-use Rattle.opa_case.proofs.Stands.{lookup_found, in_upto, in_members}
+use Rattle.opa_case.proofs.Stands.{in_members}
 use Rattle.opa_tree.specs.declared.rulebase.Rulebase.{Rulebase}
 use Rattle.opa_tree.proofs.Members.{contains_head, contains_tail}
 use Rattle.opa_mean.specs.Rulebases.{IsOf}

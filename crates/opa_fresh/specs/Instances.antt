@@ -1,10 +1,8 @@
 -- The live instances, entity by entity.
-use Rattle.std.specs.Prelude.{◌≡◌, ◌≢◌, ◌<◌, ◌↔◌, ℕ, List, [], map, flat_map, length, unwrap_or, slice_index_or, AllPairs, Contains}
-use Rattle.opa_model.specs.declared.ids.RelId.{RelId}
+use Rattle.std.specs.Prelude.{◌≡◌, ◌≢◌, ◌↔◌, ℕ, AllPairs, Contains}
 use Rattle.opa_cells.specs.declared.instance.InstanceId.{InstanceId}
-use Rattle.opa_cells.specs.Instances.{named}
 use Rattle.opa_case.specs.Cases.{CaseView, IsLive}
-use Rattle.opa_case.specs.Live.{Lists, members}
+use Rattle.opa_case.specs.Live.{members}
 use Rattle.opa_tree.specs.declared.rulebase.Rulebase.{Rulebase}
 use Rattle.opa_mean.specs.Rulebases.{IsOf}
 
