@@ -35,3 +35,7 @@ pub mod Turned
 pub mod Empty
 pub mod SampleModels
 pub mod Whole
+pub mod Populated
+pub mod Peopled
+pub mod Moving
+pub mod Refusing

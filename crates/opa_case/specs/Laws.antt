@@ -114,3 +114,11 @@ pub record Takes (s : Shape) (c c' : CaseView) (r : RelId) (i : InstanceId) : Ty
 
 abbrev pub ForgetTakes : Type 0
 ForgetTakes = (s : Shape) (ruled : List Bool) → IsShape s → (c c' : CaseView) (r : RelId) (i : InstanceId) → Fits s ruled c → step s ruled c (Forget r i) ≡ Ok c' → Takes s c c' r i
+
+-- each instance that is live in both cases stands in the same container
+abbrev pub KeepContainers : CaseView → CaseView → Type 0
+KeepContainers c c' = (i : InstanceId) → IsLive c i → IsLive c' i → container_of c'.live i ≡ container_of c.live i
+
+-- No change that isn't refused moves an instance that stays.
+abbrev pub StepKeepsContainers : Type 0
+StepKeepsContainers = (s : Shape) (ruled : List Bool) → IsShape s → (c c' : CaseView) (command : ChangeCommand) → IsDeclared s command → Fits s ruled c → step s ruled c command ≡ Ok c' → KeepContainers c c'

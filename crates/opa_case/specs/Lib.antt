@@ -4,6 +4,7 @@ pub mod Clean
 pub mod Fewer
 pub mod Fits
 pub mod Homes
+pub mod Instances
 pub mod Laws
 pub mod Listed
 pub mod Live

@@ -186,7 +186,7 @@ impl Case {
     }
 
     /// What goes and what comes with the list.
-    fn turn_with(
+    pub(crate) fn turn_with(
         &self,
         model: &Model,
         ruled: &Ruled,

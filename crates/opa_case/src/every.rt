@@ -185,7 +185,7 @@ fn add_every<L: Lists>(
 }
 
 /// All instances of an entity, where all lists that lead to them are known.
-fn walk<L: Lists>(
+pub(crate) fn walk<L: Lists>(
     alloc: Global,
     model: &Model,
     lists: &L,

@@ -55,3 +55,8 @@ pub fn set_replaces()
 pub fn forget_takes()
     ensures { law.ForgetTakes }
 {}
+
+/// No change that isn't refused moves an instance that stays.
+pub fn step_keeps_containers()
+    ensures { law.StepKeepsContainers }
+{}

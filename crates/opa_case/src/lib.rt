@@ -14,20 +14,25 @@ mod dropping;
 mod every;
 mod homes;
 mod index;
+mod instances;
 mod laws;
 mod list_faults;
 mod listed;
 mod living;
 mod names;
 mod question;
+mod refused;
 mod slots;
 mod turn;
+mod whole_walk;
 
 pub use case::Case;
 pub use change::{ChangeCommand, Refusal};
+pub use instances::{instances_of, live_instances};
 pub use laws::{
     empty_fits, forget_loses, forget_takes, live_by_lists, models_are_shapes, set_replaces,
-    step_fits, step_is_clean, step_is_whole, withdraw_loses, withdraw_undoes,
+    step_fits, step_is_clean, step_is_whole, step_keeps_containers, withdraw_loses,
+    withdraw_undoes,
 };
 pub use opa_cells::InstanceId;
 pub use question::Question;

@@ -15,7 +15,8 @@ use Rattle.opa_case.proofs.Stands.{text_itself}
 use Rattle.opa_tree.specs.declared.rulebase.Rulebase.{Rulebase}
 use Rattle.opa_tree.proofs.Members.{none_in, contains_head, contains_tail, contains_cases, flat_out}
 use Rattle.opa_mean.specs.Rulebases.{IsOf}
-use Rattle.opa_fresh.specs.Instances.{listed_by, EachOnce}
+use Rattle.opa_case.specs.Instances.{listed_by}
+use Rattle.opa_fresh.specs.Instances.{EachOnce}
 use Rattle.opa_fresh.proofs.Peopled.{within, member_live, stored_members, parent_before, contains_by}
 
 abbrev Differ : List InstanceId → Type 0

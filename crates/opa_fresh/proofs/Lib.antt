@@ -5,7 +5,6 @@ pub mod Differing
 pub mod Finishing
 pub mod Kinded
 pub mod Peopled
-pub mod Populated
 pub mod Ranking
 pub mod Rising
 pub mod SampleBases

@@ -4,13 +4,11 @@
 mod by_rank;
 mod daily;
 mod found;
-mod instances;
 mod laws;
 mod lines;
 mod told;
 
 pub use by_rank::determine;
-pub use instances::live_instances;
 pub use laws::{each_once, exactly_the_live};
 pub use lines::Lines;
 pub use told::Fresh;

@@ -20,7 +20,7 @@ use Rattle.opa_mean.specs.Completion.{AreFacts}
 use Rattle.opa_mean.specs.Given.{base_of, facts_of}
 use Rattle.opa_mean.proofs.Fitting.{are_facts}
 
-all_found : {X : Type 0} (P : X → Type 0) (p : X → Bool) (xs : List X) (x : X) → All P xs → find p xs ≡ Some x → P x
+pub all_found : {X : Type 0} (P : X → Type 0) (p : X → Bool) (xs : List X) (x : X) → All P xs → find p xs ≡ Some x → P x
 all_found P p [] x all e = absurd (cc e)
 all_found P p (y ∷ xs) x all e = go (p y) refl (all_found P p xs x (All-tail P y xs all))
   where

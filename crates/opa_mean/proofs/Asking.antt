@@ -21,8 +21,8 @@ use Rattle.opa_tree.specs.declared.expr.Expr.{Expr}
 use Rattle.opa_tree.specs.declared.expr.Row.{Row}
 use Rattle.opa_tree.specs.declared.expr.Expr.TheOpen.{Expr-F, Const, Attr, All, Any, Not, Op, Certain, Known, Over, Window, Rolling, Table}
 use Rattle.opa_tree.proofs.Induction.{by_parts, Part, RowPart, without}
-use Rattle.opa_tree.specs.declared.expr.Expr.TheViews.{roll-Expr, out-Row}
-use Rattle.opa_tree.specs.declared.expr.Expr.TheFolds.{map-Expr, fold-roll-Expr, para-Row, para-roll-Expr, para-roll-Row}
+use Rattle.opa_tree.specs.declared.expr.Expr.TheViews.{roll-Expr}
+use Rattle.opa_tree.specs.declared.expr.Expr.TheFolds.{map-Expr, fold-roll-Expr}
 use Rattle.opa_tree.specs.Trees.{form_step, form_row, has_form}
 use Rattle.opa_tree.proofs.FormLaws.{row_has_form, form-of_row}
 use Rattle.opa_window.specs.Days.{days, over_days}
@@ -30,9 +30,10 @@ use Rattle.opa_window.specs.Folds.{sum_value, greatest, least, run_value}
 use Rattle.opa_window.specs.Windows.{on_date, on_dates, in_window}
 use Rattle.opa_mean.specs.Looks.{Look}
 use Rattle.opa_mean.specs.Meaning.{Meaning, RowMeaning, tree_step, value, each, at_place, certain_of, known_of, choose, item, over, window, table}
-use Rattle.opa_mean.specs.Needs.{if_unknown, cond_needs, over_needs, part_needs, item_needs, window_needs, table_needs, needs_step, needs_row, needs}
+use Rattle.opa_mean.specs.Needs.{if_unknown, cond_needs, over_needs, part_needs, item_needs, window_needs, table_needs, needs_step, needs}
 use Rattle.opa_mean.specs.Places.{owner_of, place}
-use Rattle.opa_mean.specs.Uses.{Use, Uses, Used, RowUses, RowUsed, at_place_uses, on_date_uses, in_window_uses}
+use Rattle.opa_mean.specs.Uses.{Use, Used, RowUses, RowUsed, at_place_uses, on_date_uses, in_window_uses}
+use Rattle.opa_mean.proofs.NeedsLaws.{row_needs, needs-roll, row_needs-is}
 use Rattle.opa_mean.proofs.Levels.{row_value, value-roll, row_value-is}
 use Rattle.opa_mean.proofs.Unknowns.{HasUnknown, unknown_is, all_unknown, any_unknown, operation_unknown, sum_unknown, run_unknown, greatest_unknown, least_unknown, quant_unknown, rolling_unknown, at_date_unknown, told_date, told_truth, told_years, in_window_unknown}
 
@@ -126,17 +127,6 @@ module _ (s : Shape) (l : Look) (list_need : RelId → InstanceId → Use) (poin
   abbrev neededs : Parts → List Used
   neededs ps = map (λ e. (e, needs s l list_need point_needs e)) (map (λ p. p.0) ps)
 
-  unfoldable row_needs : Row → RowUses
-  row_needs = para-Row Uses RowUses (needs_step s l list_need point_needs) (needs_row s l list_need point_needs)
-
-  needs-roll : (x : Expr-F Expr Row) → needs s l list_need point_needs (roll-Expr x) ≡ needs_step s l list_need point_needs (map-Expr Expr Row Used RowUsed (λ e. (e, needs s l list_need point_needs e)) (λ r. (r, row_needs r)) x)
-  unfolding needs row_needs
-  needs-roll = para-roll-Expr Uses RowUses (needs_step s l list_need point_needs) (needs_row s l list_need point_needs)
-
-  row_needs-is : (r : Row) → row_needs r ≡ record { cond = needs s l list_need point_needs r.cond; value = needs s l list_need point_needs r.value }
-  unfolding needs row_needs
-  row_needs-is r = para-roll-Row Uses RowUses (needs_step s l list_need point_needs) (needs_row s l list_need point_needs) (out-Row r)
-
   abbrev AllForm : Parts → Type 0
   AllForm ps = list_all (λ (x : Bool → Bool). x false) (map has_form (map (λ p. p.0) ps)) ≡ true
 
@@ -208,16 +198,16 @@ module _ (s : Shape) (l : Look) (list_need : RelId → InstanceId → Use) (poin
   window_asks win.ConsecutiveDays (p ∷ q ∷ r ∷ []) f enclosing d un n = interval_asks (strict run_value) run_unknown p q r f enclosing d un n
   window_asks _ _ f enclosing d un n = cc un
 
-  table_asks : (rs : List (RowPart Asks)) (p : Part Asks) → list_all (λ (x : Bool → Bool). x false) (map row_has_form (map (λ r. r.0) rs)) ≡ true → has_form p.0 false ≡ true → (enclosing : List InstanceId) (d : ℕ) → table (map (row_value s l) (map (λ r. r.0) rs)) (value s l p.0) enclosing d ≡ Unknown → table_needs s l list_need point_needs (map (λ r. (r, row_needs r)) (map (λ r. r.0) rs)) (needs s l list_need point_needs p.0) enclosing d ≡ [] → ⊥
+  table_asks : (rs : List (RowPart Asks)) (p : Part Asks) → list_all (λ (x : Bool → Bool). x false) (map row_has_form (map (λ r. r.0) rs)) ≡ true → has_form p.0 false ≡ true → (enclosing : List InstanceId) (d : ℕ) → table (map (row_value s l) (map (λ r. r.0) rs)) (value s l p.0) enclosing d ≡ Unknown → table_needs s l list_need point_needs (map (λ r. (r, row_needs s l list_need point_needs r)) (map (λ r. r.0) rs)) (needs s l list_need point_needs p.0) enclosing d ≡ [] → ⊥
   table_asks [] p f g enclosing d un n = p.1 false g enclosing d un n
   table_asks (r ∷ rs) p f g enclosing d un n =
       let both = and_parts _ _ f in
       let parts = and_parts _ _ (sym (ap (λ (x : Bool → Bool). x false) (form-of_row r.0)) ∙ both.0) in
-      let rest = table_needs s l list_need point_needs (map (λ r. (r, row_needs r)) (map (λ r. r.0) rs)) (needs s l list_need point_needs p.0) enclosing d in
+      let rest = table_needs s l list_need point_needs (map (λ r. (r, row_needs s l list_need point_needs r)) (map (λ r. r.0) rs)) (needs s l list_need point_needs p.0) enclosing d in
       choice_asks (value s l r.0.cond enclosing d) (value s l r.0.value enclosing d) (table (map (row_value s l) (map (λ r. r.0) rs)) (value s l p.0) enclosing d) (needs s l list_need point_needs r.0.cond enclosing d) (needs s l list_need point_needs r.0.value enclosing d) rest
       (r.1.0 false parts.0 enclosing d) (r.1.1 false parts.1 enclosing d) (table_asks rs p both.1 g enclosing d)
       (sym (ap (λ (a : RowMeaning). choose (a.cond enclosing d) (a.value enclosing d) (table (map (row_value s l) (map (λ r. r.0) rs)) (value s l p.0) enclosing d)) (row_value-is s l r.0)) ∙ un)
-      (sym (ap (λ (a : RowUses). cond_needs (value s l r.0.cond enclosing d) (a.cond enclosing d) (a.value enclosing d) rest) (row_needs-is r.0)) ∙ n)
+      (sym (ap (λ (a : RowUses). cond_needs (value s l r.0.cond enclosing d) (a.cond enclosing d) (a.value enclosing d) rest) (row_needs-is s l list_need point_needs r.0)) ∙ n)
 
   abbrev level : Expr-F (Part Asks) (RowPart Asks) → Expr-F Meaning RowMeaning
   level z = map-Expr Expr Row Meaning RowMeaning (value s l) (row_value s l) (without Asks z)
@@ -226,7 +216,7 @@ module _ (s : Shape) (l : Look) (list_need : RelId → InstanceId → Use) (poin
   forms z = map-Expr Expr Row (Bool → Bool) (Bool → Bool) has_form row_has_form (without Asks z)
 
   abbrev needed : Expr-F (Part Asks) (RowPart Asks) → Expr-F Used RowUsed
-  needed z = map-Expr Expr Row Used RowUsed (λ e. (e, needs s l list_need point_needs e)) (λ r. (r, row_needs r)) (without Asks z)
+  needed z = map-Expr Expr Row Used RowUsed (λ e. (e, needs s l list_need point_needs e)) (λ r. (r, row_needs s l list_need point_needs r)) (without Asks z)
 
   literal_asks : (v : Value) (top : Bool) → form_step (Const v) top ≡ true → v ≡ Unknown → ⊥
   literal_asks v top f un = cc (f, un)
@@ -247,4 +237,4 @@ module _ (s : Shape) (l : Look) (list_need : RelId → InstanceId → Use) (poin
 
   pub value_asks : (e : Expr) → Asks e
   value_asks = by_parts Asks (λ z top f enclosing d un n.
-      level_asks z top (sym (ap (λ (x : Bool → Bool). x top) (form-roll (without Asks z))) ∙ f) enclosing d (sym (ap (λ m. m enclosing d) (value-roll s l (without Asks z))) ∙ un) (sym (ap (λ m. m enclosing d) (needs-roll (without Asks z))) ∙ n))
+      level_asks z top (sym (ap (λ (x : Bool → Bool). x top) (form-roll (without Asks z))) ∙ f) enclosing d (sym (ap (λ m. m enclosing d) (value-roll s l (without Asks z))) ∙ un) (sym (ap (λ m. m enclosing d) (needs-roll s l list_need point_needs (without Asks z))) ∙ n))

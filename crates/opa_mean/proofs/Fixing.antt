@@ -18,17 +18,17 @@ use Rattle.opa_tree.specs.declared.expr.Expr.{Expr}
 use Rattle.opa_tree.specs.declared.expr.Row.{Row}
 use Rattle.opa_tree.specs.declared.expr.Expr.TheOpen.{Expr-F, Const, Attr, All, Any, Not, Op, Certain, Known, Over, Window, Rolling, Table}
 use Rattle.opa_tree.proofs.Induction.{by_parts, Part, RowPart, without}
-use Rattle.opa_tree.specs.declared.expr.Expr.TheViews.{roll-Expr, out-Row}
-use Rattle.opa_tree.specs.declared.expr.Expr.TheFolds.{map-Expr, para-Row, para-roll-Expr, para-roll-Row}
+use Rattle.opa_tree.specs.declared.expr.Expr.TheFolds.{map-Expr}
 use Rattle.opa_window.specs.Folds.{sum_value, greatest, least, run_value}
 use Rattle.opa_window.specs.Windows.{in_window, before, on_or_after, years_since}
 use Rattle.opa_mean.specs.Looks.{Look}
 use Rattle.opa_mean.specs.Meaning.{Meaning, RowMeaning, tree_step, value, each, at_place, certain_of, known_of, choose, item, quant_of, over, window, table}
 use Rattle.opa_mean.specs.Operations.{op_of}
 use Rattle.opa_mean.specs.Places.{owner_of, place}
-use Rattle.opa_mean.specs.Uses.{Use, Point, Listed, Uses, Used, RowUses, RowUsed, found_or, first_or_all, member_uses, at_place_uses, after_cond, item_uses, item_value, over_uses, window_uses, table_uses, uses_step, uses_row, uses}
+use Rattle.opa_mean.specs.Uses.{Use, Point, Listed, Used, RowUses, RowUsed, found_or, first_or_all, member_uses, at_place_uses, after_cond, item_uses, item_value, over_uses, window_uses, table_uses, uses_step, uses}
 use Rattle.opa_mean.proofs.Everywhere.{all_parts}
 use Rattle.opa_mean.proofs.Resting.{all_same, chosen, tested, at_date_same, in_window_same, rolling_same}
+use Rattle.opa_mean.proofs.UseLaws.{row_uses, uses-roll, row_uses-is}
 use Rattle.opa_mean.proofs.Levels.{row_value, value-roll, row_value-is}
 
 or_true : (b : Bool) → (b || true) ≡ true
@@ -86,17 +86,6 @@ module _ (s : Shape) (l l' : Look) (Within Live : InstanceId → Type 0)
 
   abbrev useds : Parts → List Used
   useds ps = map (λ e. (e, uses s l e)) (map (λ p. p.0) ps)
-
-  unfoldable row_uses : Row → RowUses
-  row_uses = para-Row Uses RowUses (uses_step s l) (uses_row s l)
-
-  uses-roll : (x : Expr-F Expr Row) → uses s l (roll-Expr x) ≡ uses_step s l (map-Expr Expr Row Used RowUsed (λ e. (e, uses s l e)) (λ r. (r, row_uses r)) x)
-  unfolding uses row_uses
-  uses-roll = para-roll-Expr Uses RowUses (uses_step s l) (uses_row s l)
-
-  row_uses-is : (r : Row) → row_uses r ≡ record { cond = uses s l r.cond; value = uses s l r.value }
-  unfolding uses row_uses
-  row_uses-is r = para-roll-Row Uses RowUses (uses_step s l) (uses_row s l) (out-Row r)
 
   -- every part counts
   abbrev Any_one : Part Fixed → Type 0
@@ -200,11 +189,11 @@ module _ (s : Shape) (l l' : Look) (Within Live : InstanceId → Type 0)
   window_fixed win.ConsecutiveDays (p ∷ q ∷ r ∷ []) enclosing w d h = interval_fixed (strict run_value) p q r enclosing w d h
   window_fixed _ _ enclosing w d h = refl
 
-  table_fixed : (rs : List (RowPart Fixed)) (p : Part Fixed) (enclosing : List InstanceId) → AllByRecursion Within enclosing → (d : ℕ) → AllAgree (table_uses s l (map (λ r. (r, row_uses r)) (map (λ r. r.0) rs)) (uses s l p.0) enclosing d) → table (map (row_value s l) (map (λ r. r.0) rs)) (value s l p.0) enclosing d ≡ table (map (row_value s l') (map (λ r. r.0) rs)) (value s l' p.0) enclosing d
+  table_fixed : (rs : List (RowPart Fixed)) (p : Part Fixed) (enclosing : List InstanceId) → AllByRecursion Within enclosing → (d : ℕ) → AllAgree (table_uses s l (map (λ r. (r, row_uses s l r)) (map (λ r. r.0) rs)) (uses s l p.0) enclosing d) → table (map (row_value s l) (map (λ r. r.0) rs)) (value s l p.0) enclosing d ≡ table (map (row_value s l') (map (λ r. r.0) rs)) (value s l' p.0) enclosing d
   table_fixed [] p enclosing w d h = p.1 enclosing w d h
   table_fixed (r ∷ rs) p enclosing w d h =
-      let rest = table_uses s l (map (λ r. (r, row_uses r)) (map (λ r. r.0) rs)) (uses s l p.0) enclosing d in
-      let u = subst (λ (a : RowUses). AllAgree (a.cond enclosing d ++ after_cond (value s l r.0.cond enclosing d) (a.value enclosing d) rest)) (row_uses-is r.0) h in
+      let rest = table_uses s l (map (λ r. (r, row_uses s l r)) (map (λ r. r.0) rs)) (uses s l p.0) enclosing d in
+      let u = subst (λ (a : RowUses). AllAgree (a.cond enclosing d ++ after_cond (value s l r.0.cond enclosing d) (a.value enclosing d) rest)) (row_uses-is s l r.0) h in
       let both = split (uses s l r.0.cond enclosing d) _ u in
       ap (λ (a : RowMeaning). choose (a.cond enclosing d) (a.value enclosing d) (table (map (row_value s l) (map (λ r. r.0) rs)) (value s l p.0) enclosing d)) (row_value-is s l r.0)
       ∙ chosen Agrees (value s l r.0.cond enclosing d) (uses s l r.0.value enclosing d) rest both.1 (r.1.1 enclosing w d) (table_fixed rs p enclosing w d)
@@ -218,7 +207,7 @@ module _ (s : Shape) (l l' : Look) (Within Live : InstanceId → Type 0)
   new z = map-Expr Expr Row Meaning RowMeaning (value s l') (row_value s l') (without Fixed z)
 
   abbrev used : Expr-F (Part Fixed) (RowPart Fixed) → Expr-F Used RowUsed
-  used z = map-Expr Expr Row Used RowUsed (λ e. (e, uses s l e)) (λ r. (r, row_uses r)) (without Fixed z)
+  used z = map-Expr Expr Row Used RowUsed (λ e. (e, uses s l e)) (λ r. (r, row_uses s l r)) (without Fixed z)
 
   level_fixed : (z : Expr-F (Part Fixed) (RowPart Fixed)) (enclosing : List InstanceId) → AllByRecursion Within enclosing → (d : ℕ) → AllAgree (uses_step s l (used z) enclosing d) → tree_step s l (old z) enclosing d ≡ tree_step s l' (new z) enclosing d
   level_fixed (Const v) enclosing w d h = refl
@@ -237,5 +226,5 @@ module _ (s : Shape) (l l' : Look) (Within Live : InstanceId → Type 0)
   pub value_fixed : (e : Expr) → Fixed e
   value_fixed = by_parts Fixed (λ z enclosing w d h.
       ap (λ m. m enclosing d) (value-roll s l (without Fixed z))
-      ∙ level_fixed z enclosing w d (subst (λ m. AllAgree (m enclosing d)) (uses-roll (without Fixed z)) h)
+      ∙ level_fixed z enclosing w d (subst (λ m. AllAgree (m enclosing d)) (uses-roll s l (without Fixed z)) h)
       ∙ sym (ap (λ m. m enclosing d) (value-roll s l' (without Fixed z))))

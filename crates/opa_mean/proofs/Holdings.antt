@@ -47,7 +47,7 @@ module _ (r : Rulebase) (c : CaseView) (is : IsOf r c) where
   live = place_live (facts_of c).container Live (above_live (shape_of r.model) (facts_of c) (facts r c is))
 
   -- without a rule and an answer a value is unknown
-  unanswered : (a : AttrId) (i : InstanceId) (d : ℕ) → (is_some (rule_of r.rules a) || is_some (get c.answers (a.0, i))) ≡ false → value_at r c a i d ≡ Unknown
+  pub unanswered : (a : AttrId) (i : InstanceId) (d : ℕ) → (is_some (rule_of r.rules a) || is_some (get c.answers (a.0, i))) ≡ false → value_at r c a i d ≡ Unknown
   unanswered a i d h = determined (base_of r) (facts_of c) (base r c is).falls a i d ∙ go (rule_of r.rules a) (get c.answers (a.0, i)) h
     where
       go : (o : Option Rule) (p : Option Answer) → (is_some o || is_some p) ≡ false → concluded o (line_value p d) (λ e. fitted (shape_of r.model) a (value (shape_of r.model) (look_of (facts_of c) (mean (base_of r) (facts_of c))) e (i ∷ []) d)) ≡ Unknown

@@ -31,3 +31,15 @@ pub mod Stepping
 pub mod Supporting
 pub mod Unknowns
 pub mod Values
+pub mod NeedsLaws
+pub mod UseLaws
+pub mod Lying
+pub mod NeedsSame
+pub mod ByRule
+pub mod SameBoth
+pub mod SlotsAre
+pub mod ChangesAre
+pub mod Filtered
+pub mod HeldFresh
+pub mod SlotCounts
+pub mod ConeLying

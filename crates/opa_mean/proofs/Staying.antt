@@ -20,22 +20,23 @@ use Rattle.opa_tree.specs.declared.expr.Expr.{Expr}
 use Rattle.opa_tree.specs.declared.expr.Row.{Row}
 use Rattle.opa_tree.specs.declared.expr.Expr.TheOpen.{Expr-F, Const, Attr, All, Any, Not, Op, Certain, Known, Over, Window, Rolling, Table}
 use Rattle.opa_tree.proofs.Induction.{by_parts, Part, RowPart, without}
-use Rattle.opa_tree.specs.declared.expr.Expr.TheViews.{roll-Expr, out-Row}
-use Rattle.opa_tree.specs.declared.expr.Expr.TheFolds.{map-Expr, para-Row, para-roll-Expr, para-roll-Row}
+use Rattle.opa_tree.specs.declared.expr.Expr.TheViews.{roll-Expr}
+use Rattle.opa_tree.specs.declared.expr.Expr.TheFolds.{map-Expr}
 use Rattle.opa_tree.specs.Mentions.{mentioned, mentioned_step}
 use Rattle.opa_window.specs.Folds.{sum_value, greatest, least, run_value}
 use Rattle.opa_window.specs.Windows.{in_window, before, on_or_after, years_since}
 use Rattle.opa_mean.specs.Frees.{free_step, is_free}
 use Rattle.opa_mean.specs.Looks.{Look}
 use Rattle.opa_mean.specs.Meaning.{Meaning, RowMeaning, tree_step, value, each, at_place, certain_of, choose, item, quant_of, over, window, table}
-use Rattle.opa_mean.specs.Needs.{if_unknown, cond_needs, over_needs, part_needs, item_needs, window_needs, table_needs, needs_step, needs_row, needs}
+use Rattle.opa_mean.specs.Needs.{if_unknown, cond_needs, over_needs, part_needs, item_needs, window_needs, table_needs, needs_step, needs}
 use Rattle.opa_mean.specs.Operations.{op_of}
 use Rattle.opa_mean.specs.Places.{owner_of, place}
-use Rattle.opa_mean.specs.Uses.{Use, Uses, Used, RowUses, RowUsed, at_place_uses}
+use Rattle.opa_mean.specs.Uses.{Use, Used, RowUses, RowUsed, at_place_uses}
 use Rattle.opa_mean.proofs.Chains.{place_entity}
 use Rattle.opa_mean.proofs.Everywhere.{all_parts}
 use Rattle.opa_mean.proofs.Freedom.{Good, GoodRow, good_parts, good_rows}
 use Rattle.opa_mean.proofs.Growing.{Grows, value_grows, place_same, place_live}
+use Rattle.opa_mean.proofs.NeedsLaws.{row_needs, needs-roll, row_needs-is}
 use Rattle.opa_mean.proofs.Levels.{row_value, row_free, row_mentions, value-roll, free-roll, mentioned-roll, row_value-is}
 use Rattle.opa_mean.proofs.Resting.{all_same, tested, at_date_same, in_window_same, rolling_same}
 
@@ -73,17 +74,6 @@ module _ (s : Shape) (Live : InstanceId → Type 0) (Ok : AttrId → Type 0) (l 
 
   abbrev neededs : Parts → List Used
   neededs ps = map (λ e. (e, needs s l list_need point_needs e)) (map (λ p. p.0) ps)
-
-  unfoldable row_needs : Row → RowUses
-  row_needs = para-Row Uses RowUses (needs_step s l list_need point_needs) (needs_row s l list_need point_needs)
-
-  needs-roll : (x : Expr-F Expr Row) → needs s l list_need point_needs (roll-Expr x) ≡ needs_step s l list_need point_needs (map-Expr Expr Row Used RowUsed (λ e. (e, needs s l list_need point_needs e)) (λ r. (r, row_needs r)) x)
-  unfolding needs row_needs
-  needs-roll = para-roll-Expr Uses RowUses (needs_step s l list_need point_needs) (needs_row s l list_need point_needs)
-
-  row_needs-is : (r : Row) → row_needs r ≡ record { cond = needs s l list_need point_needs r.cond; value = needs s l list_need point_needs r.value }
-  unfolding needs row_needs
-  row_needs-is r = para-roll-Row Uses RowUses (needs_step s l list_need point_needs) (needs_row s l list_need point_needs) (out-Row r)
 
   -- open needs, whether or not the value is unknown
   guarded : (v : Value) (us : List Use) → AllOpen us → AllOpen (if_unknown v us)
@@ -173,12 +163,12 @@ module _ (s : Shape) (Live : InstanceId → Type 0) (Ok : AttrId → Type 0) (l 
   taken (Words t) us vs ws h f g = refl
   taken (Day k) us vs ws h f g = refl
 
-  table_stays : (rs : List (RowPart Stays)) (p : Part Stays) → AllByRecursion (λ r. GoodRow Ok r.0) rs → Good Ok p.0 → (enclosing : List InstanceId) → AllLive enclosing → (d : ℕ) → AllOpen (table_needs s l list_need point_needs (map (λ r. (r, row_needs r)) (map (λ r. r.0) rs)) (needs s l list_need point_needs p.0) enclosing d) → table (map (row_value s l) (map (λ r. r.0) rs)) (value s l p.0) enclosing d ≡ table (map (row_value s l') (map (λ r. r.0) rs)) (value s l' p.0) enclosing d
+  table_stays : (rs : List (RowPart Stays)) (p : Part Stays) → AllByRecursion (λ r. GoodRow Ok r.0) rs → Good Ok p.0 → (enclosing : List InstanceId) → AllLive enclosing → (d : ℕ) → AllOpen (table_needs s l list_need point_needs (map (λ r. (r, row_needs s l list_need point_needs r)) (map (λ r. r.0) rs)) (needs s l list_need point_needs p.0) enclosing d) → table (map (row_value s l) (map (λ r. r.0) rs)) (value s l p.0) enclosing d ≡ table (map (row_value s l') (map (λ r. r.0) rs)) (value s l' p.0) enclosing d
   table_stays [] p f g enclosing live d h = p.1 g enclosing live d (guarded _ _ h)
   table_stays (r ∷ rs) p f g enclosing live d h =
-      let rest = table_needs s l list_need point_needs (map (λ r. (r, row_needs r)) (map (λ r. r.0) rs)) (needs s l list_need point_needs p.0) enclosing d in
+      let rest = table_needs s l list_need point_needs (map (λ r. (r, row_needs s l list_need point_needs r)) (map (λ r. r.0) rs)) (needs s l list_need point_needs p.0) enclosing d in
       let us = needs s l list_need point_needs r.0.cond enclosing d in let vs = needs s l list_need point_needs r.0.value enclosing d in
-      let h' : AllOpen (cond_needs (value s l r.0.cond enclosing d) us vs rest) = subst (λ (a : RowUses). AllOpen (cond_needs (value s l r.0.cond enclosing d) (a.cond enclosing d) (a.value enclosing d) rest)) (row_needs-is r.0) h in
+      let h' : AllOpen (cond_needs (value s l r.0.cond enclosing d) us vs rest) = subst (λ (a : RowUses). AllOpen (cond_needs (value s l r.0.cond enclosing d) (a.cond enclosing d) (a.value enclosing d) rest)) (row_needs-is s l list_need point_needs r.0) h in
       ap (λ (a : RowMeaning). choose (a.cond enclosing d) (a.value enclosing d) (table (map (row_value s l) (map (λ r. r.0) rs)) (value s l p.0) enclosing d)) (row_value-is s l r.0)
       ∙ taken (value s l r.0.cond enclosing d) us vs rest h' (λ k. r.1.1 f.0.1 enclosing live d (guarded _ _ k)) (table_stays rs p f.1 g enclosing live d)
       ∙ ap (λ v. choose v (value s l' r.0.value enclosing d) (table (map (row_value s l') (map (λ r. r.0) rs)) (value s l' p.0) enclosing d)) (r.1.0 f.0.0 enclosing live d (cond_open _ us vs rest h'))
@@ -197,7 +187,7 @@ module _ (s : Shape) (Live : InstanceId → Type 0) (Ok : AttrId → Type 0) (l 
   mentions z = map-Expr Expr Row (List AttrId) (List AttrId) mentioned row_mentions (without Stays z)
 
   abbrev needed : Expr-F (Part Stays) (RowPart Stays) → Expr-F Used RowUsed
-  needed z = map-Expr Expr Row Used RowUsed (λ e. (e, needs s l list_need point_needs e)) (λ r. (r, row_needs r)) (without Stays z)
+  needed z = map-Expr Expr Row Used RowUsed (λ e. (e, needs s l list_need point_needs e)) (λ r. (r, row_needs s l list_need point_needs r)) (without Stays z)
 
   at_source : (r : RelId) (enclosing : List InstanceId) → AllLive enclosing → (i : InstanceId) → place l.container enclosing (s.source r) ≡ Some i → Live i × (i.entity.0 ≡ s.source r)
   at_source r enclosing live i is = (place_live s Live Ok l l' c enclosing live (s.source r) i is, place_entity l.container enclosing (s.source r) i is)
@@ -229,5 +219,5 @@ module _ (s : Shape) (Live : InstanceId → Type 0) (Ok : AttrId → Type 0) (l 
   pub value_stays : (e : Expr) → Stays e
   value_stays = by_parts Stays (λ z g enclosing live d h. whole (roll-Expr (without Stays z)) g enclosing live d
       (λ un k. ap (λ m. m enclosing d) (value-roll s l (without Stays z))
-      ∙ level_stays z (sym (free-roll (without Stays z)) ∙ g.0) (subst (AllByRecursion Ok) (mentioned-roll (without Stays z)) g.1) enclosing live d (sym (ap (λ m. m enclosing d) (value-roll s l (without Stays z))) ∙ un) (subst (λ m. AllOpen (m enclosing d)) (needs-roll (without Stays z)) k)
+      ∙ level_stays z (sym (free-roll (without Stays z)) ∙ g.0) (subst (AllByRecursion Ok) (mentioned-roll (without Stays z)) g.1) enclosing live d (sym (ap (λ m. m enclosing d) (value-roll s l (without Stays z))) ∙ un) (subst (λ m. AllOpen (m enclosing d)) (needs-roll s l list_need point_needs (without Stays z)) k)
       ∙ sym (ap (λ m. m enclosing d) (value-roll s l' (without Stays z)))) h)

@@ -6,6 +6,7 @@ pub mod Frees
 pub mod Given
 pub mod Holding
 pub mod Laws
+pub mod Lies
 pub mod Looks
 pub mod Mean
 pub mod Meaning
@@ -13,11 +14,15 @@ pub mod Memory
 pub mod Needs
 pub mod Next
 pub mod Operations
+pub mod PartNeeds
+pub mod PartUses
 pub mod Places
 pub mod Reads
 pub mod Reports
 pub mod Rulebases
 pub mod Sameness
+pub mod SlotLaws
+pub mod Slots
 pub mod Spans
 pub mod Tables
 pub mod Uses

@@ -38,6 +38,17 @@ pub fn target_of(model: &Model, rel: RelId) -> u32
     }
 }
 
+/// Whether a relation is declared with `every`: its list has all instances of its target.
+pub fn is_every(model: &Model, rel: RelId) -> bool
+    ensures { result ≡ (shape_of model.now).every rel }
+{
+    if rel.0 < model.relation_count() {
+        model.relation(rel).every
+    } else {
+        false
+    }
+}
+
 /// A concluded value: a currency is rounded.
 pub(crate) fn concluded(model: &Model, attr: AttrId, value: Value) -> Value
     ensures { result ≡ fitted (shape_of model.now) attr value }

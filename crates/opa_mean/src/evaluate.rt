@@ -301,7 +301,7 @@ fn evaluate_rows<K: Look>(
 }
 
 /// An instance before the enclosing ones.
-pub(crate) fn within(
+pub fn within(
     alloc: Global,
     entity: u32,
     name: &Txt,

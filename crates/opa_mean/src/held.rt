@@ -45,8 +45,8 @@ pub trait Held {
 
 /// The lines that are held, as what is looked up.
 #[derive(Clone, Copy)]
-struct HeldLook<'a, H: Held> {
-    held: &'a H,
+pub struct HeldLook<'a, H: Held> {
+    pub held: &'a H,
 }
 
 impl<'a, H: Held> Look for HeldLook<'a, H> {

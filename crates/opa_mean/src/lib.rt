@@ -15,13 +15,16 @@ mod plain;
 mod quantifiers;
 mod questions;
 mod read;
+mod slot_laws;
+mod slots;
 mod spans;
 mod windows;
 
-pub use declared::{is_money, owner_of, source_of, target_of};
+pub use declared::{is_every, is_money, owner_of, source_of, target_of};
 pub use determine::value_on;
+pub use evaluate::within;
 pub use folds::number_of;
-pub use held::{Held, tree_value};
+pub use held::{Held, HeldLook, tree_value};
 pub use laws::{
     asked, clean_stays, determination, finished, monotone, of_the_case_alone, reads_fix, relevant,
     supported, uses_fix,
@@ -30,4 +33,10 @@ pub use look::Look;
 pub use operations::{op_of_one, op_of_two};
 pub use places::{place_in, place_of};
 pub use plain::{Derive, Plain};
-pub use questions::reads;
+pub use questions::{alone, reads};
+pub use slot_laws::{
+    changes_are, cone_lies, held_is_fresh, instances_once, line_is_one, nothing_changes,
+    nothing_is_dirty, owned_are_members, sameness_is_exact, slots_are_live, slots_counted,
+    slots_in_order, slots_once, uses_lie,
+};
+pub use slots::{has_list_place, has_place, is_slot};

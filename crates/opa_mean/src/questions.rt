@@ -59,7 +59,7 @@ pub(crate) fn look_at(
 }
 
 /// An instance as the only enclosing one.
-pub(crate) fn alone(alloc: Global, inst: &InstanceId) -> Result<List<InstanceId>, NoMemory>
+pub fn alone(alloc: Global, inst: &InstanceId) -> Result<List<InstanceId>, NoMemory>
     ensures { IfOk result (λ all. all ≡ inst.now ∷ []) }
 {
     let mut all = List::new(alloc);

@@ -1,0 +1,17 @@
+pub mod Rereading
+pub mod Reaching
+pub mod Naming
+pub mod Differing
+pub mod Causes
+pub mod Catching
+pub mod Laying
+pub mod Looking
+pub mod Staging
+pub mod Ending
+pub mod Counting
+pub mod Rising
+pub mod Allowing
+pub mod Completed
+pub mod Once
+pub mod Beginning
+pub mod Lowering
