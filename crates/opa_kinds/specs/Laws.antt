@@ -1,5 +1,5 @@
 -- What holds of every accepted rulebase, and of every case that fits it.
-use Rattle.std.specs.Prelude.{◌≡◌, ℕ, true, List, Contains, All}
+use Rattle.std.specs.Prelude.{◌≡◌, ℕ, true, List, Contains}
 use Rattle.opa_model.specs.declared.ids.AttrId.{AttrId}
 use Rattle.opa_model.specs.declared.things.Kind.{Kind}
 use Rattle.opa_model.specs.declared.things.Kind.TheVariants as kinds
@@ -16,19 +16,13 @@ use Rattle.opa_mean.specs.Mean.{look_of}
 use Rattle.opa_mean.specs.Meaning.{value}
 use Rattle.opa_mean.specs.Rulebases.{IsOf, value_at}
 use Rattle.opa_kinds.specs.Conditions.{HasWithin, IsConditionOf}
-use Rattle.opa_kinds.specs.Literals.{HasCalendarLiterals}
-
--- each literal of the rules that is a date is one of the calendar's days
-abbrev pub HaveCalendarLiterals : List Rule → Type 0
-HaveCalendarLiterals rules = All (λ r. HasCalendarLiterals r.expr) rules
 
 abbrev pub kind_of : Rulebase → AttrId → Kind
 kind_of r a = (attribute_or r.model a).kind
 
--- where literals are of the calendar, each value is unknown, uncertain, or a plain value of its attribute's kind
+-- each value is unknown, uncertain, or a plain value of its attribute's kind
 abbrev pub ValuesHaveKinds : Type 0
-ValuesHaveKinds = (r : Rulebase) (c : CaseView) → IsOf r c → HaveCalendarLiterals r.rules
-    → (a : AttrId) (i : InstanceId) (d : ℕ) → has_kind (kind_of r a) (value_at r c a i d) ≡ true
+ValuesHaveKinds = (r : Rulebase) (c : CaseView) → IsOf r c → (a : AttrId) (i : InstanceId) (d : ℕ) → has_kind (kind_of r a) (value_at r c a i d) ≡ true
 
 -- what the case gives, beside the values of attributes
 abbrev pub values_of : Rulebase → CaseView → Look

@@ -5,15 +5,15 @@ ghost use Rattle.opa_tree.specs.declared.rulebase.Rulebase.{Rulebase};
 
 use opa_members::members_count;
 
-/// In accepted rules whose literals are of the calendar, and over every case that fits them, each value of an attribute is
-/// unknown, uncertain, or a plain value of the attribute's kind.
+/// In accepted rules, and over every case that fits them, each value of an attribute is unknown, uncertain, or a plain value
+/// of the attribute's kind.
 #[tactic(auto, using(crate::proofs::LawsHold::laws))]
 pub fn values_have_kinds()
     ensures { ValuesHaveKinds }
 {}
 
 /// In accepted rules, and over every case that fits them, each operand of `all`, `any`, `not` and of a quantifier over truth
-/// values is true, false, unknown or uncertain, whatever the literals.
+/// values is true, false, unknown or uncertain.
 #[tactic(auto, using(crate::proofs::LawsHold::laws))]
 pub fn conditions_are_truths()
     ensures { ConditionsAreTruths }

@@ -1,7 +1,6 @@
 // A rulebase is loaded from a shelf.
 ghost use Rattle.std.specs.Prelude.{◌≡◌, ◌≤◌, length, Ok, All, IfOk, IfErr, IfSome};
 ghost use Rattle.opa_files.specs.declared.source.SourceFile.{SourceFile as FileView};
-ghost use Rattle.opa_kinds.specs.Laws.{HaveCalendarLiterals};
 ghost use Rattle.opa_kinds.specs.Memberships.{MembershipsCount};
 ghost use Rattle.opa_rulebase.specs.Loading.{Opens, HasLoadError, IsUntaken, IsUnacceptedAs, IsRefusedAs, IsAccepted, name_at};
 
@@ -11,7 +10,6 @@ use crate::printed::refusal_text;
 use opa_files::{SourceFile, TakeError, take_files};
 use opa_io::Shelf;
 use opa_kinds::memberships_count;
-use opa_literals::{inferences_are_of_calendar, rules_are_of_calendar};
 use opa_tree::Rulebase;
 use std::alloc::Global;
 
@@ -86,17 +84,12 @@ pub fn load_rulebase<F: Shelf>(
     // In what is accepted, over every case, trees that stand for quantifiers over an inferred relationship count its members alone.
     ensures memberships { IfOk result MembershipsCount }
 
-    // Each literal of what is accepted that is a date is one of the calendar's days.
-    ensures literals { IfOk result (λ r. HaveCalendarLiterals r.rules) }
-
     // The shelf is as it was.
     ensures files { F.files shelf.new ≡ F.files shelf.old }
     ensures later { F.take_faults shelf.old ≤ F.take_faults shelf.new }
     ensures kept { F.keep_faults shelf.new ≡ F.keep_faults shelf.old }
 {
     memberships_count();
-    inferences_are_of_calendar();
-    rules_are_of_calendar();
     match take_files(alloc, shelf, name) {
         Ok(files) => load_files(alloc, files.as_slice()),
         Err(error) => Err(untaken(alloc, error)),

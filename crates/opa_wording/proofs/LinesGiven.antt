@@ -41,6 +41,7 @@ use Rattle.opa_sentence.specs.Readings.{with_tree, but_last, kept, days, days_of
 use Rattle.opa_sentence.specs.Table.{relation_at, relation_found, past_found, related_or_none}
 use Rattle.opa_sentence.specs.Grammar.{Part, Spells, SpellsMore, SpellsArgument, SpellsArguments}
 use Rattle.opa_sentence.specs.Grammar as g
+use Rattle.opa_sentence.proofs.Calendar.{dates_are_literals}
 use Rattle.opa_wording.specs.Grammatical.{is_round, IsGrammatical, AreGrammatical}
 use Rattle.opa_wording.specs.Grammatical as tree
 use Rattle.opa_wording.proofs.TokensGiven.{number_range, unsigned_count, negative_range, day_range, IsSuch, AreSuch}
@@ -504,7 +505,7 @@ module _ (m : Lists) (ns : Names) (names : AreNamed m ns) where
       given_by (g.Spells.over {x = x} {y = y} h d f) = λ r. let a = given_by d r in let c = given_by f a.1.1 in (between_given op.Div refl refl x y a.0 c.0, c.1)
       given_by (g.Spells.number {t = t} h n is) = λ r. (literal_given m b (value.Num n) refl (number_range t.text n is, tt), r.1)
       given_by (g.Spells.negative {t = t} h k n is) = λ r. (literal_given m b (value.Num n) refl (negative_range t.text n is, tt), r.1.1)
-      given_by (g.Spells.date {t = t} h d is) = λ r. (literal_given m b (value.Day d) refl (day_range t.text d is), r.1)
+      given_by (g.Spells.date {t = t} h d is) = λ r. (literal_given m b (value.Day d) (dates_are_literals t.text d is) (day_range t.text d is), r.1)
       given_by (g.Spells.text {t = t} h) = λ r. (literal_given m b (value.Words (unquoted t.text)) refl (class_such t.class class.Text t.text h r.0), r.1)
       given_by (g.Spells.yes h) = λ r. (literal_given m b (value.Bool true) refl tt, r.1)
       given_by (g.Spells.no h) = λ r. (literal_given m b (value.Bool false) refl tt, r.1)
