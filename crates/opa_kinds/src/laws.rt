@@ -3,7 +3,7 @@ ghost use Rattle.opa_kinds.specs.Laws.{ConditionsAreTruths, ValuesHaveKinds};
 ghost use Rattle.opa_kinds.specs.Memberships.{MembershipsCount};
 ghost use Rattle.opa_tree.specs.declared.rulebase.Rulebase.{Rulebase};
 
-use opa_members::members_count;
+use crate::members::members_count;
 
 /// In accepted rules, and over every case that fits them, each value of an attribute is unknown, uncertain, or a plain value
 /// of the attribute's kind.

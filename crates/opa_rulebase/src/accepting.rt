@@ -104,6 +104,7 @@ fn accept_rules(
     match check(alloc, &model, &rules) {
         Ok(ranks) => {
             let ruled = ruled_of(alloc, model.attribute_count(), rules.as_slice())?;
+            let rules = rules.with_places(alloc, model.attribute_count())?;
             Ok(Rulebase::new(model, rules, ranks, ruled, files))
         }
         Err(RbError::Refused(fault)) => {
