@@ -23,6 +23,7 @@ mod question;
 mod slots;
 mod turn;
 
+pub use answer_faults::has_kind;
 pub use case::Case;
 pub use change::{ChangeCommand, Refusal};
 pub use laws::{

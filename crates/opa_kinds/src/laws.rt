@@ -1,5 +1,5 @@
 // What accepted rules conclude has its kind.
-ghost use Rattle.opa_kinds.specs.Laws.{ConditionsAreTruths, ValuesHaveKinds};
+ghost use Rattle.opa_kinds.specs.Laws.{ConditionsAreTruths, ForStandsToOne, ValuesHaveKinds};
 ghost use Rattle.opa_kinds.specs.Memberships.{MembershipsCount};
 ghost use Rattle.opa_tree.specs.declared.rulebase.Rulebase.{Rulebase};
 
@@ -17,6 +17,12 @@ pub fn values_have_kinds()
 #[tactic(auto, using(crate::proofs::LawsHold::laws))]
 pub fn conditions_are_truths()
     ensures { ConditionsAreTruths }
+{}
+
+/// In accepted rules `for` stands over declared relations to one alone.
+#[tactic(auto, using(crate::proofs::LawsHold::laws))]
+pub fn for_stands_to_one()
+    ensures { ForStandsToOne }
 {}
 
 /// In accepted rules, and over every case that fits them, each tree that stands for a quantifier over an inferred relationship

@@ -4,5 +4,7 @@
 mod laws;
 mod members;
 
-pub use laws::{conditions_are_truths, memberships_count, values_have_kinds};
+pub use laws::{
+    conditions_are_truths, for_stands_to_one, memberships_count, values_have_kinds,
+};
 pub use members::members_count;

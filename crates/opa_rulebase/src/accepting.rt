@@ -7,6 +7,7 @@ ghost use Rattle.opa_tree.specs.declared.faults.RbFault.{RbFault as FaultView};
 ghost use Rattle.opa_files.specs.declared.source.SourceFile.{SourceFile as FileView};
 ghost use Rattle.opa_layout.specs.Blocks.{lines_of};
 ghost use Rattle.opa_files.specs.Layouts.{IsShort};
+ghost use Rattle.opa_decl.specs.Phrasing.{IsReadable};
 ghost use Rattle.opa_parse.specs.Fronts.{AreShort};
 ghost use Rattle.opa_parse.specs.Handed.{AreFormed, AreDeclared};
 ghost use Rattle.opa_check.specs.Refused.{IsRefused as IsCheckFault};
@@ -123,12 +124,14 @@ fn accept_inferred(
     blocks: &[Block],
     files: &[SourceFile],
 ) -> Result<Rulebase, Unaccepted>
+    requires readable { IsReadable model }
     requires inferred { AreInferred files.now blocks.now model inferences.now }
     requires formed { AreFormed inferences.now }
     requires short { All (λ b. AreShort b.lines) blocks.now }
     requires placed { All (λ b. b.file < length files.now) blocks.now }
     requires few { length files.now < 2 ^ 32 }
     ensures accepted { IfOk result (IsAccepted files.now) }
+    ensures readable { IfOk result (λ base. IsReadable base.model) }
     ensures refused { IfErr result (HasRefusal files.now) }
 {
     let names = names(alloc, files)?;
@@ -146,11 +149,13 @@ fn accept_declared(
     blocks: &[Block],
     files: &[SourceFile],
 ) -> Result<Rulebase, Unaccepted>
+    requires readable { IsReadable model }
     requires declared { IsDeclared files.now blocks.now model }
     requires short { All (λ b. AreShort b.lines) blocks.now }
     requires placed { All (λ b. b.file < length files.now) blocks.now }
     requires few { length files.now < 2 ^ 32 }
     ensures accepted { IfOk result (IsAccepted files.now) }
+    ensures readable { IfOk result (λ base. IsReadable base.model) }
     ensures refused { IfErr result (HasRefusal files.now) }
 {
     match read_inferences(alloc, &model, blocks) {
@@ -171,6 +176,7 @@ fn accept_blocks(
     requires placed { All (λ b. b.file < length files.now) blocks.now }
     requires few { length files.now < 2 ^ 32 }
     ensures accepted { IfOk result (IsAccepted files.now) }
+    ensures readable { IfOk result (λ base. IsReadable base.model) }
     ensures refused { IfErr result (HasRefusal files.now) }
 {
     match read_declarations(alloc, blocks) {
@@ -185,6 +191,7 @@ pub fn accept(alloc: Global, files: &[SourceFile]) -> Result<Rulebase, Unaccepte
     requires texts { All (λ (f : FileView). length f.text < 2 ^ 32) files.now }
     requires few { length files.now < 2 ^ 32 }
     ensures accepted { IfOk result (IsAccepted files.now) }
+    ensures readable { IfOk result (λ base. IsReadable base.model) }
     ensures refused { IfErr result (HasRefusal files.now) }
 {
     match lay_out(alloc, files) {
