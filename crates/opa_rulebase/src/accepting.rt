@@ -7,7 +7,7 @@ ghost use Rattle.opa_tree.specs.declared.faults.RbFault.{RbFault as FaultView};
 ghost use Rattle.opa_files.specs.declared.source.SourceFile.{SourceFile as FileView};
 ghost use Rattle.opa_layout.specs.Blocks.{lines_of};
 ghost use Rattle.opa_files.specs.Layouts.{IsShort};
-ghost use Rattle.opa_decl.specs.Phrasing.{IsReadable};
+ghost use Rattle.opa_verbs.specs.Phrasing.{IsReadable};
 ghost use Rattle.opa_parse.specs.Fronts.{AreShort};
 ghost use Rattle.opa_parse.specs.Handed.{AreFormed, AreDeclared};
 ghost use Rattle.opa_check.specs.Refused.{IsRefused as IsCheckFault};

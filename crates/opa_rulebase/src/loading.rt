@@ -1,6 +1,6 @@
 // A rulebase is loaded from a shelf.
 ghost use Rattle.std.specs.Prelude.{◌≡◌, ◌≤◌, length, Ok, All, IfOk, IfErr, IfSome};
-ghost use Rattle.opa_decl.specs.Phrasing.{IsReadable};
+ghost use Rattle.opa_verbs.specs.Phrasing.{IsReadable};
 ghost use Rattle.opa_files.specs.declared.source.SourceFile.{SourceFile as FileView};
 ghost use Rattle.opa_kinds.specs.Memberships.{MembershipsCount};
 ghost use Rattle.opa_rulebase.specs.Loading.{Opens, HasLoadError, IsUntaken, IsUnacceptedAs, IsRefusedAs, IsAccepted, name_at};

@@ -47,7 +47,8 @@ use Rattle.opa_parse.specs.declared.block.Membership.{Membership}
 use Rattle.opa_parse.specs.Groups as g
 use Rattle.opa_parse.specs.Groups.{Item, Grouped, More, Case, MoreCases, AllCases}
 use Rattle.opa_parse.specs.Lines.{IsCut, IsLine, AreLines, body, is_none, past_for_all, past_for_some, past_denial, past_word, whole, whole_relation, relation_of, over, all_head, any_head, plain_head, for_all_head, for_some_head, head_of}
-use Rattle.opa_parse.specs.Naming.{denials, operand, meanings_from, declared_from, inferred_from, member_of, names_in}
+use Rattle.opa_parse.specs.Naming.{operand, meanings_from, declared_from, inferred_from, member_of, names_in}
+use Rattle.opa_verbs.specs.Phrasing.{denials}
 use Rattle.opa_parse.specs.Openings.{past_one, past_equals}
 use Rattle.opa_parse.specs.Rules as r
 use Rattle.opa_parse.specs.Rules.{AreRuleBlocks, IsRuleBlock, AreRules, rules_in}

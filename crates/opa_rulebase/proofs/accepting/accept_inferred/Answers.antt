@@ -1,7 +1,7 @@
 use Rattle.std.proofs.Common.{◌<◌, length, All, ap, sym, subst, ◌∙◌}
 use Rattle.std.proofs.lemmas.List.{length-map}
 use Rattle.opa_tree.specs.Accepted.{AreFiled}
-use Rattle.opa_decl.specs.Phrasing.{IsReadable}
+use Rattle.opa_verbs.specs.Phrasing.{IsReadable}
 use Rattle.opa_files.specs.declared.source.SourceFile.{SourceFile}
 use Rattle.opa_table.specs.declared.whole.TableFile.{TableFile}
 use Rattle.opa_table.specs.Whole.{AreAllRules, AreAllRefused}

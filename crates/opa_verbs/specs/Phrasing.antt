@@ -39,16 +39,21 @@ denials_by m (Some sentence) = listed (said m sentence Negative)
 abbrev pub denials : Lists → Attribute → List (List ℕ)
 denials m a = denials_by m a.sentence
 
--- the phrase of an attribute, and its negative form
+-- the texts that stand for an attribute, or deny it
 abbrev pub texts_of : Lists → Attribute → List (List ℕ)
 texts_of m a = a.phrase ∷ denials m a
 
 abbrev pub operand_phrases : Lists → List (List ℕ)
 operand_phrases m = flat_map (texts_of m) m.attributes
 
--- The phrases of attributes and relations are phrases, negative forms are worded, and all of these differ.
-pub record IsReadable (m : Lists) : Type 0 where
+-- The phrases of attributes and relations, and these of inferred relations, are phrases, what denies an attribute is worded, and all of these differ.
+pub record IsReadableWith (inferred : List (List ℕ)) (m : Lists) : Type 0 where
   pub attributes : All IsPhrase (attribute_phrases m)
   pub relations : All IsPhrase (relation_phrases m)
+  pub others : All IsPhrase inferred
   pub denied : All IsWorded (flat_map (denials m) m.attributes)
-  pub differ : AllPairs (λ p q. p ≢ q) (operand_phrases m ++ relation_phrases m)
+  pub differ : AllPairs (λ p q. p ≢ q) (operand_phrases m ++ (relation_phrases m ++ inferred))
+
+-- rules can read the model
+abbrev pub IsReadable : Lists → Type 0
+IsReadable m = IsReadableWith [] m
