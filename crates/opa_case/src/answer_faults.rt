@@ -97,7 +97,7 @@ fn have_kind(attribute: &Attribute, line: &Line<Value>) -> bool
 }
 
 /// Whether the value, where it is plain, is of the kind.
-fn has_kind(kind: Kind, value: &Value) -> bool
+pub fn has_kind(kind: Kind, value: &Value) -> bool
     ensures { result ≡ step.has_kind kind value.now }
 {
     match value {

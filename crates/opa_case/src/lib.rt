@@ -26,6 +26,7 @@ mod slots;
 mod turn;
 mod whole_walk;
 
+pub use answer_faults::has_kind;
 pub use case::Case;
 pub use change::{ChangeCommand, Refusal};
 pub use instances::{instances_of, live_instances};

@@ -25,7 +25,7 @@ use Rattle.opa_check.specs.Found.{uses_by, rank_found, found_by}
 use Rattle.opa_check.specs.Laws.{AcceptedAreNotRefused}
 use Rattle.opa_check.specs.Refused.{IsRefused, IsRefusedBy}
 use Rattle.opa_check.proofs.FoundLaws.{is_taken, highest_is, complete_at, within_at}
-use Rattle.opa_check.proofs.UseLaws.{rule_after}
+use Rattle.opa_tree.proofs.Setting.{rule_after}
 
 both : (a b : Bool) → a ≡ true → b ≡ true → (a && b) ≡ true
 both true b h k = k

@@ -18,7 +18,7 @@ use Rattle.opa_tree.specs.Rules.{rule_of, concludes}
 use Rattle.opa_tree.specs.Scopes.{rule_is_reached}
 use Rattle.opa_tree.proofs.FirstFaultLaws.{first_fault_is_first_holds}
 use Rattle.opa_check.specs.Faults.{fault_at, unless, when, own_faults, second_faults, rule_faults}
-use Rattle.opa_check.proofs.UseLaws.{rule_after}
+use Rattle.opa_tree.proofs.Setting.{rule_after}
 
 none_left : {X : Type 0} (xs ys : List X) → xs ++ ys ≡ [] → xs ≡ []
 none_left [] ys h = refl

@@ -6,7 +6,7 @@ use Rattle.opa_model.specs.declared.ids.AttrId.{AttrId}
 use Rattle.opa_tree.specs.declared.rules.Rule.{Rule}
 use Rattle.opa_tree.specs.Rules.{rule_of, concludes}
 use Rattle.opa_check.specs.Faults.{AreMarks}
-use Rattle.opa_check.proofs.UseLaws.{set_same, set_other, set_length, same_place, other_place, rule_after}
+use Rattle.opa_tree.proofs.Setting.{set_same, set_other, set_length, same_place, other_place, rule_after}
 
 pub rest_from : {X : Type 0} (xs : List X) (i : ℕ) (x : X) → i < length xs → x ≡ get_or xs i x → drop i xs ≡ x ∷ drop (i + 1) xs
 rest_from [] i x lt is = absurd (omega (arith, lt))

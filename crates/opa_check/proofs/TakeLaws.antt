@@ -6,7 +6,7 @@ use Rattle.std.proofs.lemmas.Option.{slice_get_within}
 use Rattle.opa_model.specs.declared.ids.AttrId.{AttrId}
 use Rattle.opa_check.specs.Found.{or_zero, rank_found, higher, highest_found, found_by, found_count, AreFound}
 use Rattle.opa_check.proofs.FoundLaws.{found_grows, highest_low}
-use Rattle.opa_check.proofs.UseLaws.{set_same, set_other, set_length, same_place, other_place}
+use Rattle.opa_tree.proofs.Setting.{set_same, set_other, set_length, same_place, other_place}
 
 pub higher-none : (x : Option ℕ) → higher x (Some 0) ≡ x
 higher-none None = refl

@@ -1,37 +1,13 @@
 -- What attributes mention, rule by rule.
 use Rattle.std.proofs.Common.{◌≡◌, ◌≢◌, ◌∙◌, ◌<◌, ◌+◌, ℕ, zero, suc, arith, get_or, take, Bool, true, false, cond, List, [], ◌∷◌, ◌++◌, length, map, refl, sym, ap, subst, nat_eq}
 use Rattle.std.specs.Prelude.{Option, None, Some, is_some, slice_get, slice_set, ◌==◌}
-use Rattle.std.proofs.Math.Seq.{take-suc}
 use Rattle.std.specs.Option.{option_map, option_or}
-use Rattle.std.proofs.lemmas.Bool.{false≢true}
-use Rattle.std.proofs.lemmas.List.Folds.{find-append}
 use Rattle.opa_model.specs.declared.ids.AttrId.{AttrId}
 use Rattle.opa_tree.specs.declared.rules.Rule.{Rule}
 use Rattle.opa_tree.specs.Mentions.{mentions}
 use Rattle.opa_tree.specs.Rules.{rule_of, concludes}
+use Rattle.opa_tree.proofs.Setting.{set_same, set_other, set_length, same_place, other_place, rule_after}
 use Rattle.opa_check.specs.Found.{uses_by, AreUses}
-
-module _ {X : Type 0} where
-  pub set_same : (xs : List X) (i : ℕ) (x : X) → i < length xs → slice_get (slice_set xs i x) i ≡ Some x
-  set_same [] i x lt = absurd (omega (arith, lt))
-  set_same (y ∷ xs) zero x lt = refl
-  set_same (y ∷ xs) (suc i) x lt = set_same xs i x (omega (arith, lt))
-
-  pub set_other : (xs : List X) (i j : ℕ) (x : X) → j ≢ i → slice_get (slice_set xs i x) j ≡ slice_get xs j
-  set_other [] i j x differ = refl
-  set_other (y ∷ xs) zero zero x differ = absurd (differ refl)
-  set_other (y ∷ xs) zero (suc j) x differ = refl
-  set_other (y ∷ xs) (suc i) zero x differ = refl
-  set_other (y ∷ xs) (suc i) (suc j) x differ = set_other xs i j x (λ same. differ (ap suc same))
-
-  pub set_length : (xs : List X) (i : ℕ) (x : X) → length (slice_set xs i x) ≡ length xs
-  set_length [] i x = refl
-  set_length (y ∷ xs) zero x = refl
-  set_length (y ∷ xs) (suc i) x = ap suc (set_length xs i x)
-
--- a rule that comes after others concludes its attribute where none of them does
-pub rule_after : (before : List Rule) (rule : Rule) (a : AttrId) (t : Bool) → concludes a rule ≡ t → rule_of (before ++ rule ∷ []) a ≡ option_or (rule_of before a) (cond t (Some rule) None)
-rule_after before rule a t is = find-append (concludes a) before (rule ∷ []) ∙ ap (λ b. option_or (rule_of before a) (cond b (Some rule) None)) is
 
 or_none : (o : Option Rule) → option_or o None ≡ o
 or_none None = refl
@@ -44,12 +20,6 @@ or_some (Some r) rule ms is = refl
 or_first : (o : Option Rule) (rule : Rule) → option_map (λ r. mentions r.expr) o ≡ None → option_or o (Some rule) ≡ Some rule
 or_first None rule is = refl
 or_first (Some r) rule is = cc
-
-pub same_place : (m n : ℕ) → (m == n) ≡ true → n ≡ m
-same_place m n is = grind (arith, is)
-
-pub other_place : (m n : ℕ) → (m == n) ≡ false → n ≢ m
-other_place m n is = λ same. false≢true (sym is ∙ (let own : (m == n) ≡ true = grind (arith, same) in own))
 
 module _ (count : ℕ) (before : List Rule) (rule : Rule) (uses : List (Option (List AttrId))) (are : AreUses count before uses) where
   pub uses_again : (ms : List AttrId) → slice_get uses rule.attr.0 ≡ Some (Some ms) → AreUses count (before ++ rule ∷ []) uses
@@ -78,14 +48,7 @@ module _ (count : ℕ) (before : List Rule) (rule : Rule) (uses : List (Option (
           set_other uses rule.attr.0 a.0 (Some (mentions rule.expr)) (other_place rule.attr.0 a.0 is)
           ∙ are.by_rules a lt ∙ ap (λ (o : Option Rule). Some (option_map (λ r. mentions r.expr) o)) (sym (rule_after before rule a false is ∙ or_none (rule_of before a)))
 
-pub none_by : {X : Type 0} (o : Option X) → is_some o ≡ false → o ≡ None
-none_by None h = refl
-none_by (Some x) h = cc
-
 pub known_again : (count : ℕ) (before : List Rule) (rule : Rule) (uses : List (Option (List AttrId))) → AreUses count before uses
     → (o : Option (List AttrId)) → slice_get uses rule.attr.0 ≡ Some o → is_some o ≡ true → AreUses count (before ++ rule ∷ []) uses
 known_again count before rule uses are None known some = cc
 known_again count before rule uses are (Some ms) known some = uses_again count before rule uses are ms known
-
-pub one_more : {X : Type 0} (xs : List X) (i : ℕ) (x : X) → i < length xs → x ≡ get_or xs i x → take (i + 1) xs ≡ take i xs ++ x ∷ []
-one_more xs i x lt is = let same : i + 1 ≡ suc i = omega arith in ap (λ n. take n xs) same ∙ take-suc xs i x lt ∙ ap (λ y. take i xs ++ y ∷ []) (sym is)

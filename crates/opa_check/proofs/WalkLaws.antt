@@ -10,7 +10,7 @@ use Rattle.opa_tree.specs.Mentions.{is_attr}
 use Rattle.opa_tree.proofs.Members.{none_in, contains_head, contains_cases}
 use Rattle.opa_check.specs.Circles.{Circles, again, goes_on, IsFirstLeft, from_visit}
 use Rattle.opa_check.specs.Settled.{IsOpen, BeginsOpen}
-use Rattle.opa_check.proofs.UseLaws.{set_same, set_other, set_length, same_place, other_place}
+use Rattle.opa_tree.proofs.Setting.{set_same, set_other, set_length, same_place, other_place}
 
 pub record Walks (rules : List Rule) (ranks : List (Option ℕ)) (start : AttrId) (walk : List AttrId) (at : AttrId) (visited : List Bool) : Type 0 where
   pub is_open : IsOpen ranks at

@@ -1,8 +1,6 @@
 // What the rule of each attribute mentions.
 ghost use Rattle.std.specs.Prelude.{ℕ, ◌<◌, List as Seq, [], ◌∷◌, ◌++◌, length, IfOk, OnOk};
 ghost use Rattle.opa_tree.specs.declared.rules.Rule.{Rule as RuleView};
-ghost use Rattle.opa_tree.specs.Accepted.{AreShallow};
-ghost use Rattle.opa_tree.specs.Trees.{IsShallow};
 ghost use Rattle.opa_tree.specs.Laws.{AreDeclared};
 ghost use Rattle.opa_check.specs.Found.{AreUses};
 
@@ -27,7 +25,6 @@ fn without_rules(alloc: Global, count: u32) -> Result<Uses, NoMemory>
 
 /// Where two rules conclude one attribute, the first counts.
 fn add_rule(alloc: Global, uses: &mut Uses, rule: &Rule) -> Result<(), NoMemory>
-    requires shallow { IsShallow rule.now.expr }
     requires declared { rule.now.attr.0 < length uses.old.items }
     ensures { OnOk result ((count : ℕ) (before : Seq RuleView) → AreUses count before uses.old.items → AreUses count (before ++ rule.now ∷ []) uses.new.items) }
 {
@@ -39,7 +36,6 @@ fn add_rule(alloc: Global, uses: &mut Uses, rule: &Rule) -> Result<(), NoMemory>
 }
 
 pub fn uses_of(alloc: Global, count: u32, rules: &[Rule]) -> Result<Uses, NoMemory>
-    requires shallow { AreShallow rules.now }
     requires declared { AreDeclared count rules.now }
     ensures { IfOk result (λ uses. AreUses count rules.now uses.items) }
 {

@@ -4,7 +4,7 @@ ghost use Rattle.opa_model.specs.declared.ids.AttrId.{AttrId as AttrView};
 ghost use Rattle.opa_model.specs.Models.{HasAttribute};
 ghost use Rattle.opa_tree.specs.declared.faults.RbError.TheVariants.{Refused};
 ghost use Rattle.opa_tree.specs.declared.faults.RbFault.{RbFault as FaultView};
-ghost use Rattle.opa_tree.specs.Accepted.{AreShallow, AreSound};
+ghost use Rattle.opa_tree.specs.Accepted.{AreSound};
 ghost use Rattle.opa_tree.specs.Ranks.{AreRanks};
 ghost use Rattle.opa_check.specs.Circles.{HasCircle, IsLeastLeft};
 ghost use Rattle.opa_check.specs.Refused.{IsRefused};
@@ -79,7 +79,6 @@ fn circle_fault(
 /// second rule for one attribute, and where there is none of these, a circle.
 pub fn check(alloc: Global, model: &Model, rules: &Rules) -> Result<Ranks, RbError>
     requires declared { All (λ r. HasAttribute model.now r.attr) rules.now }
-    requires shallow { AreShallow rules.now }
     ensures sound { IfOk result (λ _. AreSound model.now rules.now) }
     ensures ranks { IfOk result (λ ranks. AreRanks (length model.now.attributes) rules.now ranks) }
     ensures refused { IfErr result (λ e. (fault : FaultView) → e ≡ Refused fault → IsRefused model.now rules.now fault) }

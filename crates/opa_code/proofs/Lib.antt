@@ -5,6 +5,7 @@ pub mod Concluding
 pub mod Halving
 pub mod Inverting
 pub mod Operating
+pub mod Placed
 pub mod Sizing
 pub mod Standing
 pub mod Stepping

@@ -10,7 +10,7 @@ use crate::rule_code::RuleCode;
 use opa_io::{List, NoMemory};
 use opa_mean::is_money;
 use opa_model::Model;
-use opa_tree::{Rule, Rulebase};
+use opa_tree::{Rule, Rulebase, places_of};
 use std::alloc::Global;
 
 /// The code of a rulebase.
@@ -18,7 +18,9 @@ pub fn compile(alloc: Global, base: &Rulebase) -> Result<Code, NoMemory>
     ensures { IfOk result (λ code. rulebase_of code ≡ base.now) }
 {
     let rules = code_each(alloc, &base.model, base.rules.as_slice())?;
-    Ok(Code::new(base, rules))
+    let count = base.model.attribute_count();
+    let places = places_of(alloc, count, base.rules.as_slice())?;
+    Ok(Code::new(base, rules, places))
 }
 
 fn code_each(alloc: Global, model: &Model, rules: &[Rule]) -> Result<List<RuleCode>, NoMemory>

@@ -1,6 +1,17 @@
+mod Accepted
+mod Blocks
 mod Carrying
+mod Checked
+mod Declared
 mod FileLoading
+mod FirstOfFaults
+mod Laid
+mod LawsHold
 mod LineFaults
+mod Opened
+mod Reading
+mod Refused
 mod Replying
 mod Showing
+mod Taken
 mod Transcripts

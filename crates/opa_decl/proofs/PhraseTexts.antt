@@ -14,7 +14,7 @@ use Rattle.opa_words.specs.Pieces.{Piece, IsPiece, IsCutInto, piece, pieces}
 use Rattle.opa_words.specs.Written.{Written, AreWritten, text_of, pieces_of, ends_before}
 use Rattle.opa_words.proofs.Writing.{written_is_cut_holds}
 use Rattle.opa_words.proofs.Letters.{token_starts, Starts}
-use Rattle.opa_decl.specs.Phrasing.{IsWorded, IsPhrase}
+use Rattle.opa_verbs.specs.Phrasing.{IsWorded, IsPhrase}
 use Rattle.opa_decl.proofs.NumberedLaws.{no_parts}
 
 -- tokens of a text

@@ -32,7 +32,7 @@ use Rattle.opa_decl.specs.Cutting.{HasTokens, HaveTokens}
 use Rattle.opa_decl.specs.Declarations.{items_of}
 use Rattle.opa_decl.specs.Limits.{limits, no_limits, bounds_of}
 use Rattle.opa_decl.specs.Lines.{name, verb_line, words_or_none, said_by, bool_line, number_line, target, reference_line, every_line, parent, inside_line}
-use Rattle.opa_decl.specs.Phrasing.{IsPhrase}
+use Rattle.opa_verbs.specs.Phrasing.{IsPhrase}
 use Rattle.opa_decl.specs.Pieces.{has_text, split_at, phrase, words, are_words}
 use Rattle.opa_decl.specs.Steps.{◌>>=◌}
 use Rattle.opa_decl.specs.Spelling.{place_in, inner, behind_first, behind_head, member_in, headed_verb, inside_in}

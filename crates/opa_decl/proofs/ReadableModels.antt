@@ -23,7 +23,7 @@ use Rattle.opa_decl.specs.Declarations.{model_of, item_faults, items_of, faults_
 use Rattle.opa_decl.specs.Lists.{lists_of, sentence_in, attribute_by, attribute_in, relation_by, relation_in}
 use Rattle.opa_decl.specs.Names.{Tables, tables_of, texts, place, sentence, attribute_name, verb_in, denied, negative}
 use Rattle.opa_decl.specs.Numbering.{numbered, no_counts}
-use Rattle.opa_decl.specs.Phrasing.{IsWorded, IsPhrase, IsReadable, listed, denials, denials_by, texts_of, operand_phrases}
+use Rattle.opa_verbs.specs.Phrasing.{IsWorded, IsPhrase, IsReadable, listed, denials, denials_by, texts_of, operand_phrases}
 use Rattle.opa_decl.proofs.FormLaws.{denied_by, relation_texts, forms_differ, relations_texts}
 use Rattle.opa_decl.proofs.MadeLists.{made, attributes, relations, AreFaultless, without_fault, all_numbered}
 use Rattle.opa_decl.proofs.NumberedLaws.{no_parts, all_flat, flat_map-same, whatever_number}
@@ -153,7 +153,8 @@ module _ (t : Tables) (items : List Item) where
             (all_flat (λ (r : Relation). IsPhrase r.phrase) (relation_in t) ns (All-weaker (λ (n : Numbered). IsPhrased n.item) (λ (n : Numbered). All (λ (r : Relation). IsPhrase r.phrase) (relation_in t n)) (λ n k. relation_phrased n n.item k) ns phrased));
         denied = all_flat IsWorded (denials m) (attributes t items)
             (all_flat IsDenied (attribute_in t) ns (All-weaker (λ (n : Numbered). IsPhrased n.item) (λ (n : Numbered). All IsDenied (attribute_in t n)) (λ n k. denied_here n n.item said k) ns phrased));
-        differ = all_differ ok;
+        others = All-nil IsPhrase;
+        differ = subst (λ ps. AllPairs (λ p q. p ≢ q) (operand_phrases m ++ ps)) (sym (append-nil (relation_phrases m))) (all_differ ok);
       }
 
 readable_model : (items : List Item) → item_faults items ≡ [] → All IsPhrased items → IsReadable (model_of items)

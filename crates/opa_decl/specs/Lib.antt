@@ -14,4 +14,3 @@ pub mod Seen
 pub mod Declarations
 pub mod Judging
 pub mod Laws
-pub mod Phrasing

@@ -8,7 +8,7 @@ ghost use Rattle.opa_tree.specs.declared.faults.RbFault.{RbFault as FaultView};
 ghost use Rattle.opa_tree.specs.FirstFaults.{IsFirst};
 ghost use Rattle.opa_decl.specs.Cutting.{HaveTokens, IsShort};
 ghost use Rattle.opa_decl.specs.Declarations.{faults_of, items_of, model_of, Declares, IsFirstFault};
-ghost use Rattle.opa_decl.specs.Phrasing.{IsReadable};
+ghost use Rattle.opa_verbs.specs.Phrasing.{IsReadable};
 
 use crate::cut::{CutBlock, declaration_blocks};
 use crate::judging::{Judged, judge};

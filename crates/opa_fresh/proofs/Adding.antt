@@ -12,57 +12,54 @@ use Rattle.opa_cells.specs.Keys.{cell_cmp}
 use Rattle.opa_cells.specs.declared.instance.InstanceId.{InstanceId}
 use Rattle.opa_cells.proofs.Orders.{cell_total, cell_exact}
 use Rattle.opa_case.specs.Cases.{CaseView, Answer}
-use Rattle.opa_case.specs.Shapes.{shape_of}
 use Rattle.opa_tree.specs.declared.rulebase.Rulebase.{Rulebase}
 use Rattle.opa_tree.proofs.Members.{contains_head, contains_tail, contains_cases}
 use Rattle.opa_mean.specs.Rulebases.{value_at}
-use Rattle.opa_fresh.specs.Findings.{Holds, AddsSlot, Below, is_of_kind}
-use Rattle.opa_fresh.specs.Slots.{IsSlot}
-use Rattle.opa_fresh.specs.declared.found.Found.{Found}
+use Rattle.opa_fresh.specs.Findings.{Holds, AddsSlot, Below}
+use Rattle.opa_fresh.specs.Slots.{Table, IsSlot}
 
-pub none_found : (r : Rulebase) (c : CaseView) (found : Found) → found.lines ≡ empty → Holds r c (Below r 0) found
+pub none_found : (r : Rulebase) (c : CaseView) (found : Table) → found ≡ empty → Holds r c (Below r 0) found
 none_found r c found e = record {
   slots = λ a i l is. absurd (nothing a i l is);
   right = λ a i l is. absurd (nothing a i l is);
   there = λ a i slot lt. absurd (omega (arith, lt));
-  kinds = λ _ a i l is. absurd (nothing a i l is);
 }
   where
-    nothing : (a : AttrId) (i : InstanceId) (l : Answer) → get found.lines (a.0, i) ≡ Some l → ⊥
+    nothing : (a : AttrId) (i : InstanceId) (l : Answer) → get found (a.0, i) ≡ Some l → ⊥
     nothing a i l is = let key : ℕ × InstanceId = (a.0, i) in cc (is, ap (λ m. get m key) e, get-empty cell_cmp key)
 
-pub weaker : (r : Rulebase) (c : CaseView) (D D' : AttrId → InstanceId → Type 0) (found : Found) → ((a : AttrId) (i : InstanceId) → IsSlot r c a i → D' a i → D a i) → Holds r c D found → Holds r c D' found
-weaker r c D D' found h holds = record { slots = holds.slots; right = holds.right; there = λ a i slot d. holds.there a i slot (h a i slot d); kinds = holds.kinds }
+pub weaker : (r : Rulebase) (c : CaseView) (D D' : AttrId → InstanceId → Type 0) (found : Table) → ((a : AttrId) (i : InstanceId) → IsSlot r c a i → D' a i → D a i) → Holds r c D found → Holds r c D' found
+weaker r c D D' found h holds = record { slots = holds.slots; right = holds.right; there = λ a i slot d. holds.there a i slot (h a i slot d) }
 
-module _ (r : Rulebase) (c : CaseView) (D : AttrId → InstanceId → Type 0) (a : AttrId) (i : InstanceId) (old new : Found) (slot : IsSlot r c a i) (adds : AddsSlot r c a i old new) (holds : Holds r c D old) where
+module _ (r : Rulebase) (c : CaseView) (D : AttrId → InstanceId → Type 0) (a : AttrId) (i : InstanceId) (old new : Table) (slot : IsSlot r c a i) (adds : AddsSlot r c a i old new) (holds : Holds r c D old) where
   -- what holds of the new line and of each old one holds of each line
-  each_line : (P : AttrId → InstanceId → Answer → Type 0) → P a i adds.line → ((m : AttrId) (j : InstanceId) (l : Answer) → get old.lines (m.0, j) ≡ Some l → P m j l) → (m : AttrId) (j : InstanceId) (l : Answer) → get new.lines (m.0, j) ≡ Some l → P m j l
+  each_line : (P : AttrId → InstanceId → Answer → Type 0) → P a i adds.line → ((m : AttrId) (j : InstanceId) (l : Answer) → get old (m.0, j) ≡ Some l → P m j l) → (m : AttrId) (j : InstanceId) (l : Answer) → get new (m.0, j) ≡ Some l → P m j l
   each_line P own others m j l is = go (eq_by_cmp cell_cmp (m.0, j) (a.0, i)) refl
     where
-      seen : cond (eq_by_cmp cell_cmp (m.0, j) (a.0, i)) (Some adds.line) (get old.lines (m.0, j)) ≡ Some l
-      seen = sym (ap (λ k. get k (m.0, j)) adds.lines ∙ get-insert cell_total old.lines (a.0, i) adds.line (m.0, j)) ∙ is
+      seen : cond (eq_by_cmp cell_cmp (m.0, j) (a.0, i)) (Some adds.line) (get old (m.0, j)) ≡ Some l
+      seen = sym (ap (λ k. get k (m.0, j)) adds.lines ∙ get-insert cell_total old (a.0, i) adds.line (m.0, j)) ∙ is
 
       go : (t : Bool) → eq_by_cmp cell_cmp (m.0, j) (a.0, i) ≡ t → P m j l
       go true q =
-          let same : adds.line ≡ l = cc (seen, ap (λ t. cond t (Some adds.line) (get old.lines (m.0, j))) q) in
+          let same : adds.line ≡ l = cc (seen, ap (λ t. cond t (Some adds.line) (get old (m.0, j))) q) in
           let key : (m.0, j) ≡ (a.0, i) = tells_apart cell_exact (m.0, j) (a.0, i) q in
           subst (P m j) same (subst (λ (k : ℕ × InstanceId). P (record { 0 = k.0 }) k.1 adds.line) (sym key) own)
-      go false q = others m j l (sym (ap (λ t. cond t (Some adds.line) (get old.lines (m.0, j))) q) ∙ seen)
+      go false q = others m j l (sym (ap (λ t. cond t (Some adds.line) (get old (m.0, j))) q) ∙ seen)
 
-  still : (m : AttrId) (j : InstanceId) → is_some (get old.lines (m.0, j)) ≡ true → is_some (get new.lines (m.0, j)) ≡ true
-  still m j h = ap (λ k. is_some (get k (m.0, j))) adds.lines ∙ ap is_some (get-insert cell_total old.lines (a.0, i) adds.line (m.0, j)) ∙ go (eq_by_cmp cell_cmp (m.0, j) (a.0, i))
+  still : (m : AttrId) (j : InstanceId) → is_some (get old (m.0, j)) ≡ true → is_some (get new (m.0, j)) ≡ true
+  still m j h = ap (λ k. is_some (get k (m.0, j))) adds.lines ∙ ap is_some (get-insert cell_total old (a.0, i) adds.line (m.0, j)) ∙ go (eq_by_cmp cell_cmp (m.0, j) (a.0, i))
     where
-      go : (t : Bool) → is_some (cond t (Some adds.line) (get old.lines (m.0, j))) ≡ true
+      go : (t : Bool) → is_some (cond t (Some adds.line) (get old (m.0, j))) ≡ true
       go true = refl
       go false = h
 
-  itself : is_some (get new.lines (a.0, i)) ≡ true
-  itself = ap (λ k. is_some (get k (a.0, i))) adds.lines ∙ ap is_some (get-insert cell_total old.lines (a.0, i) adds.line (a.0, i)) ∙ go (eq_by_cmp cell_cmp (a.0, i) (a.0, i)) (same (a.0, i))
+  itself : is_some (get new (a.0, i)) ≡ true
+  itself = ap (λ k. is_some (get k (a.0, i))) adds.lines ∙ ap is_some (get-insert cell_total old (a.0, i) adds.line (a.0, i)) ∙ go (eq_by_cmp cell_cmp (a.0, i) (a.0, i)) (same (a.0, i))
     where
       same : (k : ℕ × InstanceId) → eq_by_cmp cell_cmp k k ≡ true
       same k = (eq_by_cmp_equiv cell_total).refl k
 
-      go : (t : Bool) → t ≡ true → is_some (cond t (Some adds.line) (get old.lines (a.0, i))) ≡ true
+      go : (t : Bool) → t ≡ true → is_some (cond t (Some adds.line) (get old (a.0, i))) ≡ true
       go true h = refl
       go false h = absurd (cc h)
 
@@ -71,12 +68,11 @@ module _ (r : Rulebase) (c : CaseView) (D : AttrId → InstanceId → Type 0) (a
     slots = each_line (λ m j l. IsSlot r c m j) slot holds.slots;
     right = each_line (λ m j l. StandsFor DAYS (value_at r c m j) l) adds.right holds.right;
     there = λ m j s d. go m j s d;
-    kinds = λ k. each_line (λ m j l. is_of_kind (shape_of r.model) m l ≡ true) (adds.kinds k).1 (holds.kinds (adds.kinds k).0);
   }
     where
-      go : (m : AttrId) (j : InstanceId) → IsSlot r c m j → D m j ⊎ ((m ≡ a) × (j ≡ i)) → is_some (get new.lines (m.0, j)) ≡ true
+      go : (m : AttrId) (j : InstanceId) → IsSlot r c m j → D m j ⊎ ((m ≡ a) × (j ≡ i)) → is_some (get new (m.0, j)) ≡ true
       go m j s (inl d) = still m j (holds.there m j s d)
-      go m j s (inr both) = subst (λ (b : AttrId). is_some (get new.lines (b.0, j)) ≡ true) (sym both.0) (subst (λ (k : InstanceId). is_some (get new.lines (a.0, k)) ≡ true) (sym both.1) itself)
+      go m j s (inr both) = subst (λ (b : AttrId). is_some (get new (b.0, j)) ≡ true) (sym both.0) (subst (λ (k : InstanceId). is_some (get new (a.0, k)) ≡ true) (sym both.1) itself)
 
 -- one item more
 pub in_push : {X : Type 0} (xs : List X) (x y : X) → Contains (xs ++ x ∷ []) y → Contains xs y ⊎ (y ≡ x)

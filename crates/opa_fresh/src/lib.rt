@@ -2,7 +2,6 @@
 #![tactic(auto)]
 
 mod by_rank;
-mod daily;
 mod found;
 mod laws;
 mod lines;

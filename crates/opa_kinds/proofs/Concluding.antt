@@ -1,6 +1,6 @@
 -- What rules conclude has its kind, by the number of steps that it is made in.
 use Rattle.std.proofs.Common.{◌≡◌, ℕ, zero, suc, Bool, true, false, cond, IsTrue, [], ◌∷◌, Option, None, Some, refl, ◌∙◌, ap, subst}
-use Rattle.std.specs.Prelude.{nat_le, unwrap_or, All, ◌||◌}
+use Rattle.std.specs.Prelude.{nat_le, unwrap_or}
 use Rattle.std.specs.List.{list_all}
 use Rattle.std.specs.FinMap.{get}
 use Rattle.std.specs.Option.{option_map_or}
@@ -17,6 +17,7 @@ use Rattle.opa_tree.specs.declared.rulebase.Rulebase.{Rulebase}
 use Rattle.opa_tree.specs.declared.rules.Rule.{Rule}
 use Rattle.opa_tree.specs.Kinds.{can_have, rule_has_kind}
 use Rattle.opa_tree.specs.Rules.{concludes, rule_of}
+use Rattle.opa_tree.specs.Trees.{has_form, HasForm}
 use Rattle.opa_case.specs.Cases.{CaseView, Answer}
 use Rattle.opa_case.specs.Shapes.{shape_of, no_attribute}
 use Rattle.opa_case.specs.Steps.{has_kind}
@@ -24,9 +25,8 @@ use Rattle.opa_mean.specs.Given.{base_of, facts_of, line_value}
 use Rattle.opa_mean.specs.Mean.{look_of, concluded, fitted, is_money, mean_by}
 use Rattle.opa_mean.specs.Meaning.{value as value_of}
 use Rattle.opa_mean.specs.Rulebases.{IsOf}
-use Rattle.opa_kinds.specs.Literals.{has_calendar_literals}
 use Rattle.opa_kinds.specs.Laws.{kind_of}
-use Rattle.opa_kinds.proofs.Passing.{found_is}
+use Rattle.opa_kinds.proofs.Passing.{found_is, given_or}
 use Rattle.opa_kinds.proofs.Plain.{Has, kind_has, fit_has}
 use Rattle.opa_kinds.proofs.Stepping.{tree_has}
 
@@ -44,7 +44,7 @@ module _ (free : Bool) where
   line_has k [] d hs = refl
   line_has k (p ∷ l) d hs = let both = and_parts (has_kind k p.1) _ hs in from_has k p.1 l d (kind_has free k p.1 both.0) both.1
 
-module _ (free : Bool) (r : Rulebase) (c : CaseView) (is : IsOf r c) (literals : All (λ (x : Rule). IsTrue (free || has_calendar_literals x.expr)) r.rules) where
+module _ (free : Bool) (r : Rulebase) (c : CaseView) (is : IsOf r c) where
   abbrev Holds : (AttrId → InstanceId → ℕ → Value) → Type 0
   Holds f = (a : AttrId) (i : InstanceId) (d : ℕ) → Has free (kind_of r a) (f a i d)
 
@@ -74,7 +74,7 @@ module _ (free : Bool) (r : Rulebase) (c : CaseView) (is : IsOf r c) (literals :
       go None e = answers_have a i d
       go (Some rule) e =
           fit_has free (kind_of r a) (is_money (kind_of r a)) (value_of (shape_of r.model) (look_of (facts_of c) f) rule.expr (i ∷ []) d)
-          (tree_has free r.model (look_of (facts_of c) f) holds rule.expr (found_is (λ (x : Rule). IsTrue (free || has_calendar_literals x.expr)) (concludes a) r.rules rule literals e).0 (kind_of r a) (rule_can a rule e) (i ∷ []) d)
+          (tree_has free r.model (look_of (facts_of c) f) holds rule.expr true (given_or free (has_form rule.expr true) (found_is (λ (x : Rule). HasForm x.expr) (concludes a) r.rules rule r.formed e).0) (kind_of r a) (rule_can a rule e) (i ∷ []) d)
 
   pub steps_have : (n : ℕ) → Holds (mean_by (base_of r) (facts_of c) n)
   unfolding mean_by

@@ -9,3 +9,5 @@ mod Parts
 mod Passing
 mod Plain
 mod Stepping
+pub mod MembersCounted
+pub mod Sieves

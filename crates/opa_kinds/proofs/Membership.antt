@@ -13,7 +13,7 @@ use Rattle.opa_tree.proofs.Members.{contains_head, contains_tail}
 use Rattle.opa_case.specs.Cases.{CaseView}
 use Rattle.opa_case.specs.Shapes.{shape_of}
 use Rattle.opa_mean.specs.Rulebases.{IsOf}
-use Rattle.opa_members.specs.Membership.{Setting, IsCondition, CountsAlone, ForAllMembers, ExistsMember, CountsMembers, CountsMembersIf, SumsMembers, SumsMembersIf}
+use Rattle.opa_kinds.specs.Membership.{Setting, IsCondition, CountsAlone, ForAllMembers, ExistsMember, CountsMembers, CountsMembersIf, SumsMembers, SumsMembersIf}
 use Rattle.opa_kinds.specs.Conditions.{IsPartOf, HasWithin, IsConditionOf}
 use Rattle.opa_kinds.specs.Memberships.{StandsFor, MembershipsCount, setting_of}
 use Rattle.opa_kinds.proofs.LawsHold.{conditions_are_truths_holds}

@@ -172,6 +172,10 @@ module _ (m : Lists) where
   over_related q xs k None c = absurd (cc c)
   over_related q xs k (Some y) c = (y.one, c)
 
+  for_found : (xs : List Typing) (k : Kind) (o : Option Relation) → option_map_or (λ (y : Relation). quant_can quant.For y.one xs k) o false ≡ true → (y : Relation) × (o ≡ Some y) × (y.one ≡ true)
+  for_found xs k None c = absurd (cc c)
+  for_found xs k (Some y) c = (y, refl, (and_parts y.one (all_can xs k) c).0)
+
   -- the kinds of a row's condition and value
   in_rows : (rows : List Row) (k : Kind) (row : Row) → list_all (λ f. f k) (map (row_typing m) rows) ≡ true → Contains rows row → (can_have m row.cond kind.Bool ≡ true) × (can_have m row.value k ≡ true)
   in_rows rows k row c h = and_parts (can_have m row.cond kind.Bool) (can_have m row.value k) (sym (ap (λ (f : Kind → Bool). f k) (typing-of_row m row)) ∙ each_passes (λ f. f k) (row_typing m) rows row c h)
@@ -182,6 +186,10 @@ module _ (m : Lists) where
 
   table_can : (rows : List Row) (last : Expr) (k : Kind) → can_have m (V.Table rows last) k ≡ true → (list_all (λ f. f k) (map (row_typing m) rows) ≡ true) × (can_have m last k ≡ true)
   table_can rows last k c = and_parts (list_all (λ f. f k) (map (row_typing m) rows)) (can_have m last k) (at (V.Table rows last) (Table (map (row_typing m) rows) (typing m last)) k (typing-Table m rows last) c)
+
+  -- `for` stands over a declared relation to one
+  pub for_to_one : (r : RelId) (es : List Expr) (k : Kind) → can_have m (V.Over quant.For r es) k ≡ true → (y : Relation) × (relation_at m r ≡ Some y) × (y.one ≡ true)
+  for_to_one r es k c = for_found (typings es) k (relation_at m r) (at (V.Over quant.For r es) (Over quant.For r (typings es)) k (typing-Over m quant.For r es) c)
 
   bools_can : (xs : List Typing) (k : Kind) → (is_kind kind.Bool k && all_can xs kind.Bool) ≡ true → all_can xs kind.Bool ≡ true
   bools_can xs k c = (and_parts (is_kind kind.Bool k) (all_can xs kind.Bool) c).1

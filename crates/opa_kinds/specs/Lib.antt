@@ -1,4 +1,4 @@
 pub mod Conditions
 pub mod Laws
-pub mod Literals
+pub mod Membership
 pub mod Memberships

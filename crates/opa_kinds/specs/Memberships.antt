@@ -11,7 +11,7 @@ use Rattle.opa_tree.specs.declared.rules.Rule.{Rule}
 use Rattle.opa_case.specs.Cases.{CaseView}
 use Rattle.opa_case.specs.Shapes.{shape_of}
 use Rattle.opa_mean.specs.Rulebases.{IsOf}
-use Rattle.opa_members.specs.Membership.{Setting, CountsAlone}
+use Rattle.opa_kinds.specs.Membership.{Setting, CountsAlone}
 use Rattle.opa_kinds.specs.Conditions.{HasWithin}
 use Rattle.opa_kinds.specs.Laws.{values_of}
 

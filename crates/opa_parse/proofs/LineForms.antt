@@ -45,6 +45,7 @@ use Rattle.opa_sentence.specs.Readings as says
 use Rattle.opa_sentence.specs.Readings.{with_tree, but_last, kept, days, days_of_count, days_of_size}
 use Rattle.opa_sentence.specs.Grammar.{Part, Spells, SpellsMore, SpellsArgument, SpellsArguments}
 use Rattle.opa_sentence.specs.Grammar as g
+use Rattle.opa_sentence.proofs.Calendar.{dates_are_literals}
 
 -- ---- tests
 
@@ -521,7 +522,7 @@ module _ (b : Bounds) (ns : Names) (members : MembersForm b ns.members) where
     form_of (g.Spells.over {x = x} {y = y} h d f) = λ r. let a = form_of d r in let c = form_of f a.1.1 in (between_form op.Div refl x y a.0 c.0, c.1)
     form_of (g.Spells.number h n is) = λ r. (literal_form b (value.Num n) refl, r.1)
     form_of (g.Spells.negative h k n is) = λ r. (literal_form b (value.Num n) refl, r.1.1)
-    form_of (g.Spells.date h d is) = λ r. (literal_form b (value.Day d) refl, r.1)
+    form_of (g.Spells.date {t = t} h d is) = λ r. (literal_form b (value.Day d) (dates_are_literals t.text d is), r.1)
     form_of (g.Spells.text {t = t} h) = λ r. (literal_form b (value.Words (unquoted t.text)) refl, r.1)
     form_of (g.Spells.yes h) = λ r. (literal_form b (value.Bool true) refl, r.1)
     form_of (g.Spells.no h) = λ r. (literal_form b (value.Bool false) refl, r.1)

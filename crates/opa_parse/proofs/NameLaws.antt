@@ -11,7 +11,8 @@ use Rattle.opa_sentence.specs.declared.names.Operand.{Operand}
 use Rattle.opa_sentence.specs.declared.names.Relation.{Relation}
 use Rattle.opa_sentence.specs.declared.names.Relation.TheVariants as relation
 use Rattle.opa_model.specs.declared.ids.RelId.{RelId}
-use Rattle.opa_parse.specs.Naming.{denials, texts_of, operand, meanings_from, declared_from}
+use Rattle.opa_parse.specs.Naming.{operand, meanings_from, declared_from}
+use Rattle.opa_verbs.specs.Phrasing.{denials, texts_of}
 
 each : {X : Type 0} (P : X → Type 0) (xs : List X) (n : ℕ) (x : X) → slice_get xs n ≡ Some x → All P xs → P x
 each P xs n x at all = subst P (get_or_from_slice_get xs n x x at) (All-get_or P xs n x (slice_get_within xs n x at) all)

@@ -14,7 +14,8 @@ use Rattle.opa_parse.specs.declared.block.MemberBlock.{MemberBlock}
 use Rattle.opa_parse.specs.declared.block.Membership.{Membership}
 use Rattle.opa_parse.specs.Blocks.{IsMembership}
 use Rattle.opa_parse.specs.MemberFaults.{faults_from}
-use Rattle.opa_parse.specs.Naming.{names_in, operand_phrases}
+use Rattle.opa_parse.specs.Naming.{names_in}
+use Rattle.opa_verbs.specs.Phrasing.{operand_phrases}
 use Rattle.opa_parse.specs.Openings.{IsSort}
 use Rattle.opa_parse.specs.Rules.{IsPassed, first_number}
 

@@ -4,10 +4,8 @@ use Rattle.opa_model.specs.declared.ids.AttrId.{AttrId}
 use Rattle.opa_model.specs.declared.ids.RelId.{RelId}
 use Rattle.opa_model.specs.declared.lists.Lists.{Lists}
 use Rattle.opa_model.specs.declared.things.Attribute.{Attribute}
-use Rattle.opa_model.specs.declared.things.Sentence.{Sentence}
 use Rattle.opa_model.specs.Lookups.{relation_phrases}
-use Rattle.opa_verbs.specs.declared.sentence.Form.TheVariants.{Negative}
-use Rattle.opa_verbs.specs.Forms.{said}
+use Rattle.opa_verbs.specs.Phrasing.{denials, operand_phrases}
 use Rattle.opa_tree.specs.declared.rules.Inferred.{Inferred}
 use Rattle.opa_tree.specs.Trees.{depth}
 use Rattle.opa_sentence.specs.declared.measure.TheConstants.{MOST_DEPTH, MOST_NODES}
@@ -17,25 +15,6 @@ use Rattle.opa_sentence.specs.declared.names.Relation.{Relation}
 use Rattle.opa_sentence.specs.declared.names.Relation.TheVariants as relation
 use Rattle.opa_sentence.specs.declared.names.Member.{Member}
 use Rattle.opa_sentence.specs.Measures.{nodes}
-
-abbrev pub listed : Option (List ℕ) → List (List ℕ)
-listed None = []
-listed (Some text) = text ∷ []
-
-abbrev pub denials_by : Lists → Option Sentence → List (List ℕ)
-denials_by m None = []
-denials_by m (Some sentence) = listed (said m sentence Negative)
-
--- the sentence that denies an attribute, if it is a bool
-abbrev pub denials : Lists → Attribute → List (List ℕ)
-denials m a = denials_by m a.sentence
-
--- the texts that stand for an attribute, or deny it
-abbrev pub texts_of : Lists → Attribute → List (List ℕ)
-texts_of m a = a.phrase ∷ denials m a
-
-abbrev pub operand_phrases : Lists → List (List ℕ)
-operand_phrases m = flat_map (texts_of m) m.attributes
 
 abbrev pub operand : ℕ → Bool → Operand
 operand n denied = let attr : AttrId = record { 0 = n } in record { attr = attr; denied = denied }

@@ -2,7 +2,8 @@
 ghost use Rattle.std.specs.Prelude.{ℕ, true, false, [], ◌≡◌, ◌+◌, ◌<◌, ◌^◌, ◌∷◌, ◌++◌, length, map, flat_map, IfOk, IfSome, OnOk};
 ghost use Rattle.opa_model.specs.Lookups.{attribute_at, relation_phrases};
 ghost use Rattle.opa_model.specs.Models.{HasVerb};
-ghost use Rattle.opa_parse.specs.Naming.{denials, texts_of, operand_phrases, operand_meanings, operand as operand_of, inferred_phrases, declared_from, inferred_from, member_of as member_of_inferred, names_in};
+ghost use Rattle.opa_parse.specs.Naming.{operand_meanings, operand as operand_of, inferred_phrases, declared_from, inferred_from, member_of as member_of_inferred, names_in};
+ghost use Rattle.opa_verbs.specs.Phrasing.{denials, texts_of, operand_phrases};
 
 use opa_io::{List, NoMemory, Txt, front};
 use opa_model::{AttrId, Attribute, Model, RelId};

@@ -12,7 +12,7 @@ use Rattle.opa_cells.specs.declared.instance.InstanceId.{InstanceId}
 use Rattle.opa_case.specs.Cases.{CaseView}
 use Rattle.opa_case.specs.Steps.{has_kind, is_date}
 use Rattle.opa_mean.specs.Rulebases.{IsOf, value_at}
-use Rattle.opa_kinds.specs.Laws.{HaveCalendarLiterals, ValuesHaveKinds, kind_of}
+use Rattle.opa_kinds.specs.Laws.{ValuesHaveKinds, kind_of}
 use Rattle.opa_text.specs.Texts.{HasDays, IsOfCalendar}
 use Rattle.opa_tree.specs.declared.rulebase.Rulebase.{Rulebase}
 
@@ -31,6 +31,6 @@ of_kind k (value.Day d) h = below d DAYS (and_parts (is_date k) (nat_lt d DAYS) 
 some_is : (u v : Value) → Some u ≡ Some v → u ≡ v
 some_is u v e = cc e
 
-pub has_days : ValuesHaveKinds → (r : Rulebase) (c : CaseView) → IsOf r c → HaveCalendarLiterals r.rules
+pub has_days : ValuesHaveKinds → (r : Rulebase) (c : CaseView) → IsOf r c
     → (a : AttrId) (i : InstanceId) (l : List (ℕ × Value)) → StandsFor DAYS (value_at r c a i) l → HasDays l
-has_days kinds r c is literals a i l stands d v less at = subst IsOfCalendar (some_is _ _ (sym (stands d less) ∙ at)) (of_kind (kind_of r a) (value_at r c a i d) (kinds r c is literals a i d))
+has_days kinds r c is a i l stands d v less at = subst IsOfCalendar (some_is _ _ (sym (stands d less) ∙ at)) (of_kind (kind_of r a) (value_at r c a i d) (kinds r c is a i d))

@@ -2,7 +2,6 @@
 ghost use Rattle.std.specs.Prelude.{◌≡◌, IfOk};
 ghost use Rattle.opa_case.specs.Cases.{CaseView, no_case};
 ghost use Rattle.opa_tree.specs.declared.rulebase.Rulebase.{Rulebase as Base};
-ghost use Rattle.opa_kinds.specs.Laws.{HaveCalendarLiterals};
 ghost use Rattle.opa_session.specs.Sessions.{rules_of, held_of};
 ghost use Rattle.opa_reply.specs.Replies.{conversation, Stops};
 
@@ -13,17 +12,15 @@ use opa_talk::{Halt, Prompt, Replier};
 use opa_tree::Rulebase;
 use std::alloc::Global;
 
-/// A session that answers lines, over a rulebase whose literals are of the calendar.
+/// A session that answers lines.
 #[derive(Drop)]
 pub struct Conversation {
     session: Session,
-    ghost literals: { HaveCalendarLiterals (rules_of session).rules },
 }
 
 impl Conversation {
     /// Nothing is known of the case.
     pub fn start(alloc: Global, base: Rulebase) -> Result<Conversation, NoMemory>
-        requires literals { HaveCalendarLiterals base.rules }
         ensures { IfOk result (λ c. ⟦<Conversation as Replier>⟧.state c ≡ (base, no_case)) }
     {
         let session = Session::start(alloc, base)?;

@@ -1,6 +1,5 @@
 // The reply to a line.
 ghost use Rattle.std.specs.Prelude.{◌≡◌, ◌≤◌, IfOk, OnErr, IfErr};
-ghost use Rattle.opa_kinds.specs.Laws.{HaveCalendarLiterals};
 ghost use Rattle.opa_talk.specs.Halt.{IsReplyCause};
 ghost use Rattle.opa_talk.specs.Talk.{WhereRose, LeftBy};
 ghost use Rattle.opa_script.specs.Laws.{HasLine, IsInRange, IsWellFormed};
@@ -64,7 +63,6 @@ fn carry_out<F: Shelf>(
     command: Command,
 ) -> Result<Vec<u8>, Halt>
     requires command { IsInRange (rules_of session.old).model command }
-    requires literals { HaveCalendarLiterals (rules_of session.old).rules }
     ensures ok { IfOk result (λ t. CarriesOut command (held (rules_of session.old) (held_of session.old) (F.files shelf.old)) t.items (held (rules_of session.new) (held_of session.new) (F.files shelf.new))) }
     ensures err { OnErr result (HaltsAt (F.keep_faults shelf.old) (F.keep_faults shelf.new) command (held (rules_of session.old) (held_of session.old) (F.files shelf.old)) (held (rules_of session.new) (held_of session.new) (F.files shelf.new))) }
     ensures cause { IfErr result (IsReplyCause (F.take_faults shelf.old) (F.take_faults shelf.new) (F.keep_faults shelf.old) (F.keep_faults shelf.new)) }
@@ -96,7 +94,6 @@ pub fn reply<F: Shelf>(
     shelf: &mut F,
     line: &[u8],
 ) -> Result<Vec<u8>, Halt>
-    requires literals { HaveCalendarLiterals (rules_of session.old).rules }
     ensures ok { IfOk result (λ t. Replies (held (rules_of session.old) (held_of session.old) (F.files shelf.old)) line.now t.items (held (rules_of session.new) (held_of session.new) (F.files shelf.new))) }
     ensures err { OnErr result (LeftBy (WhereRose (F.keep_faults shelf.old) (F.keep_faults shelf.new) Stops) (held (rules_of session.old) (held_of session.old) (F.files shelf.old)) line.now (held (rules_of session.new) (held_of session.new) (F.files shelf.new))) }
     ensures cause { IfErr result (IsReplyCause (F.take_faults shelf.old) (F.take_faults shelf.new) (F.keep_faults shelf.old) (F.keep_faults shelf.new)) }

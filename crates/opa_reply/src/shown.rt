@@ -1,7 +1,6 @@
 // What `show` prints.
 ghost use Rattle.std.specs.Prelude.{◌≡◌, IfOk};
 ghost use Rattle.opa_date.specs.declared.TheConstants.{DAYS};
-ghost use Rattle.opa_kinds.specs.Laws.{HaveCalendarLiterals};
 ghost use Rattle.opa_line.specs.Lines.{StandsFor};
 ghost use Rattle.opa_model.specs.Models.{HasAttribute, HasRelation};
 ghost use Rattle.opa_mean.specs.Rulebases.{value_at};
@@ -37,9 +36,8 @@ fn refused_point(alloc: Global) -> Result<Vec<u8>, NoMemory>
     Ok(b"refused: point\n".to_vec(alloc)?)
 }
 
-/// Where a rulebase has literals of the calendar, the days that a line of an attribute has as values are of the calendar.
+/// The days that a line of an attribute has as values are of the calendar.
 fn has_days(session: &Session, attr: AttrId, inst: &InstanceId, line: &Line<Value>)
-    requires literals { HaveCalendarLiterals (rules_of session.now).rules }
     requires line { StandsFor DAYS (value_at (rules_of session.now) (held_of session.now) attr inst.now) line.now }
     ensures { HasDays line.now }
 {
@@ -74,7 +72,6 @@ pub(crate) fn shown_value(
     inst: &InstanceId,
 ) -> Result<Vec<u8>, NoMemory>
     requires declared { HasAttribute (rules_of session.now).model attr }
-    requires literals { HaveCalendarLiterals (rules_of session.now).rules }
     ensures { IfOk result (λ t. IsShown (rules_of session.now) (held_of session.now) attr inst.now t.items) }
 {
     match session.value(alloc, attr, inst)? {

@@ -1,2 +1,3 @@
 mod RuledLaws
 mod LoadLaws
+pub mod WritableLaws

@@ -21,8 +21,6 @@ use Rattle.opa_rulebase.specs.declared.fault.Unaccepted.{Unaccepted}
 use Rattle.opa_rulebase.specs.declared.fault.Unaccepted.TheVariants as unaccepted
 use Rattle.opa_table.specs.declared.whole.TableFile.{TableFile}
 use Rattle.opa_table.specs.Whole.{AreAllRules}
-use Rattle.opa_kinds.specs.Laws.{HaveCalendarLiterals}
-use Rattle.opa_literals.specs.Laws.{InferencesAreOfCalendar, RulesAreOfCalendar}
 use Rattle.opa_rulebase.specs.Loading.{AreInferred, IsAccepted, IsRefused, HasRefusal, IsCircleRefusal, IsPlain, IsUntaken, IsUnacceptedAs, IsRefusedAs, IsRefusalOf, HasLoadError, IsFaultOf, Opens, refusal_in, table_in, with_listed, listed_table, table_files}
 
 -- ---- phases
@@ -112,8 +110,3 @@ tables_end old n rest all e h = sym (append-nil old) ∙ ap (λ x. old ++ table_
 pub ok_has : {P : Rulebase → Type 0} (r : Result Rulebase LoadError) → ((base : Rulebase) → P base) → IfOk r P
 ok_has (Ok base) h = h base
 ok_has (Err error) h = tt
-
--- what is accepted has literals of the calendar
-pub accepted_literals : (files : List SourceFile) (r : Result Rulebase LoadError) → InferencesAreOfCalendar → RulesAreOfCalendar → IfOk r (IsAccepted files) → IfOk r (λ base. HaveCalendarLiterals base.rules)
-accepted_literals files (Ok base) members rules h = rules base.model h.blocks h.inferences (table_files 0 files) base.rules (members base.model h.blocks h.inferences h.are_inferred.inferences_are) h.are_rules
-accepted_literals files (Err error) members rules h = tt

@@ -7,12 +7,14 @@ ghost use Rattle.opa_tree.specs.declared.faults.RbFault.{RbFault as FaultView};
 ghost use Rattle.opa_files.specs.declared.source.SourceFile.{SourceFile as FileView};
 ghost use Rattle.opa_layout.specs.Blocks.{lines_of};
 ghost use Rattle.opa_files.specs.Layouts.{IsShort};
+ghost use Rattle.opa_verbs.specs.Phrasing.{IsReadable};
 ghost use Rattle.opa_parse.specs.Fronts.{AreShort};
 ghost use Rattle.opa_parse.specs.Handed.{AreFormed, AreDeclared};
 ghost use Rattle.opa_check.specs.Refused.{IsRefused as IsCheckFault};
 ghost use Rattle.opa_rulebase.specs.declared.fault.Refusal.{Refusal as RefusalView};
 ghost use Rattle.opa_rulebase.specs.declared.fault.Unaccepted.TheVariants.{Refused};
 ghost use Rattle.opa_rulebase.specs.Loading.{AreBlocks, IsDeclared, AreInferred, IsAccepted, HasRefusal, phrase_at, phrases_of, IsCircleRefusal, IsPlain};
+ghost use Rattle.opa_rulebase.specs.Writable.{IsWritable};
 
 use crate::fault::{Refusal, Unaccepted};
 use crate::ruled::ruled_of;
@@ -26,6 +28,7 @@ use opa_model::{AttrId, Model};
 use opa_parse::read_inferences;
 use opa_table::read_all_rules;
 use opa_tree::{Inferences, RbError, RbFault, Rulebase, Rules};
+use opa_wording::{blocks_are_texts, phrases_are_texts, rules_are_given};
 use std::alloc::Global;
 
 /// The names of files.
@@ -104,6 +107,7 @@ fn accept_rules(
     match check(alloc, &model, &rules) {
         Ok(ranks) => {
             let ruled = ruled_of(alloc, model.attribute_count(), rules.as_slice())?;
+            let rules = rules.with_places(alloc, model.attribute_count())?;
             Ok(Rulebase::new(model, rules, ranks, ruled, files))
         }
         Err(RbError::Refused(fault)) => {
@@ -122,14 +126,19 @@ fn accept_inferred(
     blocks: &[Block],
     files: &[SourceFile],
 ) -> Result<Rulebase, Unaccepted>
+    requires readable { IsReadable model }
     requires inferred { AreInferred files.now blocks.now model inferences.now }
     requires formed { AreFormed inferences.now }
     requires short { All (λ b. AreShort b.lines) blocks.now }
     requires placed { All (λ b. b.file < length files.now) blocks.now }
     requires few { length files.now < 2 ^ 32 }
     ensures accepted { IfOk result (IsAccepted files.now) }
+    ensures writable { IfOk result (λ base. IsWritable base.model base.rules) }
     ensures refused { IfErr result (HasRefusal files.now) }
 {
+    phrases_are_texts(&model, inferences);
+    blocks_are_texts(blocks);
+    rules_are_given();
     let names = names(alloc, files)?;
     let tables = tables_of(alloc, files)?;
     match read_all_rules(alloc, &model, inferences, blocks, tables.as_slice()) {
@@ -145,11 +154,13 @@ fn accept_declared(
     blocks: &[Block],
     files: &[SourceFile],
 ) -> Result<Rulebase, Unaccepted>
+    requires readable { IsReadable model }
     requires declared { IsDeclared files.now blocks.now model }
     requires short { All (λ b. AreShort b.lines) blocks.now }
     requires placed { All (λ b. b.file < length files.now) blocks.now }
     requires few { length files.now < 2 ^ 32 }
     ensures accepted { IfOk result (IsAccepted files.now) }
+    ensures writable { IfOk result (λ base. IsWritable base.model base.rules) }
     ensures refused { IfErr result (HasRefusal files.now) }
 {
     match read_inferences(alloc, &model, blocks) {
@@ -170,6 +181,7 @@ fn accept_blocks(
     requires placed { All (λ b. b.file < length files.now) blocks.now }
     requires few { length files.now < 2 ^ 32 }
     ensures accepted { IfOk result (IsAccepted files.now) }
+    ensures writable { IfOk result (λ base. IsWritable base.model base.rules) }
     ensures refused { IfErr result (HasRefusal files.now) }
 {
     match read_declarations(alloc, blocks) {
@@ -184,6 +196,7 @@ pub fn accept(alloc: Global, files: &[SourceFile]) -> Result<Rulebase, Unaccepte
     requires texts { All (λ (f : FileView). length f.text < 2 ^ 32) files.now }
     requires few { length files.now < 2 ^ 32 }
     ensures accepted { IfOk result (IsAccepted files.now) }
+    ensures writable { IfOk result (λ base. IsWritable base.model base.rules) }
     ensures refused { IfErr result (HasRefusal files.now) }
 {
     match lay_out(alloc, files) {

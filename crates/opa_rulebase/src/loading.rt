@@ -1,9 +1,9 @@
 // A rulebase is loaded from a shelf.
 ghost use Rattle.std.specs.Prelude.{◌≡◌, ◌≤◌, length, Ok, All, IfOk, IfErr, IfSome};
 ghost use Rattle.opa_files.specs.declared.source.SourceFile.{SourceFile as FileView};
-ghost use Rattle.opa_kinds.specs.Laws.{HaveCalendarLiterals};
 ghost use Rattle.opa_kinds.specs.Memberships.{MembershipsCount};
 ghost use Rattle.opa_rulebase.specs.Loading.{Opens, HasLoadError, IsUntaken, IsUnacceptedAs, IsRefusedAs, IsAccepted, name_at};
+ghost use Rattle.opa_rulebase.specs.Writable.{IsWritable};
 
 use crate::accepting::accept;
 use crate::fault::{LoadError, Refusal, Unaccepted};
@@ -11,7 +11,6 @@ use crate::printed::refusal_text;
 use opa_files::{SourceFile, TakeError, take_files};
 use opa_io::Shelf;
 use opa_kinds::memberships_count;
-use opa_literals::{inferences_are_of_calendar, rules_are_of_calendar};
 use opa_tree::Rulebase;
 use std::alloc::Global;
 
@@ -64,6 +63,7 @@ fn load_files(alloc: Global, files: &[SourceFile]) -> Result<Rulebase, LoadError
     requires texts { All (λ (f : FileView). length f.text ≤ 8388608) files.now }
     requires few { length files.now ≤ 101 }
     ensures accepted { IfOk result (IsAccepted files.now) }
+    ensures writable { IfOk result (λ base. IsWritable base.model base.rules) }
     ensures refused { IfErr result (IsRefusedAs files.now) }
 {
     match accept(alloc, files) {
@@ -86,8 +86,8 @@ pub fn load_rulebase<F: Shelf>(
     // In what is accepted, over every case, trees that stand for quantifiers over an inferred relationship count its members alone.
     ensures memberships { IfOk result MembershipsCount }
 
-    // Each literal of what is accepted that is a date is one of the calendar's days.
-    ensures literals { IfOk result (λ r. HaveCalendarLiterals r.rules) }
+    // Rules can read what is declared, and each rule is one that the grammar gives, but for that of a table without cases.
+    ensures writable { IfOk result (λ base. IsWritable base.model base.rules) }
 
     // The shelf is as it was.
     ensures files { F.files shelf.new ≡ F.files shelf.old }
@@ -95,8 +95,6 @@ pub fn load_rulebase<F: Shelf>(
     ensures kept { F.keep_faults shelf.new ≡ F.keep_faults shelf.old }
 {
     memberships_count();
-    inferences_are_of_calendar();
-    rules_are_of_calendar();
     match take_files(alloc, shelf, name) {
         Ok(files) => load_files(alloc, files.as_slice()),
         Err(error) => Err(untaken(alloc, error)),

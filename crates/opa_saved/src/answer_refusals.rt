@@ -11,12 +11,11 @@ use crate::declared::{attribute_of, find_attribute, has_rule};
 use crate::entries::AnswerEntry;
 use crate::list_refusals::add_refusal;
 use crate::living::Living;
-use opa_case::Refusal;
+use opa_case::{Refusal, has_kind};
 use opa_cells::InstanceId;
-use opa_date::DAYS;
 use opa_io::{NoMemory, Txt, front};
 use opa_line::Line;
-use opa_model::{AttrId, Attribute, Kind, Model, Ruled};
+use opa_model::{AttrId, Attribute, Model, Ruled};
 use opa_value::Value;
 use std::alloc::Global;
 
@@ -176,19 +175,6 @@ fn have_kind(attribute: &Attribute, line: &Line<Value>) -> bool
     line.segments()
         .iter()
         .all(|pair| has_kind(attribute.kind, &pair.1))
-}
-
-/// Whether the value, where it is plain, is of the kind.
-fn has_kind(kind: Kind, value: &Value) -> bool
-    ensures { result ≡ step.has_kind kind value.now }
-{
-    match value {
-        Value::Unknown | Value::Uncertain => true,
-        Value::Bool(_) => kind == Kind::Bool,
-        Value::Num(_) => kind == Kind::Number || kind == Kind::Currency,
-        Value::Words(_) => kind == Kind::Words,
-        Value::Day(day) => kind == Kind::Date && *day < DAYS,
-    }
 }
 
 fn are_in_bounds(attribute: &Attribute, line: &Line<Value>) -> bool

@@ -11,3 +11,4 @@ pub mod Bounded
 pub mod Wholes
 pub mod LawsHold
 pub mod MeasureLaws
+pub mod Calendar

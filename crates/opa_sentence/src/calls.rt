@@ -3,7 +3,6 @@ ghost use Rattle.std.specs.Prelude.{◌≡◌, ◌∷◌, [], IfOk};
 ghost use Rattle.opa_sentence.specs.Measures.{bounded};
 ghost use Rattle.opa_sentence.specs.Readings.{no_arguments, last_line as last_line_of, but_last, lines as lines_of, days as days_of_number, days_of_count, days_of_size, written as written_of, windowed as window_of, two_parts as two_parts_of, all as all_of, over_unnamed as over_unnamed_of, listed as listed_of, membership as membership_of, member_measure, over_members as over_members_of, over_found as over_found_of, over_relation as over_relation_of, operation_call as operation_call_of, called as called_of, call_of};
 
-use crate::copies::copy_of;
 use crate::{Arguments, Function, Measure, Member, Parts, Reading, Relation};
 use opa_io::{List, NoMemory};
 use opa_model::RelId;
@@ -133,7 +132,7 @@ impl Member {
         let measure = self.measure();
         if measure.fits() {
             Ok(Reading {
-                tree: Some(copy_of(alloc, &self.expr)?),
+                tree: Some(self.expr.copy(alloc)?),
                 measure,
             })
         } else {

@@ -3,7 +3,6 @@
 
 mod calls;
 mod class;
-mod copies;
 mod cursor;
 mod functions;
 mod laws;

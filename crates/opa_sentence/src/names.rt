@@ -4,7 +4,6 @@ ghost use Rattle.opa_tree.specs.Trees.{depth as depth_of};
 ghost use Rattle.opa_sentence.specs.Measures.{nodes as nodes_of};
 ghost use Rattle.opa_sentence.specs.declared.measure.TheConstants.{MOST_DEPTH, MOST_NODES};
 
-use crate::copies::copy_of;
 use crate::measure::{MOST_DEPTH, MOST_NODES};
 use crate::sizes::{depth_of, nodes_of};
 use opa_io::{List, NoMemory};
@@ -58,7 +57,7 @@ impl Member {
     {
         Ok(Member {
             every,
-            expr: copy_of(alloc, expr)?,
+            expr: expr.copy(alloc)?,
             depth: depth_of(expr),
             nodes: nodes_of(expr),
         })

@@ -10,7 +10,7 @@ use Rattle.opa_tree.specs.declared.rulebase.Rulebase.{Rulebase}
 use Rattle.opa_reply.specs.Held.{at_first, files_in}
 use Rattle.opa_rulebase.specs.Loading.{Opens}
 use Rattle.opa_decided.specs.Laws.{OneTranscript}
-use Rattle.opa_opened.specs.Opening.{OneOpening}
+use Rattle.opa_decided.specs.Opening.{OneOpening}
 use Rattle.opa_top.specs.Checking.{IsOpened, IsTold}
 use Rattle.opa_top.specs.Running.{Counts, Outside, SaysAll, Talks, Runs}
 use Rattle.opa_top.specs.Statuses.{WroteWhatever, IsOnly}

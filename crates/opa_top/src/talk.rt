@@ -1,6 +1,5 @@
 // The mode `run`.
 ghost use Rattle.std.specs.Prelude.{◌≡◌, ◌≤◌, IfErr, OnOk};
-ghost use Rattle.opa_kinds.specs.Laws.{HaveCalendarLiterals};
 ghost use Rattle.opa_model.specs.Models.{IsModel};
 ghost use Rattle.opa_talk.specs.Halt.{IsCause};
 ghost use Rattle.opa_top.specs.Checking.{IsTold};
@@ -22,7 +21,6 @@ fn talk<S: Source, F: Shelf, K: Sink>(
     input: &mut S,
     out: &mut K,
 ) -> Result<(), Halt>
-    requires literals { HaveCalendarLiterals base.rules }
     ensures all { OnOk result (TalksAll base (outside F.files S.left K.written shelf.old input.old out.old) (outside F.files S.left K.written shelf.new input.new out.new)) }
     ensures part { IfErr result (TalksPart base (outside F.files S.left K.written shelf.old input.old out.old) (outside F.files S.left K.written shelf.new input.new out.new) (F.keep_faults shelf.old) (F.keep_faults shelf.new)) }
     ensures cause { IfErr result (IsCause (F.take_faults shelf.old) (F.take_faults shelf.new) (F.keep_faults shelf.old) (F.keep_faults shelf.new) (K.faults out.old) (K.faults out.new) (S.faults input.old) (S.faults input.new)) }

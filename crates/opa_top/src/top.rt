@@ -10,9 +10,8 @@ ghost use Rattle.opa_top.specs.Statuses.{Asks, words_of, SaysUsage, Wrote, IsOnl
 
 use crate::check::{check, tell};
 use crate::talk::open_and_talk;
-use opa_decided::one_transcript;
+use opa_decided::{one_opening, one_transcript};
 use opa_io::{Shelf, Sink, Source, Status};
-use opa_opened::one_opening;
 use opa_usage::{Mode, WordsFault, read_words};
 use std::alloc::Global;
 

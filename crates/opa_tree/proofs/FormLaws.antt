@@ -8,15 +8,21 @@ use Rattle.opa_tree.specs.declared.kinds.Quant.{Quant}
 use Rattle.opa_tree.specs.declared.kinds.WinKind.{WinKind}
 use Rattle.opa_tree.specs.declared.expr.Expr.{Expr}
 use Rattle.opa_tree.specs.declared.expr.Row.{Row}
-use Rattle.opa_tree.specs.declared.expr.Expr.TheOpen.{Const, Attr, All, Any, Not, Op, Certain, Known, Over, Window, Rolling, Table}
+use Rattle.opa_tree.specs.declared.expr.Expr.TheOpen.{Expr-F, Const, Attr, All, Any, Not, Op, Certain, Known, Over, Window, Rolling, Table}
 use Rattle.opa_tree.specs.declared.expr.Expr.TheVariants as V
-use Rattle.opa_tree.specs.declared.expr.Expr.TheFolds.{fold-Row}
+use Rattle.opa_tree.specs.declared.expr.Expr.TheFolds.{fold-Row, fold-roll-Expr, map-Expr}
+use Rattle.opa_tree.specs.declared.expr.Expr.TheViews.{roll-Expr}
 use Rattle.opa_tree.proofs.Folds.{fold-Const, fold-Attr, fold-All, fold-Any, fold-Not, fold-Op, fold-Certain, fold-Known, fold-Over, fold-Window, fold-Rolling, fold-Table, fold-of_row}
 use Rattle.opa_tree.specs.Trees.{form_step, form_row, has_form}
 
 -- of a row of a table
 unfoldable pub row_has_form : Row → (Bool → Bool)
 row_has_form = fold-Row (Bool → Bool) (Bool → Bool) form_step form_row
+
+-- of every sort at once
+pub form-roll : (x : Expr-F Expr Row) → has_form (roll-Expr x) ≡ form_step (map-Expr Expr Row (Bool → Bool) (Bool → Bool) has_form row_has_form x)
+unfolding has_form row_has_form
+form-roll = fold-roll-Expr (Bool → Bool) (Bool → Bool) form_step form_row
 
 pub form-Const : (v : Value) → has_form (V.Const v) ≡ form_step (Const v)
 unfolding has_form row_has_form

@@ -1,7 +1,6 @@
 // The attributes that a tree mentions.
 ghost use Rattle.std.specs.Prelude.{◌≡◌, ◌++◌, ◌∷◌, [], flat_map, IfOk, OnOk};
 ghost use Rattle.opa_tree.specs.FirstOnes.{first_ones, with_new};
-ghost use Rattle.opa_tree.specs.Trees.{IsShallow};
 ghost use Rattle.opa_tree.specs.Mentions.{is_attr, mentioned, row_mentioned, mentions as mentions_of};
 
 use crate::{Expr, Row};
@@ -12,7 +11,6 @@ use std::alloc::Global;
 /// The attributes that a tree mentions, in written order, each once. A row's condition comes before its value, and the
 /// last value of a table last.
 pub fn mentions(alloc: Global, expr: &Expr) -> Result<List<AttrId>, NoMemory>
-    requires shallow { IsShallow expr.now }
     ensures { IfOk result (λ attrs. attrs ≡ mentions_of expr.now) }
 {
     let mut all = List::new(alloc);

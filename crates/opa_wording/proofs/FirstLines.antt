@@ -23,9 +23,10 @@ use Rattle.opa_sentence.specs.Phrases.{is_word, past_words}
 use Rattle.opa_parse.specs.declared.block.Opening.TheVariants as opens
 use Rattle.opa_parse.specs.declared.line.Ending.TheVariants as ending
 use Rattle.opa_parse.specs.Lines.{ending_of, body}
-use Rattle.opa_parse.specs.Naming.{operand, operand_phrases, operand_meanings}
+use Rattle.opa_parse.specs.Naming.{operand, operand_meanings}
+use Rattle.opa_verbs.specs.Phrasing.{operand_phrases}
 use Rattle.opa_parse.specs.Openings.{front_words, concluded, by_words, by_equals, opening_at, opening, past_one, past_equals}
-use Rattle.opa_parse.specs.Phrasing.{IsPhrase}
+use Rattle.opa_verbs.specs.Phrasing.{IsPhrase}
 use Rattle.opa_wording.specs.Laid.{ended, equated, phrase_words}
 use Rattle.opa_wording.specs.Told.{told, all_told}
 use Rattle.opa_wording.specs.Wordings.{token, phrase, phrase_of_attribute, words_from}

@@ -34,10 +34,12 @@ use Rattle.opa_parse.specs.Blocks as b
 use Rattle.opa_parse.specs.Groups.{is_deeper, Grouped, Case, MoreCases, AllCases}
 use Rattle.opa_parse.specs.Groups as g
 use Rattle.opa_parse.specs.Lines.{AreLines, ending_of}
-use Rattle.opa_parse.specs.Naming.{names_in, operand_phrases}
+use Rattle.opa_parse.specs.Naming.{names_in}
+use Rattle.opa_verbs.specs.Phrasing.{operand_phrases}
 use Rattle.opa_parse.specs.declared.block.Opening.TheVariants as opens
 use Rattle.opa_parse.specs.Openings.{opening, past_equals}
-use Rattle.opa_parse.specs.Phrasing.{IsReadable, IsPhrase}
+use Rattle.opa_parse.specs.Phrasing.{IsReadable}
+use Rattle.opa_verbs.specs.Phrasing.{IsPhrase}
 use Rattle.opa_parse.specs.Sayings.{of_line, no_cases, with_case, tabled}
 use Rattle.opa_wording.specs.Grammatical.{IsGrammatical, AreGrammatical}
 use Rattle.opa_wording.specs.Grammatical as tree

@@ -34,3 +34,4 @@ pub mod RulesGiven
 pub mod TextsLaws
 pub mod Shortness
 pub mod SmallRules
+pub mod TablesGiven

@@ -41,6 +41,7 @@ use Rattle.opa_sentence.specs.Readings.{with_tree, but_last, kept, days, days_of
 use Rattle.opa_sentence.specs.Table.{relation_at, relation_found, past_found, related_or_none}
 use Rattle.opa_sentence.specs.Grammar.{Part, Spells, SpellsMore, SpellsArgument, SpellsArguments}
 use Rattle.opa_sentence.specs.Grammar as g
+use Rattle.opa_sentence.proofs.Calendar.{dates_are_literals}
 use Rattle.opa_wording.specs.Grammatical.{is_round, IsGrammatical, AreGrammatical}
 use Rattle.opa_wording.specs.Grammatical as tree
 use Rattle.opa_wording.proofs.TokensGiven.{number_range, unsigned_count, negative_range, day_range, IsSuch, AreSuch}
@@ -286,7 +287,7 @@ module _ (m : Lists) where
     pub denial_given : (r : Reading) → Given r.tree → Given (says.denial b r).tree
     denial_given r h = one_given (λ e. expr.Not e) r not_kept h
 
-    literal_given : (v : Value) → is_literal v ≡ true → CanBeWritten kinds.Number v → Given (says.literal b v).tree
+    pub literal_given : (v : Value) → is_literal v ≡ true → CanBeWritten kinds.Number v → Given (says.literal b v).tree
     literal_given v h c = of_if (IsGrammatical m) (b.keeps (says.literal_measure b v)) (Some (expr.Const v)) (tree.IsGrammatical.literal v h c)
 
     attribute_given : (a : AttrId) → HasAttribute m a → Given (says.attribute b a).tree
@@ -339,7 +340,7 @@ module _ (m : Lists) where
 
     -- ---- calls
 
-    abbrev GivenEach : List Reading → Type 0
+    abbrev pub GivenEach : List Reading → Type 0
     GivenEach [] = Unit {0}
     GivenEach (r ∷ rs) = Given r.tree × GivenEach rs
 
@@ -363,7 +364,7 @@ module _ (m : Lists) where
         subst (λ x. Gives x (says.gathered b (says.with_part b p r) rs).trees) (let e : (n + 1) + length rs ≡ n + length (r ∷ rs) = omega arith in e)
         (gathered_give (n + 1) (says.with_part b p r) rs (with_part_gives n p r h k.0) k.1)
 
-    lines_give : (n : ℕ) (rs : List Reading) → length rs ≡ n → GivenEach rs → Gives n (says.lines b rs).trees
+    pub lines_give : (n : ℕ) (rs : List Reading) → length rs ≡ n → GivenEach rs → Gives n (says.lines b rs).trees
     lines_give n rs e h = subst (λ x. Gives x (says.lines b rs).trees) (let f : 0 + length rs ≡ n = omega (arith, e) in f) (gathered_give 0 (says.no_parts b) rs none_gives h)
 
     membership_given : (x : Member) → IsMember x → Given (says.membership b x).tree
@@ -419,7 +420,7 @@ such_found : (ts : List Lexeme) (o : Option (ℕ × ℕ)) → AreSuch ts → Are
 such_found ts None h = such_past ts h
 such_found ts (Some x) h = such_drop x.1 ts h
 
-class_such : (c d : Class) (t : List ℕ) → c ≡ d → IsSuch c t → IsSuch d t
+pub class_such : (c d : Class) (t : List ℕ) → c ≡ d → IsSuch c t → IsSuch d t
 class_such c d t e h = subst (λ x. IsSuch x t) e h
 
 -- what the phrases of attributes and relations stand for is declared
@@ -478,7 +479,7 @@ module _ (m : Lists) (ns : Names) (names : AreNamed m ns) where
     called_given (function.Window k) a h e = over_given m b (window_arity k) (λ es. expr.Window k es) (says.lines b a.lines) (window_made m k) (lines_give m b (window_arity k) a.lines e h.lines)
     called_given (function.Rolling always) a h e = one_given m b (λ x. expr.Rolling always (days a.number) x) (says.last_line b a.lines) (rolling_kept m always a.number) (last_given m b a.lines h.lines)
 
-    between_given : (k : OpKind) → op_arity k ≡ 2 → is_round k ≡ false → (x y : Reading) → Given m x.tree → Given m y.tree → Given m (says.between b k x y).tree
+    pub between_given : (k : OpKind) → op_arity k ≡ 2 → is_round k ≡ false → (x y : Reading) → Given m x.tree → Given m y.tree → Given m (says.between b k x y).tree
     between_given k e r x y h i = operation_given m b k (says.two_parts b x y) r (subst (λ n. Gives m n (says.two_parts b x y).trees) (sym e) (two_parts_give m b x y h i))
 
     negate_given : (x : Reading) → Given m x.tree → Given m (says.nested b (says.operation b op.Neg (says.one_part b x))).tree
@@ -504,7 +505,7 @@ module _ (m : Lists) (ns : Names) (names : AreNamed m ns) where
       given_by (g.Spells.over {x = x} {y = y} h d f) = λ r. let a = given_by d r in let c = given_by f a.1.1 in (between_given op.Div refl refl x y a.0 c.0, c.1)
       given_by (g.Spells.number {t = t} h n is) = λ r. (literal_given m b (value.Num n) refl (number_range t.text n is, tt), r.1)
       given_by (g.Spells.negative {t = t} h k n is) = λ r. (literal_given m b (value.Num n) refl (negative_range t.text n is, tt), r.1.1)
-      given_by (g.Spells.date {t = t} h d is) = λ r. (literal_given m b (value.Day d) refl (day_range t.text d is), r.1)
+      given_by (g.Spells.date {t = t} h d is) = λ r. (literal_given m b (value.Day d) (dates_are_literals t.text d is) (day_range t.text d is), r.1)
       given_by (g.Spells.text {t = t} h) = λ r. (literal_given m b (value.Words (unquoted t.text)) refl (class_such t.class class.Text t.text h r.0), r.1)
       given_by (g.Spells.yes h) = λ r. (literal_given m b (value.Bool true) refl tt, r.1)
       given_by (g.Spells.no h) = λ r. (literal_given m b (value.Bool false) refl tt, r.1)

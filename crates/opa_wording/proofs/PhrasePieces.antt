@@ -23,7 +23,7 @@ use Rattle.opa_words.proofs.PlaceLaws.{tokens_within, tokens_of_kind}
 use Rattle.opa_words.specs.Pieces.{Piece, IsPiece, word, number, piece, pieces}
 use Rattle.opa_words.specs.Written.{Written, AreWritten, ends_before}
 use Rattle.opa_words.proofs.Separate.{none_of, all_append, numeric, number_numeric}
-use Rattle.opa_parse.specs.Phrasing.{IsPhrase}
+use Rattle.opa_verbs.specs.Phrasing.{IsPhrase}
 use Rattle.opa_wording.specs.Told.{is_sign}
 use Rattle.opa_wording.specs.Wordings.{token, phrase, phrase_word, words_from}
 

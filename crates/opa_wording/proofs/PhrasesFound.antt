@@ -34,8 +34,10 @@ use Rattle.opa_sentence.specs.Readings as says
 use Rattle.opa_sentence.specs.Table.{relation_at as relation_in, relation_found, past_found, related_or_none}
 use Rattle.opa_sentence.specs.Grammar.{Spells, FACTOR, BeginsPhrase, Begins}
 use Rattle.opa_sentence.specs.Grammar as g
-use Rattle.opa_parse.specs.Naming.{denials, texts_of, operand, operand_phrases, meanings_from, declared_from, inferred_from, inferred_phrases, names_in}
-use Rattle.opa_parse.specs.Phrasing.{IsPhrase, IsReadable, IsWorded}
+use Rattle.opa_parse.specs.Naming.{operand, meanings_from, declared_from, inferred_from, inferred_phrases, names_in}
+use Rattle.opa_verbs.specs.Phrasing.{denials, texts_of, operand_phrases}
+use Rattle.opa_parse.specs.Phrasing.{IsReadable}
+use Rattle.opa_verbs.specs.Phrasing.{IsPhrase, IsWorded}
 use Rattle.opa_wording.specs.Told.{told, all_told, ends, may_follow, is_sign, SpellsTree, AreTexts, OthersAreTexts}
 use Rattle.opa_wording.specs.Wordings.{token, phrase, phrase_word, phrase_of_attribute, phrase_of_relation}
 use Rattle.opa_wording.specs.Laws.{ReadableIsRead}
@@ -280,7 +282,7 @@ module _ (m : Lists) (inferences : List Inferred) (h : IsReadable m inferences) 
   relations_strung : All IsStrung (relation_phrases m ++ inferred_phrases inferences)
   relations_strung = All-append IsStrung (relation_phrases m) (inferred_phrases inferences)
       (together_all IsUtf8 IsPhrase IsStrung phrase_strung (relation_phrases m) texts.relations h.relations)
-      (together_all IsUtf8 IsPhrase IsStrung phrase_strung (inferred_phrases inferences) others.inferred h.inferred)
+      (together_all IsUtf8 IsPhrase IsStrung phrase_strung (inferred_phrases inferences) others.inferred h.others)
 
   attribute_read : (a : AttrId) → HasAttribute m a → (s : Bool) (rest : List Lexeme) → ends rest ≡ true → SpellsTree ns FACTOR (all_told (phrase s (phrase_of_attribute (attribute_at m a))) ++ rest) (expr.Attr a) rest 0
   attribute_read a has s rest e =

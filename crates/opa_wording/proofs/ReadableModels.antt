@@ -5,7 +5,7 @@ use Rattle.std.proofs.lemmas.List.Elements.{All-head, All-tail}
 use Rattle.opa_model.specs.declared.things.Attribute.{Attribute}
 use Rattle.opa_model.specs.declared.things.Relation.{Relation}
 use Rattle.opa_model.specs.Lookups.{attribute_at, relation_at}
-use Rattle.opa_parse.specs.Phrasing.{IsPhrase}
+use Rattle.opa_verbs.specs.Phrasing.{IsPhrase}
 use Rattle.opa_wording.specs.Wordings.{phrase_of_attribute, phrase_of_relation}
 use Rattle.opa_wording.specs.Laws.{ReadableIsWritten}
 use Rattle.opa_wording.proofs.PhrasePieces.{phrase_is_written}

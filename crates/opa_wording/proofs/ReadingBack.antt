@@ -40,7 +40,7 @@ use Rattle.opa_parse.specs.Blocks.{SpellsRule, IsStatement, statement}
 use Rattle.opa_parse.specs.Fronts.{Stands}
 use Rattle.opa_parse.specs.Naming.{names_in}
 use Rattle.opa_parse.specs.Openings.{IsFirst, IsSortOf, IsSort, sort_of_word, sort_of}
-use Rattle.opa_parse.specs.Phrasing.{IsPhrase}
+use Rattle.opa_verbs.specs.Phrasing.{IsPhrase}
 use Rattle.opa_parse.specs.RuleFaults.{when, fault_at, marked, size_faults, statement_faults, spelled_faults, passes}
 use Rattle.opa_parse.specs.Rules as rules
 use Rattle.opa_parse.specs.Rules.{IsRuleBlock, IsPassed, AreRuleBlocks, rule_from, rule_by, rule_in, rules_in, rule_faults, inferred_nodes, AreRules, AreRefused}

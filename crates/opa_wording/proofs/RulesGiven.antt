@@ -47,7 +47,8 @@ use Rattle.opa_parse.specs.declared.block.Membership.{Membership}
 use Rattle.opa_parse.specs.Groups as g
 use Rattle.opa_parse.specs.Groups.{Item, Grouped, More, Case, MoreCases, AllCases}
 use Rattle.opa_parse.specs.Lines.{IsCut, IsLine, AreLines, body, is_none, past_for_all, past_for_some, past_denial, past_word, whole, whole_relation, relation_of, over, all_head, any_head, plain_head, for_all_head, for_some_head, head_of}
-use Rattle.opa_parse.specs.Naming.{denials, operand, meanings_from, declared_from, inferred_from, member_of, names_in}
+use Rattle.opa_parse.specs.Naming.{operand, meanings_from, declared_from, inferred_from, member_of, names_in}
+use Rattle.opa_verbs.specs.Phrasing.{denials}
 use Rattle.opa_parse.specs.Openings.{past_one, past_equals}
 use Rattle.opa_parse.specs.Rules as r
 use Rattle.opa_parse.specs.Rules.{AreRuleBlocks, IsRuleBlock, AreRules, rules_in}
@@ -90,7 +91,7 @@ members_given m (i ∷ more) h zero x e =
     subst (IsMember m) f (here.0, here.1)
 members_given m (i ∷ more) h (suc n) x e = members_given m more (All-tail (λ (y : Inferred). IsGrammatical m y.expr × HasRelation m y.every) i more h) n x e
 
-named : (m : Lists) (inferences : List Inferred) → AreMembersGiven m inferences → AreNamed m (names_in m inferences)
+pub named : (m : Lists) (inferences : List Inferred) → AreMembersGiven m inferences → AreNamed m (names_in m inferences)
 named m inferences h = record {
   operands = λ i. operands_from m 0 m.attributes i (omega arith);
   relations = λ i. relations_from m 0 m.relations inferences i (omega arith);
@@ -172,7 +173,7 @@ module _ (m : Lists) (ns : Names) (names : AreNamed m ns) where
   AreLinesGiven [] = Unit {0}
   AreLinesGiven (l ∷ ls) = IsLineGiven l × AreLinesGiven ls
 
-  spelling_given : (p : Part) (ts : List Lexeme) (x : Reading) → AreSuch ts → IsSpelling ns p ts (Some x) → Given m x.tree
+  pub spelling_given : (p : Part) (ts : List Lexeme) (x : Reading) → AreSuch ts → IsSpelling ns p ts (Some x) → Given m x.tree
   spelling_given p ts x such h =
       subst (λ (y : Reading). Given m y.tree) (sym h.2) (of_if (IsGrammatical m) (fits (capped h.0.measure)) h.0.tree (given_by m ns names unbounded h.1 such).0)
 
@@ -222,7 +223,7 @@ module _ (m : Lists) (ns : Names) (names : AreNamed m ns) where
   -- ---- cases
 
   -- rows, of which there is one at least where the flag says so
-  abbrev SomeRows : ℕ → List Row → Type 0
+  abbrev pub SomeRows : ℕ → List Row → Type 0
   SomeRows n rows = (n ≤ length rows) × AreRows m rows
 
   rows_last : (rows : List Row) (x : Row) → AreRows m rows → IsRow m x → AreRows m (rows ++ x ∷ [])
@@ -239,10 +240,10 @@ module _ (m : Lists) (ns : Names) (names : AreNamed m ns) where
   with_row_given (Some rows) (Some c) None h p q = tt
   with_row_given (Some rows) (Some c) (Some v) h p q = (more_rows rows (row_of c v), rows_last rows (row_of c v) h.1 (record { value = q; cond = p }))
 
-  case_given : (cs : Cases) (v c : Said) → Of (SomeRows 0) cs.rows → Given m v.reading.tree → Given m c.reading.tree → Of (SomeRows 1) (with_case cs v c).rows
+  pub case_given : (cs : Cases) (v c : Said) → Of (SomeRows 0) cs.rows → Given m v.reading.tree → Given m c.reading.tree → Of (SomeRows 1) (with_case cs v c).rows
   case_given cs v c h q p = of_if (SomeRows 1) (fits (cases_measure cs c.reading.measure v.reading.measure)) (with_row cs.rows c.reading.tree v.reading.tree) (with_row_given cs.rows c.reading.tree v.reading.tree h p q)
 
-  fewer_rows : (o : Option (List Row)) → Of (SomeRows 1) o → Of (SomeRows 0) o
+  pub fewer_rows : (o : Option (List Row)) → Of (SomeRows 1) o → Of (SomeRows 0) o
   fewer_rows None h = tt
   fewer_rows (Some rows) h = (omega arith, h.1)
 
@@ -251,7 +252,7 @@ module _ (m : Lists) (ns : Names) (names : AreNamed m ns) where
   table_given (Some rows) None h q = tt
   table_given (Some rows) (Some v) h q = IsTree.table rows v h.0 h.1 q
 
-  tabled_given : (cs : Cases) (v : Said) → Of (SomeRows 1) cs.rows → Given m v.reading.tree → Of (IsTree m false) (tabled cs v).reading.tree
+  pub tabled_given : (cs : Cases) (v : Said) → Of (SomeRows 1) cs.rows → Given m v.reading.tree → Of (IsTree m false) (tabled cs v).reading.tree
   tabled_given cs v h q = of_if (IsTree m false) (fits (table_measure cs v.reading.measure)) (table_of cs.rows v.reading.tree) (table_given cs.rows v.reading.tree h q)
 
   one_case_given : {ls : List Line} {cs ds : Cases} {rest : List Line} → Case ns ls cs ds rest → AreLinesGiven ls → Of (SomeRows 0) cs.rows → Of (SomeRows 1) ds.rows × AreLinesGiven rest
@@ -283,7 +284,7 @@ module _ (m : Lists) (ns : Names) (names : AreNamed m ns) where
       let k : Of (IsTree m s.by_if) (Some e) = subst (Of (IsTree m s.by_if)) t (statement_given spelled u) in
       record { attribute = declared_of m ns y x is a e s p q t; tree = k }
 
-  blocks_given : {bs : List Block} {xs : List RuleBlock} → AreRuleBlocks m ns bs xs → AreTextual bs → Each (MadeOf (IsRule m)) xs
+  pub blocks_given : {bs : List Block} {xs : List RuleBlock} → AreRuleBlocks m ns bs xs → AreTextual bs → Each (MadeOf (IsRule m)) xs
   blocks_given r.AreRuleBlocks.none = λ u. tt
   blocks_given (r.AreRuleBlocks.passed {b = y} {bs = bs} p d) = λ u. blocks_given d (All-tail (λ (z : Block). All (λ l. IsUtf8 l.text) z.lines) y bs u)
   blocks_given (r.AreRuleBlocks.rule {b = y} {r = x} {bs = bs} is d) = λ u.

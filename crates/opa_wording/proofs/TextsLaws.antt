@@ -15,7 +15,8 @@ use Rattle.opa_words.proofs.Ascii.{ascii_utf8}
 use Rattle.opa_tree.specs.declared.rules.Inferred.{Inferred}
 use Rattle.opa_verbs.specs.declared.sentence.Form.TheVariants.{Negative}
 use Rattle.opa_verbs.specs.Forms.{beside, spoken}
-use Rattle.opa_parse.specs.Naming.{listed, denials_by, inferred_phrases}
+use Rattle.opa_parse.specs.Naming.{inferred_phrases}
+use Rattle.opa_verbs.specs.Phrasing.{listed, denials_by}
 use Rattle.opa_wording.specs.ReadBack.{AreTextual}
 
 -- ---- sentences

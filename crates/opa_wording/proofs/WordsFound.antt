@@ -13,7 +13,7 @@ use Rattle.opa_words.specs.Reserved.{joined, phrase_text, is_phrase_kind}
 use Rattle.opa_words.proofs.PlaceLaws.{tokens_within, tokens_of_kind}
 use Rattle.opa_words.specs.Pieces.{Piece, word, number, piece, pieces}
 use Rattle.opa_words.specs.Written.{Written}
-use Rattle.opa_parse.specs.Phrasing.{IsWorded, IsPhrase}
+use Rattle.opa_verbs.specs.Phrasing.{IsWorded, IsPhrase}
 use Rattle.opa_sentence.specs.Lexemes.{Lexeme}
 use Rattle.opa_sentence.specs.Phrases.{front_text}
 use Rattle.opa_wording.specs.Told.{all_told, ends, may_follow, is_sign}

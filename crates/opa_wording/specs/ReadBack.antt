@@ -1,10 +1,11 @@
 -- What the texts of lines and rules read back as.
-use Rattle.std.specs.Prelude.{◌≡◌, ◌≤◌, ◌*◌, ℕ, Bool, true, false, List, [], ◌∷◌, length, Some, All}
+use Rattle.std.specs.Prelude.{◌≡◌, ◌≤◌, ◌*◌, ◌⊎◌, ℕ, Bool, true, false, List, [], ◌∷◌, length, Some, All}
 use Rattle.std.specs.List.{AllByRecursion}
 use Rattle.std.specs.Str.{IsUtf8, chars}
 use Rattle.opa_model.specs.declared.lists.Lists.{Lists}
 use Rattle.opa_model.specs.Models.{HasRelation}
 use Rattle.opa_tree.specs.declared.expr.Expr.{Expr}
+use Rattle.opa_tree.specs.declared.expr.Expr.TheVariants as expr
 use Rattle.opa_tree.specs.declared.faults.RbFault.{RbFault}
 use Rattle.opa_tree.specs.declared.rules.Inferred.{Inferred}
 use Rattle.opa_tree.specs.declared.rules.Rule.{Rule}
@@ -28,6 +29,8 @@ use Rattle.opa_parse.specs.Memberships.{AreInferences}
 use Rattle.opa_parse.specs.Naming.{names_in}
 use Rattle.opa_parse.specs.Phrasing.{IsReadable}
 use Rattle.opa_parse.specs.Rules.{AreRules, AreRefused}
+use Rattle.opa_table.specs.declared.whole.TableFile.{TableFile}
+use Rattle.opa_table.specs.Whole.{AreAllRules}
 use Rattle.opa_wording.specs.Given.{IsRule}
 use Rattle.opa_wording.specs.Grammatical.{IsGrammatical}
 use Rattle.opa_wording.specs.Laid.{Laid, tree_words, rule_lines, block_from}
@@ -105,6 +108,15 @@ AreTextual blocks = All (λ b. All (λ l. IsUtf8 l.text) b.lines) blocks
 -- Each rule that is read is one that the grammar gives.
 abbrev pub RulesAreGiven : Type 0
 RulesAreGiven = (m : Lists) (inferences : List Inferred) → AreMembersGiven m inferences → (blocks : List Block) → AreTextual blocks → (rules : List Rule) → AreRules m inferences blocks rules → All (IsRule m) rules
+
+-- a table without cases, which no block spells
+abbrev pub IsBare : Expr → Type 0
+IsBare e = (last : Expr) × (e ≡ expr.Table [] last)
+
+-- So is each rule that is read of blocks and tables, but for that of a table without cases.
+abbrev pub AllRulesAreGiven : Type 0
+AllRulesAreGiven = (m : Lists) (inferences : List Inferred) → AreMembersGiven m inferences → (blocks : List Block) → AreTextual blocks
+    → (tables : List TableFile) (rules : List Rule) → AreAllRules m inferences blocks tables rules → All (λ r. IsBare r.expr ⊎ IsRule m r) rules
 
 -- and so is each inferred relation
 abbrev pub InferencesAreGiven : Type 0

@@ -11,7 +11,8 @@ use Rattle.opa_words.specs.Written.{Written, AreWritten}
 use Rattle.opa_tree.specs.declared.expr.Expr.{Expr}
 use Rattle.opa_tree.specs.declared.expr.Expr.TheVariants as expr
 use Rattle.opa_tree.specs.declared.rules.Inferred.{Inferred}
-use Rattle.opa_parse.specs.Naming.{denials, inferred_phrases}
+use Rattle.opa_parse.specs.Naming.{inferred_phrases}
+use Rattle.opa_verbs.specs.Phrasing.{denials}
 use Rattle.opa_sentence.specs.declared.class.Class.{Class}
 use Rattle.opa_sentence.specs.declared.class.Class.TheVariants as class
 use Rattle.opa_sentence.specs.declared.names.Names.{Names}

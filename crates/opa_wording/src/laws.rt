@@ -1,6 +1,6 @@
 // What holds of written lines.
 ghost use Rattle.opa_wording.specs.Laws.{LinesSpellTrees, FactorsSpellTrees, LinesAreCut, ReadableIsWritten, ReadableIsRead};
-ghost use Rattle.opa_wording.specs.ReadBack.{LinesReadBack, RulesAreLaidOut, RulesAreSpelled, SmallRulesFit, RulesReadBack, RulesAreTight, RulesNestAtMost, RulesAreGiven, InferencesAreGiven};
+ghost use Rattle.opa_wording.specs.ReadBack.{LinesReadBack, RulesAreLaidOut, RulesAreSpelled, SmallRulesFit, RulesReadBack, RulesAreTight, RulesNestAtMost, RulesAreGiven, AllRulesAreGiven, InferencesAreGiven};
 
 /// Where declared phrases are read as what they are declared for, the line that a tree is written as spells exactly that
 /// tree by the grammar of a line, and its nesting is at most twice the depth of the tree.
@@ -48,9 +48,10 @@ pub fn rules_are_tight()
     ensures nested { RulesNestAtMost }
 {}
 
-/// Each rule that is read is one that the grammar gives, and so is each inferred relation: the text of a rule that was read
-/// reads back.
+/// Each rule that is read is one that the grammar gives, but for that of a table without cases, and so is each inferred
+/// relation: the text of a rule that was read reads back.
 pub fn rules_are_given()
     ensures rules { RulesAreGiven }
+    ensures with_tables { AllRulesAreGiven }
     ensures inferences { InferencesAreGiven }
 {}

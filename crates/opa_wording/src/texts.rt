@@ -2,7 +2,8 @@
 ghost use Rattle.std.specs.Prelude.{All, Some, flat_map};
 ghost use Rattle.std.specs.Str.{IsUtf8};
 ghost use Rattle.opa_model.specs.Lookups.{attribute_phrases, relation_phrases};
-ghost use Rattle.opa_parse.specs.Naming.{denials, denials_by, inferred_phrases};
+ghost use Rattle.opa_parse.specs.Naming.{inferred_phrases};
+ghost use Rattle.opa_verbs.specs.Phrasing.{denials, denials_by};
 ghost use Rattle.opa_wording.specs.Told.{AreTexts, OthersAreTexts};
 ghost use Rattle.opa_wording.specs.ReadBack.{AreTextual};
 

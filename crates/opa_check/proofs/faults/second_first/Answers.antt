@@ -7,7 +7,7 @@ use Rattle.opa_tree.specs.Rules.{rule_of}
 use Rattle.opa_tree.proofs.FirstFaultLaws.{first_fault-append, first_of-assoc}
 use Rattle.opa_check.specs.Faults.{fault_at, when, second_faults, AreMarks}
 use Rattle.opa_check.proofs.MarkLaws.{rest_from}
-use Rattle.opa_check.proofs.UseLaws.{one_more}
+use Rattle.opa_tree.proofs.Setting.{one_more}
 use Rattle.opa_check.proofs.faults.second_first.Goals as goal
 
 pub loop-rule-preserved : goal.loop-rule-preserved

@@ -3,7 +3,8 @@ use Rattle.std.specs.Prelude.{Option, None, Some, slice_get, slice_set}
 use Rattle.std.proofs.lemmas.Option.{slice_get-get_or}
 use Rattle.opa_tree.specs.Mentions.{mentions}
 use Rattle.opa_check.specs.Found.{AreUses}
-use Rattle.opa_check.proofs.UseLaws.{uses_again, uses_first, none_by, known_again}
+use Rattle.opa_tree.proofs.Setting.{none_by}
+use Rattle.opa_check.proofs.UseLaws.{uses_again, uses_first, known_again}
 use Rattle.opa_check.proofs.uses.add_rule.Goals as goal
 
 pub returns-in_ok-mentions : goal.returns-in_ok-mentions

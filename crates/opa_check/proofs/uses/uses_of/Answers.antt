@@ -1,6 +1,6 @@
 use Rattle.std.proofs.Common.{◌≡◌, ◌∙◌, ap, sym, subst, take}
 use Rattle.opa_check.specs.Found.{AreUses}
-use Rattle.opa_check.proofs.UseLaws.{one_more}
+use Rattle.opa_tree.proofs.Setting.{one_more}
 use Rattle.opa_check.proofs.uses.uses_of.Goals as goal
 
 pub loop-rule-preserved : goal.loop-rule-preserved

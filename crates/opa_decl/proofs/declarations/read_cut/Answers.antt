@@ -8,7 +8,7 @@ use Rattle.opa_tree.specs.declared.faults.RbFault.{RbFault}
 use Rattle.opa_tree.specs.FirstFaults.{IsFirst}
 use Rattle.opa_words.proofs.ResultLaws.{on_ok, on_err}
 use Rattle.opa_decl.specs.Declarations.{faults_of, items_of, model_of}
-use Rattle.opa_decl.specs.Phrasing.{IsReadable}
+use Rattle.opa_verbs.specs.Phrasing.{IsReadable}
 use Rattle.opa_decl.proofs.DeclaredModels.{declared_by}
 use Rattle.opa_decl.proofs.ReadableModels.{readable_by}
 use Rattle.opa_decl.proofs.OutcomeLaws.{outcome}

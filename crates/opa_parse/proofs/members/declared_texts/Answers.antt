@@ -1,6 +1,6 @@
 use Rattle.std.proofs.Common.{◌++◌, ap, ◌∙◌}
 use Rattle.opa_parse.specs.MemberFaults.{is_taken}
-use Rattle.opa_parse.specs.Naming.{operand_phrases}
+use Rattle.opa_verbs.specs.Phrasing.{operand_phrases}
 use Rattle.opa_parse.proofs.MemberLaws.{same_more}
 use Rattle.opa_parse.proofs.members.declared_texts.Goals as goal
 

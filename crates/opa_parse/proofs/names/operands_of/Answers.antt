@@ -1,4 +1,5 @@
-use Rattle.opa_parse.specs.Naming.{operand_phrases, operand_meanings}
+use Rattle.opa_parse.specs.Naming.{operand_meanings}
+use Rattle.opa_verbs.specs.Phrasing.{operand_phrases}
 use Rattle.opa_parse.proofs.NameLaws.{more_texts, more_meanings}
 use Rattle.opa_parse.proofs.names.operands_of.Goals as goal
 

@@ -1,5 +1,6 @@
 use Rattle.std.proofs.Common.{◌≡◌, ◌++◌, drop, flat_map}
-use Rattle.opa_parse.specs.Naming.{texts_of, meanings_from, operand_phrases, operand_meanings}
+use Rattle.opa_parse.specs.Naming.{meanings_from, operand_meanings}
+use Rattle.opa_verbs.specs.Phrasing.{texts_of, operand_phrases}
 use Rattle.opa_parse.proofs.names.operands_of.Given as goal
 
 abbrev pub invariant-loop-place : goal.invariant-loop-place

@@ -4,4 +4,4 @@ use Rattle.opa_reply.proofs.shown.has_days.Goals as goal
 
 pub returns : goal.returns
 returns c =
-    has_days c.values_have_kinds.ensures (rules_of c.args.session.now) (held_of c.args.session.now) c.base-base.ensures.fits c.requires.literals c.args.attr c.args.inst.now c.args.line.now c.requires.line
+    has_days c.values_have_kinds.ensures (rules_of c.args.session.now) (held_of c.args.session.now) c.base-base.ensures.fits c.args.attr c.args.inst.now c.args.line.now c.requires.line

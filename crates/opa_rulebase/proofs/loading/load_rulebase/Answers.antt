@@ -1,6 +1,6 @@
 use Rattle.std.proofs.Common.{IfOk, IfErr, subst}
 use Rattle.opa_rulebase.specs.Loading.{IsAccepted, IsRefusedAs}
-use Rattle.opa_rulebase.proofs.LoadLaws.{load_untaken, load_opens, load_fails, ok_has, accepted_literals}
+use Rattle.opa_rulebase.proofs.LoadLaws.{load_untaken, load_opens, load_fails, ok_has}
 use Rattle.opa_rulebase.proofs.loading.load_rulebase.Goals as goal
 
 pub returns-in-Ok-clause-accepted : goal.returns-in-Ok-clause-accepted
@@ -16,8 +16,3 @@ returns-in-Err-clause-refused g c = load_untaken (g.F.Shelf.files c.args.shelf.n
 
 pub returns-in-Ok-clause-memberships : goal.returns-in-Ok-clause-memberships
 returns-in-Ok-clause-memberships g c = ok_has c.load_files.result c.memberships_count.ensures
-
-pub returns-in-Ok-clause-literals : goal.returns-in-Ok-clause-literals
-returns-in-Ok-clause-literals g c =
-    accepted_literals c.in-Ok.files c.load_files.result c.inferences_are_of_calendar.ensures c.rules_are_of_calendar.ensures
-    (subst (λ files. IfOk c.load_files.result (IsAccepted files)) c.as_slice.ensures c.load_files.ensures.accepted)

@@ -1,6 +1,6 @@
 use Rattle.std.proofs.Common.{◌∷◌, [], arith}
 use Rattle.opa_model.specs.declared.things.Attribute.{Attribute}
-use Rattle.opa_parse.specs.Naming.{denials}
+use Rattle.opa_verbs.specs.Phrasing.{denials}
 use Rattle.opa_wording.proofs.TextsLaws.{one_more, one_text, all_attributes}
 use Rattle.opa_wording.proofs.texts.attributes_are_texts.Goals as goal
 

@@ -1,7 +1,7 @@
 use Rattle.std.proofs.Common.{[], ◌∷◌, drop, flat_map, All}
 use Rattle.std.specs.Str.{IsUtf8}
 use Rattle.opa_model.specs.declared.things.Attribute.{Attribute}
-use Rattle.opa_parse.specs.Naming.{denials}
+use Rattle.opa_verbs.specs.Phrasing.{denials}
 use Rattle.opa_wording.proofs.texts.attributes_are_texts.Given as goal
 
 abbrev pub invariant-loop-place : goal.invariant-loop-place

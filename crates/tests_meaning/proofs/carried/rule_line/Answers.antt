@@ -3,8 +3,8 @@ use Rattle.opa_mean.specs.Derivations.{MayDerive}
 use Rattle.opa_mean.specs.Given.{base_of, facts_of}
 use Rattle.opa_mean.specs.Mean.{look_of}
 use Rattle.opa_tree.specs.declared.rulebase.Rulebase.{Rulebase}
-use Rattle.opa_worked.proofs.Deriving.{may_derive}
-use Rattle.opa_worked.proofs.carried.rule_line.Goals as goal
+use Rattle.tests_meaning.proofs.Deriving.{may_derive}
+use Rattle.tests_meaning.proofs.carried.rule_line.Goals as goal
 
 pub evaluate-requires : goal.evaluate-requires
 evaluate-requires g c =

@@ -1,4 +1,0 @@
-mod GroupsOfCalendar
-mod LinesOfCalendar
-mod TablesOfCalendar
-mod Trees

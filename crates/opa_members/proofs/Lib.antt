@@ -1,2 +1,0 @@
-mod Sieves
-mod LawsHold

@@ -1,4 +1,0 @@
-pub mod Checking
-pub mod Opening
-pub mod Reading
-pub mod Taking
