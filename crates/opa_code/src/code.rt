@@ -1,8 +1,11 @@
 // Compiled rules.
 ghost use Rattle.std.specs.Prelude.{◌≡◌, map, find};
+ghost use Rattle.std.specs.Coded.{coded_option};
 ghost use Rattle.std.specs.Option.{option_copied};
+ghost use Rattle.std.proofs.Props.{props};
 ghost use Rattle.opa_case.specs.Shapes.{shape_of};
 ghost use Rattle.opa_tree.specs.Places.{ArePlaces};
+ghost use Rattle.opa_tree.specs.contracts.rules.Rule as each;
 ghost use Rattle.opa_code.specs.Coding.{coded, is_for, AreCodesPlaced};
 
 use crate::rule_code::RuleCode;
@@ -17,7 +20,7 @@ pub struct Code {
     rules: List<RuleCode>,
     places: Places,
     pub ghost compiled: { rules ≡ map (coded (shape_of base.is.model)) base.is.rules },
-    ghost placed: { ArePlaces base.is.rules places },
+    ghost placed: { ArePlaces base.is.rules places } by { Prim.hlevel (props, coded_option, each.the_row.coded) },
 }
 
 impl Code {
