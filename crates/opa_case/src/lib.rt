@@ -32,4 +32,3 @@ pub use laws::{
 };
 pub use opa_cells::InstanceId;
 pub use question::Question;
-

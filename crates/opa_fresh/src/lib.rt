@@ -13,4 +13,3 @@ pub use instances::live_instances;
 pub use laws::{each_once, exactly_the_live};
 pub use lines::Lines;
 pub use told::Fresh;
-

@@ -29,4 +29,3 @@ pub use reading::{Arguments, Parts, Reading};
 pub use sorts::{Frame, Sort};
 pub use table::{Step, relation_at};
 pub use whole::{line_of, operand_of};
-

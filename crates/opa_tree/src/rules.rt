@@ -91,11 +91,7 @@ fn rule_among(rules: &[Rule], attr: AttrId) -> Option<&Rule>
 }
 
 /// By the places of rules, if they tell of the attribute.
-fn rule_by<'a>(
-    rules: &'a [Rule],
-    places: &[Option<usize>],
-    attr: AttrId,
-) -> Option<&'a Rule>
+fn rule_by<'a>(rules: &'a [Rule], places: &[Option<usize>], attr: AttrId) -> Option<&'a Rule>
     requires placed { ArePlaces rules.now places.now }
     ensures { option_copied result ≡ rule_of rules.now attr }
 {
