@@ -1,5 +1,5 @@
 -- What the phrases of a model, and those of inferred relations, stand for.
-use Rattle.std.specs.Prelude.{ℕ, ◌+◌, min, List, [], ◌∷◌, ◌++◌, Bool, true, false, map, flat_map, Option, None, Some, refl}
+use Rattle.std.specs.Prelude.{ℕ, ◌+◌, min, List, [], ◌∷◌, ◌++◌, Bool, true, false, map, refl}
 use Rattle.opa_model.specs.declared.ids.AttrId.{AttrId}
 use Rattle.opa_model.specs.declared.ids.RelId.{RelId}
 use Rattle.opa_model.specs.declared.lists.Lists.{Lists}

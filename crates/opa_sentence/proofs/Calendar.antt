@@ -1,5 +1,5 @@
 -- A date that a text names is a day of the calendar.
-use Rattle.std.proofs.Common.{◌≡◌, ◌<◌, ℕ, List, true, Option, Some, Result, Ok, Err, refl, subst}
+use Rattle.std.proofs.Common.{◌≡◌, ◌<◌, ℕ, List, true, Some, Result, Ok, Err, refl, subst}
 use Rattle.std.proofs.lemmas.Bool.{lt-ltb}
 use Rattle.opa_date.specs.declared.TheConstants.{DAYS}
 use Rattle.opa_date.specs.declared.fault.DayFault.{DayFault}

@@ -1,16 +1,13 @@
 -- The rule of a table is one that the grammar gives, unless the table has no case.
-use Rattle.std.proofs.Common.{◌≡◌, ◌≤◌, ◌+◌, ◌⊎◌, inl, inr, ℕ, zero, suc, List, [], ◌∷◌, ◌++◌, length, map, All, Bool, true, false, Option, Some, None, slice_get, refl, sym, ap, subst, ◌∙◌, arith}
+use Rattle.std.proofs.Common.{◌≡◌, ◌+◌, ◌⊎◌, inl, inr, ℕ, zero, suc, List, [], ◌∷◌, ◌++◌, length, map, All, Bool, true, false, Option, Some, None, slice_get, refl, sym, ap, subst, ◌∙◌, arith}
 use Rattle.std.proofs.lemmas.List.Elements.{All-nil, All-cons, All-head, All-tail}
 use Rattle.opa_value.specs.declared.value.Value.TheVariants as value
 use Rattle.opa_model.specs.declared.ids.AttrId.{AttrId}
 use Rattle.opa_model.specs.declared.lists.Lists.{Lists}
 use Rattle.opa_model.specs.Models.{HasAttribute}
-use Rattle.opa_layout.specs.declared.block.Block.{Block}
 use Rattle.opa_tree.specs.declared.kinds.OpKind.{OpKind}
 use Rattle.opa_tree.specs.declared.expr.Expr.{Expr}
 use Rattle.opa_tree.specs.declared.expr.Expr.TheVariants as expr
-use Rattle.opa_tree.specs.declared.expr.Row.{Row}
-use Rattle.opa_tree.specs.declared.rules.Inferred.{Inferred}
 use Rattle.opa_tree.specs.declared.rules.Rule.{Rule}
 use Rattle.opa_tree.specs.Trees.{op_arity}
 use Rattle.opa_sentence.specs.declared.class.Class.{Class}
@@ -26,7 +23,6 @@ use Rattle.opa_parse.specs.declared.block.Statement.{Statement}
 use Rattle.opa_parse.specs.declared.group.Cases.{Cases}
 use Rattle.opa_parse.specs.declared.group.Said.{Said}
 use Rattle.opa_parse.specs.Naming.{names_in}
-use Rattle.opa_parse.specs.Rules.{rules_in}
 use Rattle.opa_parse.specs.Sayings.{with_case, table_of, table_measure, tabled}
 use Rattle.opa_parse.proofs.Handing as hand
 use Rattle.opa_parse.proofs.Handing.{Of as MadeOf, all_of, each_append, rules_each}
@@ -48,11 +44,11 @@ use Rattle.opa_table.specs.Tables.{Each, IsLast, AreCases, IsBelow, IsFound}
 use Rattle.opa_table.specs.Columns as col
 use Rattle.opa_table.specs.Columns.{compared, comparisons, condition, or_unnamed, value_at, no_cases_below, with_cases, column_by, column, column_block, blocks_from, blocks_of}
 use Rattle.opa_table.specs.Reading.{AreTableBlocks}
-use Rattle.opa_table.specs.Whole.{AreTabled, AreAllRules}
+use Rattle.opa_table.specs.Whole.{AreTabled}
 use Rattle.opa_table.proofs.WholeLaws.{declared_hold}
 use Rattle.opa_wording.specs.Given.{IsTree, IsRule}
-use Rattle.opa_wording.specs.Grammatical.{IsGrammatical, is_round}
-use Rattle.opa_wording.specs.ReadBack.{IsBare, AreMembersGiven, AreTextual, AllRulesAreGiven}
+use Rattle.opa_wording.specs.Grammatical.{is_round}
+use Rattle.opa_wording.specs.ReadBack.{IsBare, AllRulesAreGiven}
 use Rattle.opa_wording.proofs.LinesGiven.{Of, of_if, Given, GivenEach, AreNamed, literal_given, all_given, lines_give, between_given, class_such}
 use Rattle.opa_wording.proofs.RulesGiven.{named, spelling_given, blocks_given, SomeRows, case_given, fewer_rows, tabled_given}
 use Rattle.opa_wording.proofs.TokensGiven.{AreSuch, IsSuch, cut_such}

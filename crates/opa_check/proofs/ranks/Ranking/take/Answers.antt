@@ -4,7 +4,6 @@ use Rattle.std.proofs.lemmas.Option.{slice_get-get_or}
 use Rattle.opa_check.specs.Found.{found_by, found_count}
 use Rattle.opa_check.proofs.TakeLaws.{take_one, some_left, low_found}
 use Rattle.opa_tree.proofs.Setting.{none_by}
-use Rattle.opa_check.proofs.UseLaws.{none_by}
 use Rattle.opa_check.proofs.ranks.Ranking.take.Goals as goal
 
 pub found_by-requires-clause-few : goal.found_by-requires-clause-few
