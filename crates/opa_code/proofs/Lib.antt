@@ -6,7 +6,9 @@ pub mod Halving
 pub mod Inverting
 pub mod Operating
 pub mod Placed
+pub mod RunnableLaws
 pub mod Sizing
 pub mod Standing
 pub mod Stepping
 pub mod Tallying
+pub mod TreeLines

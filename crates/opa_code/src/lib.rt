@@ -18,8 +18,10 @@ mod rules;
 mod run;
 mod sums;
 mod tally;
+mod tree_lines;
 mod windows;
 
 pub use code::Code;
 pub use laws::code_is_short;
 pub use rules::compile;
+pub use tree_lines::tree_line;
