@@ -25,7 +25,8 @@ pub fn dismiss(
     n: usize,
 ) -> Result<Vec<u8>, NoMemory>
     requires { n < length listeners.old.items }
-    ensures words { IfOk result (λ w. option_map (λ l. last_words (state l)) (slice_get listeners.old.items n) ≡ Some w.items) }
+    ensures words { IfOk result (λ w.
+        option_map (λ l. last_words (state l)) (slice_get listeners.old.items n) ≡ Some w.items) }
     ensures others { OnOk result (listeners.new.items ≡ remove listeners.old.items n) }
     ensures stay { OnErr result (listeners.new.items ≡ listeners.old.items) }
 {

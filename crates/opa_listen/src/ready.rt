@@ -74,7 +74,8 @@ pub fn copies(
     listeners: &Vec<Box<dyn Listener>>,
     changes: &[Change],
 ) -> Result<Vec<Vec<Change>>, NoMemory>
-    ensures { IfOk result (λ v. map (λ w. w.items) v.items ≡ each_watched changes.now (map (λ l. state l) listeners.now.items)) }
+    ensures { IfOk result (λ v.
+        map (λ w. w.items) v.items ≡ each_watched changes.now (map (λ l. state l) listeners.now.items)) }
 {
     let mut all = Vec::new(alloc);
     for listener in listeners {

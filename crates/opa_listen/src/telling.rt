@@ -27,7 +27,8 @@ fn tell_one(listener: &mut Box<dyn Listener>, changes: Vec<Change>)
 /// Tells each listener its own list of changes, for which it has room. It takes no memory.
 pub fn tell(listeners: &mut Vec<Box<dyn Listener>>, changes: Vec<Vec<Change>>)
     requires { AllZip CanKeep (map (λ v. v.items) changes.items) (map (λ l. state l) listeners.old.items) }
-    ensures { EachKeeps (map (λ v. v.items) changes.items) (map (λ l. state l) listeners.old.items) (map (λ l. state l) listeners.new.items) }
+    ensures { EachKeeps (map (λ v. v.items) changes.items) (map (λ l. state l) listeners.old.items)
+        (map (λ l. state l) listeners.new.items) }
 {
     let mut place = 0;
     for list in changes {
