@@ -1,3 +1,4 @@
 pub mod Dated
 pub mod Keeping
 pub mod Readiness
+pub mod ToldLaws
