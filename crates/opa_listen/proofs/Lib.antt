@@ -1,0 +1,4 @@
+pub mod Dated
+pub mod Keeping
+pub mod Readiness
+pub mod ToldLaws

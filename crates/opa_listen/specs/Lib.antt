@@ -1,0 +1,4 @@
+pub mod Days
+pub mod Words
+pub mod Listening
+pub mod Telling
