@@ -1,6 +1,7 @@
 // Values over time that a reader can look up.
 use opa_line::{DAYS, Line, LineFault};
 use std::alloc::Global;
+use std::test::Fail;
 
 fn steady(alloc: Global, pairs: &[(u32, bool)]) -> Result<Line<bool>, LineFault> {
     let Ok(given) = Vec::from_slice(alloc, pairs) else {
@@ -9,62 +10,62 @@ fn steady(alloc: Global, pairs: &[(u32, bool)]) -> Result<Line<bool>, LineFault>
     Line::from_pairs(alloc, given)
 }
 
-#[test]
-fn faults(rt: HostRuntime) {
-    let empty: [(u32, bool); 0] = [];
-    assert!(rt; matches!(steady(rt.alloc(), &empty), Err(LineFault::Empty)));
-    assert!(rt; matches!(steady(rt.alloc(), &[(1, true)]), Err(LineFault::FirstDay)));
-    assert!(rt;
-        matches!(
-            steady(rt.alloc(), &[(0, true), (5, false), (5, true)]),
-            Err(LineFault::Order)
-        )
-    );
-    assert!(rt;
-        matches!(
-            steady(rt.alloc(), &[(0, true), (DAYS, false)]),
-            Err(LineFault::Range)
-        )
-    );
-    assert!(rt; steady(rt.alloc(), &[(0, false), (DAYS - 1, true)]).is_ok());
+/// Pairs, and how many the line of them has, or the fault.
+const PAIRS: [(&[(u32, bool)], Result<usize, LineFault>); 6] = [
+    (&[], Err(LineFault::Empty)),
+    (&[(1, true)], Err(LineFault::FirstDay)),
+    (&[(0, true), (5, false), (5, true)], Err(LineFault::Order)),
+    (&[(0, true), (DAYS, false)], Err(LineFault::Range)),
+    (&[(0, false), (DAYS - 1, true)], Ok(2)),
+    (&[(0, false), (9, false), (154_863, true)], Ok(2)),
+];
+
+/// The first pairs of which the line is another than their row says.
+fn first_other(
+    alloc: Global,
+    rows: &[(&[(u32, bool)], Result<usize, LineFault>)],
+) -> Option<usize> {
+    rows.iter().position(|(pairs, want)| {
+        let found = steady(alloc, pairs).map(|line| line.segments().len());
+        found != *want
+    })
+}
+
+/// Values of a line at days.
+const VALUES: [(u32, bool); 6] = [
+    (0, false),
+    (154_862, false),
+    (154_863, true),
+    (155_044, true),
+    (155_045, false),
+    (DAYS - 1, false),
+];
+
+fn are_at(line: &Line<bool>, rows: &[(u32, bool)]) -> bool {
+    rows.iter()
+        .all(|(day, value)| *day < DAYS && line.at(*day) == value)
 }
 
 #[test]
-fn values(rt: HostRuntime) {
+fn pairs(rt: HostRuntime) -> Result<(), Fail> {
+    assert_eq!(rt; first_other(rt.alloc(), &PAIRS), None);
     // From 2024-01-01 to 2024-07-01.
-    let employed = steady(
-        rt.alloc(),
-        &[(0, false), (9, false), (154_863, true), (155_045, false)],
-    )
-    .expect(&rt, "a line");
-    assert!(rt; employed.segments().len() == 3);
-    for (day, value) in [
-        (0, false),
-        (154_862, false),
-        (154_863, true),
-        (155_044, true),
-        (155_045, false),
-        (DAYS - 1, false),
-    ] {
-        assert!(rt; *employed.at(day) == value);
-    }
+    let employed = steady(rt.alloc(), &[(0, false), (154_863, true), (155_045, false)])?;
+    assert!(rt; are_at(&employed, &VALUES));
+    Ok(())
 }
 
 #[test]
-fn answers(rt: HostRuntime) {
-    let left = steady(rt.alloc(), &[(0, false), (10, true), (20, false)]).expect(&rt, "a line");
-    let right = steady(rt.alloc(), &[(0, true), (15, false)]).expect(&rt, "a line");
-    let both = left
-        .zip(rt.alloc(), &right, |a: &bool, b: &bool| Ok(*a && *b))
-        .expect(&rt, "a line");
+fn answers(rt: HostRuntime) -> Result<(), Fail> {
+    let alloc = rt.alloc();
+    let left = steady(alloc, &[(0, false), (10, true), (20, false)])?;
+    let right = steady(alloc, &[(0, true), (15, false)])?;
+    let both = left.zip(alloc, &right, |a: &bool, b: &bool| Ok(*a && *b))?;
     assert!(rt; both.segments() == [(0, false), (10, true), (15, false)].as_slice());
-    let turned = right
-        .map(rt.alloc(), |a: &bool| Ok(!*a))
-        .expect(&rt, "a line");
+    let turned = right.map(alloc, |a: &bool| Ok(!*a))?;
     assert!(rt; turned.segments() == [(0, false), (15, true)].as_slice());
     assert!(rt; left.first_difference(&right) == Some(0));
     assert!(rt; both.first_difference(&left) == Some(15));
     assert!(rt; both.first_difference(&both).is_none());
-    let always = Line::constant(rt.alloc(), true).expect(&rt, "a line");
-    assert!(rt; always.segments() == [(0, true)].as_slice());
+    Ok(())
 }
