@@ -91,6 +91,10 @@ pub ready_can : (changes : List Change) (vs : List ListenerView) → All (IsRead
 ready_can changes [] h = tt
 ready_can changes (v ∷ vs) h = (ready_can_keep changes v (All-head (IsReady changes) v vs h), ready_can changes vs (All-rest (IsReady changes) v vs (v ∷ vs) refl h))
 
+-- what `tell` asks, of lists that `copies` answered for listeners that are ready
+pub ready_can_tell : (changes : List Change) (css : List (List Change)) (vs : List ListenerView) → All (IsReady changes) vs → css ≡ each_watched changes vs → AllZip CanKeep css vs
+ready_can_tell changes css vs h e = subst (λ xs. AllZip CanKeep xs vs) (sym e) (ready_can changes vs h)
+
 -- where each keeps those that it watches, each is told
 pub keeping_is_told : (changes : List Change) (vs ws : List ListenerView) → EachKeeps (each_watched changes vs) vs ws → AreTold changes vs ws
 keeping_is_told changes [] [] h = tt
