@@ -1,0 +1,10 @@
+pub mod LeftOpen
+pub mod Gaps
+pub mod Adding
+pub mod Indexing
+pub mod OpeningLaws
+pub mod OperandLaws
+pub mod TreesOpen
+pub mod Pursuing
+pub mod GoalLaws
+pub mod Settling

@@ -1,0 +1,24 @@
+use Rattle.std.proofs.Common.{List, [], ◌∷◌, ◌++◌, ◌∙◌, ◌<◌, None, ap, subst, arith, reverse, length}
+use Rattle.opa_mean.specs.Next.{first_or}
+use Rattle.opa_need.specs.Finding.{added}
+use Rattle.opa_need.specs.Steps.{IsOnTheWay, point_needs}
+use Rattle.opa_need.specs.declared.steps.Step.{Step}
+use Rattle.opa_need.specs.declared.steps.Step.TheVariants as step
+use Rattle.opa_need.proofs.Pursuing.{begins, first_found, reversed}
+use Rattle.opa_need.proofs.pursuit.questions.Goals as goal
+
+pub loop-init : goal.loop-init
+loop-init g c =
+    let r = g.H.Held.rules c.args.held.now in let held = g.H.Held.held c.args.held.now in
+    begins r held c.args.attr c.args.inst.now c.in_ok-from.from c.args.day c.new-found.result c.new-runs.result c.push.new.self c.in_ok-from.ensures c.requires.live c.requires.day c.new-found.ensures c.new-runs.ensures
+    (c.in_ok-push.ensures.ok ∙ ap (λ (xs : List Step). xs ++ step.Point c.args.attr c.in_ok-from.from c.args.day ∷ []) c.new-steps.ensures)
+
+pub returns-then-len-gt0-clause-front : goal.returns-then-len-gt0-clause-front
+returns-then-len-gt0-clause-front g c =
+    let r = g.H.Held.rules c.args.held.now in let held = g.H.Held.held c.args.held.now in
+    ap (λ qs. first_or qs None) c.into_list.ensures ∙ first_found r held (added [] (point_needs r held c.args.attr c.args.inst.now c.args.day)) c.loop.found c.loop.runs c.loop.steps (let some : 0 < length c.loop.found = omega (arith, c.if-len-gt0.true, c.len.ensures) in some) c.loop.invariant
+
+pub loop-preserved : goal.loop-preserved
+loop-preserved g c =
+    let r = g.H.Held.rules c.args.held.now in let held = g.H.Held.held c.args.held.now in
+    c.in_ok-more-in-Some.ensures (added [] (point_needs r held c.args.attr c.args.inst.now c.args.day)) (subst (λ (xs : List Step). IsOnTheWay r held (added [] (point_needs r held c.args.attr c.args.inst.now c.args.day)) c.loop.found c.loop.runs xs) (ap reverse c.in-Some.ensures ∙ reversed c.pop.new.self c.in-Some.step) c.loop.invariant)

@@ -1,0 +1,11 @@
+use Rattle.std.proofs.Common.{refl}
+use Rattle.opa_need.specs.Steps.{IsReady}
+use Rattle.opa_need.specs.declared.steps.Step.TheVariants as step
+use Rattle.opa_need.specs.Steps as spec
+use Rattle.opa_need.proofs.Pursuing.{put_steps}
+use Rattle.opa_need.proofs.pursuit.step_part.Goals as goal
+
+pub returns : goal.returns
+returns g c =
+    let r = g.H.Held.rules c.args.held.now in let held = g.H.Held.held c.args.held.now in
+    put_steps r held c.args.found c.args.runs (step.Part c.args.part c.args.enclosing.now c.args.day) (spec.part_needs r held c.args.part.now c.args.enclosing.now c.args.day) c.args.steps.now c.take_part.new.steps refl c.in_ok-take_part.ensures

@@ -1,0 +1,7 @@
+pub mod Completions
+pub mod Dates
+pub mod Finding
+pub mod Goals
+pub mod Indexed
+pub mod Operands
+pub mod Steps

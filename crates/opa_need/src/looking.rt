@@ -1,0 +1,101 @@
+// What is looked at in a held case.
+ghost use Rattle.std.specs.Prelude.{◌≡◌, ◌∷◌, ◌<◌, [], length, IfOk, IfSome, Some, List as Seq};
+ghost use Rattle.std.specs.List.{AllByRecursion};
+ghost use Rattle.std.specs.Option.{option_copied};
+ghost use Rattle.opa_case.specs.Cases.{IsLive, list_of};
+ghost use Rattle.opa_case.specs.Live.{container_of};
+ghost use Rattle.opa_case.specs.Shapes.{shape_of};
+ghost use Rattle.opa_date.specs.declared.TheConstants.{DAYS};
+ghost use Rattle.opa_mean.specs.Places as places;
+ghost use Rattle.opa_need.specs.Steps.{part_value};
+ghost use Rattle.opa_tree.specs.Rules as rules;
+ghost use Rattle.opa_value.specs.Truth as truth;
+
+use opa_case::InstanceId;
+use opa_io::{List, NoMemory, Txt};
+use opa_mean::{Held, place_in, tree_value};
+use opa_model::{AttrId, RelId};
+use opa_tree::{Expr, Rule};
+use opa_value::Value;
+use std::alloc::Global;
+
+pub(crate) fn rule_of<H: Held>(held: &H, attr: AttrId) -> Option<&Rule>
+    ensures { option_copied result ≡ rules.rule_of (H.rules held.now).rules attr }
+{
+    held.base().rules.of(attr)
+}
+
+/// The place of an attribute.
+pub(crate) fn attr_place<'a, H: Held>(
+    held: &'a H,
+    enclosing: &'a List<InstanceId>,
+    attr: AttrId,
+) -> Option<&'a InstanceId>
+    ensures { option_copied result ≡ places.place (container_of (H.held held.now).live) enclosing.now (places.owner_of (shape_of (H.rules held.now).model) attr) }
+{
+    let owner = opa_mean::owner_of(&held.base().model, attr);
+    place_in(held.case(), enclosing.as_slice(), owner)
+}
+
+/// The place of a relation's source.
+pub(crate) fn source_place<'a, H: Held>(
+    held: &'a H,
+    enclosing: &'a List<InstanceId>,
+    rel: RelId,
+) -> Option<&'a InstanceId>
+    ensures { option_copied result ≡ places.place (container_of (H.held held.now).live) enclosing.now ((shape_of (H.rules held.now).model).source rel) }
+{
+    let source = opa_mean::source_of(&held.base().model, rel);
+    place_in(held.case(), enclosing.as_slice(), source)
+}
+
+pub(crate) fn target_of<H: Held>(held: &H, rel: RelId) -> u32
+    ensures { result ≡ (shape_of (H.rules held.now).model).target rel }
+{
+    opa_mean::target_of(&held.base().model, rel)
+}
+
+pub(crate) fn names_of<'a, H: Held>(
+    held: &'a H,
+    rel: RelId,
+    inst: &InstanceId,
+) -> Option<&'a List<Txt>>
+    ensures { option_copied result ≡ list_of (H.held held.now) rel inst.now }
+{
+    held.case().list_of(rel, inst)
+}
+
+/// The value of a part of a rule.
+pub(crate) fn value_at<H: Held>(
+    alloc: Global,
+    held: &H,
+    tree: &Expr,
+    enclosing: &List<InstanceId>,
+    day: u32,
+) -> Result<Value, NoMemory>
+    requires day { day < DAYS }
+    requires live { AllByRecursion (IsLive (H.held held.now)) enclosing.now }
+    ensures { IfOk result (λ v. v ≡ part_value (H.rules held.now) (H.held held.now) tree.now enclosing.now day) }
+{
+    tree_value(alloc, held, tree, enclosing, day)
+}
+
+/// The same instances.
+pub(crate) fn again(
+    alloc: Global,
+    enclosing: &List<InstanceId>,
+) -> Result<List<InstanceId>, NoMemory>
+    ensures { IfOk result (λ all. all ≡ enclosing.now) }
+{
+    let mut all = List::new(alloc);
+    for inst in enclosing.as_slice() {
+        all.push(inst.copy(alloc)?)?;
+    }
+    Ok(all)
+}
+
+pub(crate) fn is_unknown(value: &Value) -> bool
+    ensures { result ≡ truth.is_unknown value.now }
+{
+    matches!(value, Value::Unknown)
+}
