@@ -1,5 +1,5 @@
 // Listeners get ready for changes.
-ghost use Rattle.std.specs.Prelude.{◌≡◌, map, length, IfOk, OnOk};
+ghost use Rattle.std.specs.Prelude.{◌≡◌, ◌<◌, ◌^◌, map, length, IfOk, OnOk};
 ghost use Rattle.std.specs.List.{AllZip, All};
 ghost use Rattle.opa_listen.specs.Listening.{is_watched, watched_of};
 ghost use Rattle.opa_listen.specs.Telling.{HasRoomOf, IsReady, each_watched};
@@ -59,6 +59,8 @@ fn ready_one(listener: &mut Box<dyn Listener>, changes: &[Change]) -> Result<(),
 /// Asks each listener in turn for room for those of the changes that it watches. Whatever is answered, nothing else
 /// than their room differs.
 pub fn ready_all(listeners: &mut Vec<Box<dyn Listener>>, changes: &[Change]) -> Result<(), NoMemory>
+    // It holds of each vector, and tells the checker that no listener is made here.
+    requires { length listeners.old.items < 2 ^ 64 }
     ensures room { OnOk result (All (IsReady changes.now) (map (λ l. state l) listeners.new.items)) }
     ensures same { AllZip HasRoomOf (map (λ l. state l) listeners.old.items) (map (λ l. state l) listeners.new.items) }
 {
