@@ -29,7 +29,7 @@ use Rattle.opa_mean.proofs.Fitting.{live_in, in_live}
 use Rattle.opa_mean.proofs.LawsOver.{facts}
 use Rattle.opa_mean.specs.Mean.{IsLive as IsLiveIn}
 use Rattle.opa_mean.specs.PartNeeds as part
-use Rattle.opa_need.specs.Steps.{StandFor, tree_needs, part_needs, point_needs, member_needs, span_needs, rows_needs, days_needs}
+use Rattle.opa_need.specs.Steps.{StandFor, tree_needs, part_needs, point_needs, member_needs, span_needs, rows_needs, days_needs, quantifier_needs}
 use Rattle.opa_need.specs.declared.steps.Step.{Step}
 use Rattle.opa_mean.proofs.NeedsLaws as law
 use Rattle.opa_need.proofs.OpeningLaws.{none_stand}
@@ -107,22 +107,28 @@ module _ (r : Rulebase) (c : CaseView) where
     opens_table o rows rows' x x' is same last h = along o (rows_needs r c rows' x' enclosing d) (tree_needs r c e enclosing d) (ap (λ rs. rows_needs r c rs x' enclosing d) same ∙ ap (λ y. rows_needs r c rows y enclosing d) last ∙ sym (ap (λ x. tree_needs r c x enclosing d) is
         ∙ law.needs-Table (shape_of r.model) (part.fresh_look (base_of r) (facts_of c)) (asked (shape_of r.model) (facts_of c).members) (part.point_needs (base_of r) (facts_of c)) rows x enclosing d)) h
 
-    over_is : (q : Quant) (rel : RelId) (es : List Expr) → e ≡ V.Over q rel es → (o : Option InstanceId) → o ≡ place (container_of c.live) enclosing ((shape_of r.model).source rel)
-        → at_place_uses o (λ i. over_needs (asked (shape_of r.model) (list_of c) rel i) (λ n. member_needs r c q es (named ((shape_of r.model).target rel) n ∷ enclosing) d) (list_of c rel i)) ≡ tree_needs r c e enclosing d
-    over_is q rel es is o at = ap (λ o. at_place_uses o (λ i. over_needs (asked (shape_of r.model) (list_of c) rel i) (λ n. member_needs r c q es (named ((shape_of r.model).target rel) n ∷ enclosing) d) (list_of c rel i))) at
-        ∙ sym (ap (λ x. tree_needs r c x enclosing d) is ∙ law.needs-Over (shape_of r.model) (part.fresh_look (base_of r) (facts_of c)) (asked (shape_of r.model) (facts_of c).members) (part.point_needs (base_of r) (facts_of c)) q rel es enclosing d)
+    pub opens_over : {E : Type 0} (o : Result (List Step) E) (q : Quant) (rel : RelId) (es es' : List Expr) → e ≡ V.Over q rel es → es' ≡ es → IfOk o (StandFor r c (quantifier_needs r c q rel es' enclosing d)) → IfOk o (StandFor r c (tree_needs r c e enclosing d))
+    opens_over o q rel es es' is same h = along o (quantifier_needs r c q rel es' enclosing d) (tree_needs r c e enclosing d) (ap (λ xs. quantifier_needs r c q rel xs enclosing d) same ∙ sym (ap (λ x. tree_needs r c x enclosing d) is
+        ∙ law.needs-Over (shape_of r.model) (part.fresh_look (base_of r) (facts_of c)) (asked (shape_of r.model) (facts_of c).members) (part.point_needs (base_of r) (facts_of c)) q rel es enclosing d)) h
 
-    pub opens_no_over : (q : Quant) (rel : RelId) (es : List Expr) (steps : List Step) → e ≡ V.Over q rel es → None ≡ place (container_of c.live) enclosing ((shape_of r.model).source rel) → steps ≡ [] → StandFor r c (tree_needs r c e enclosing d) steps
-    opens_no_over q rel es steps is at f = none_as steps f (over_is q rel es is None at)
+  module _ (enclosing : List InstanceId) (d : ℕ) where
+    abbrev Members : Quant → RelId → List Expr → InstanceId → Option (List (List ℕ)) → List Use
+    Members q rel es i m = over_needs (asked (shape_of r.model) (list_of c) rel i) (λ n. member_needs r c q es (named ((shape_of r.model).target rel) n ∷ enclosing) d) m
 
-    pub opens_unlisted : {E : Type 0} (o : Result (List Step) E) (q : Quant) (rel : RelId) (es : List Expr) (i : InstanceId) → e ≡ V.Over q rel es → Some i ≡ place (container_of c.live) enclosing ((shape_of r.model).source rel) → None ≡ list_of c rel i
-        → IfOk o (StandFor r c (asked (shape_of r.model) (list_of c) rel i ∷ [])) → IfOk o (StandFor r c (tree_needs r c e enclosing d))
-    opens_unlisted o q rel es i is at f h = along o (asked (shape_of r.model) (list_of c) rel i ∷ []) (tree_needs r c e enclosing d)
-        (ap (λ m. over_needs (asked (shape_of r.model) (list_of c) rel i) (λ n. member_needs r c q es (named ((shape_of r.model).target rel) n ∷ enclosing) d) m) f ∙ over_is q rel es is (Some i) at) h
+    over_is : (q : Quant) (rel : RelId) (es : List Expr) (o : Option InstanceId) → o ≡ place (container_of c.live) enclosing ((shape_of r.model).source rel)
+        → at_place_uses o (λ i. Members q rel es i (list_of c rel i)) ≡ quantifier_needs r c q rel es enclosing d
+    over_is q rel es o at = ap (λ o. at_place_uses o (λ i. Members q rel es i (list_of c rel i))) at
 
-    pub opens_listed : {E : Type 0} (o : Result (List Step) E) (q : Quant) (rel : RelId) (es es' : List Expr) (i : InstanceId) (names names' : List (List ℕ)) (t : ℕ) → e ≡ V.Over q rel es → Some i ≡ place (container_of c.live) enclosing ((shape_of r.model).source rel) → Some names ≡ list_of c rel i
-        → names' ≡ names → es' ≡ es → t ≡ (shape_of r.model).target rel
-        → IfOk o (StandFor r c (flat_map (λ n. member_needs r c q es' (named t n ∷ enclosing) d) names')) → IfOk o (StandFor r c (tree_needs r c e enclosing d))
-    opens_listed o q rel es es' i names names' t is at f g same to h = along o (flat_map (λ n. member_needs r c q es' (named t n ∷ enclosing) d) names') (tree_needs r c e enclosing d)
-        (ap (λ ns. flat_map (λ n. member_needs r c q es' (named t n ∷ enclosing) d) ns) g ∙ ap (λ xs. flat_map (λ n. member_needs r c q xs (named t n ∷ enclosing) d) names) same ∙ ap (λ k. flat_map (λ n. member_needs r c q es (named k n ∷ enclosing) d) names) to
-        ∙ ap (λ m. over_needs (asked (shape_of r.model) (list_of c) rel i) (λ n. member_needs r c q es (named ((shape_of r.model).target rel) n ∷ enclosing) d) m) f ∙ over_is q rel es is (Some i) at) h
+    pub over_nowhere : (q : Quant) (rel : RelId) (es : List Expr) (steps : List Step) → None ≡ place (container_of c.live) enclosing ((shape_of r.model).source rel) → steps ≡ [] → StandFor r c (quantifier_needs r c q rel es enclosing d) steps
+    over_nowhere q rel es steps at f = subst (λ us. StandFor r c us steps) (over_is q rel es None at) (none_stand r c steps f)
+
+    pub over_unlisted : {E : Type 0} (o : Result (List Step) E) (q : Quant) (rel : RelId) (es : List Expr) (i : InstanceId) → Some i ≡ place (container_of c.live) enclosing ((shape_of r.model).source rel) → None ≡ list_of c rel i
+        → IfOk o (StandFor r c (asked (shape_of r.model) (list_of c) rel i ∷ [])) → IfOk o (StandFor r c (quantifier_needs r c q rel es enclosing d))
+    over_unlisted o q rel es i at f h = subst (λ us. IfOk o (StandFor r c us)) (ap (λ m. Members q rel es i m) f ∙ over_is q rel es (Some i) at) h
+
+    pub over_listed : {E : Type 0} (o : Result (List Step) E) (q : Quant) (rel : RelId) (es : List Expr) (i : InstanceId) (names names' : List (List ℕ)) (t : ℕ) → Some i ≡ place (container_of c.live) enclosing ((shape_of r.model).source rel) → Some names ≡ list_of c rel i
+        → names' ≡ names → t ≡ (shape_of r.model).target rel
+        → IfOk o (StandFor r c (flat_map (λ n. member_needs r c q es (named t n ∷ enclosing) d) names')) → IfOk o (StandFor r c (quantifier_needs r c q rel es enclosing d))
+    over_listed o q rel es i names names' t at f g to h = subst (λ us. IfOk o (StandFor r c us))
+        (ap (λ ns. flat_map (λ n. member_needs r c q es (named t n ∷ enclosing) d) ns) g ∙ ap (λ k. flat_map (λ n. member_needs r c q es (named k n ∷ enclosing) d) names) to
+        ∙ ap (λ m. Members q rel es i m) f ∙ over_is q rel es (Some i) at) h

@@ -5,9 +5,11 @@ use Rattle.std.specs.FinMap.{FinMap, get}
 use Rattle.opa_date.specs.declared.TheConstants.{DAYS}
 use Rattle.opa_value.specs.declared.value.Value.{Value}
 use Rattle.opa_model.specs.declared.ids.AttrId.{AttrId}
+use Rattle.opa_model.specs.declared.ids.RelId.{RelId}
+use Rattle.opa_cells.specs.Instances.{named}
 use Rattle.opa_cells.specs.Keys.{cell_cmp}
 use Rattle.opa_cells.specs.declared.instance.InstanceId.{InstanceId}
-use Rattle.opa_case.specs.Cases.{CaseView, IsLive}
+use Rattle.opa_case.specs.Cases.{CaseView, IsLive, list_of}
 use Rattle.opa_case.specs.Shapes.{shape_of}
 use Rattle.opa_case.specs.declared.question.Question.{Question}
 use Rattle.opa_tree.specs.declared.expr.Expr.{Expr}
@@ -21,7 +23,7 @@ use Rattle.opa_line.specs.Lines.{at}
 use Rattle.opa_value.specs.declared.value.Value.TheVariants.{Unknown}
 use Rattle.opa_mean.specs.Meaning.{value}
 use Rattle.opa_mean.specs.Places.{owner_of, place}
-use Rattle.opa_mean.specs.Needs.{asked}
+use Rattle.opa_mean.specs.Needs.{asked, over_needs}
 use Rattle.opa_mean.specs.Uses.{Use, Uses, Listed, at_place_uses, last_days_uses}
 use Rattle.opa_need.specs.Finding.{AreFound, added}
 use Rattle.opa_mean.specs.PartNeeds as part
@@ -46,9 +48,13 @@ module _ (r : Rulebase) (c : CaseView) where
   abbrev pub days_needs : Expr → List InstanceId → ℕ → ℕ → List Use
   days_needs e enclosing first end = flat_map (part_needs e enclosing) (days first (end - first))
 
-  -- the needs of a member of a quantifier, of a function over time, and of a table
+  -- the needs of a member of a quantifier, of the quantifier, of a function over time, and of a table
   abbrev pub member_needs : Quant → List Expr → Uses
   member_needs = part.member_needs (shape_of r.model) (part.fresh_look (base_of r) (facts_of c)) (asked (shape_of r.model) (facts_of c).members) (part.point_needs (base_of r) (facts_of c))
+
+  abbrev pub quantifier_needs : Quant → RelId → List Expr → Uses
+  quantifier_needs q rel es enclosing d = at_place_uses (place (container_of c.live) enclosing ((shape_of r.model).source rel)) (λ i.
+      over_needs (asked (shape_of r.model) (list_of c) rel i) (λ n. member_needs q es (named ((shape_of r.model).target rel) n ∷ enclosing) d) (list_of c rel i))
 
   abbrev pub span_needs : List Expr → Uses
   span_needs = part.span_needs (shape_of r.model) (part.fresh_look (base_of r) (facts_of c)) (asked (shape_of r.model) (facts_of c).members) (part.point_needs (base_of r) (facts_of c))
@@ -93,9 +99,6 @@ module _ (r : Rulebase) (c : CaseView) where
   abbrev pub AreSound : List Question → List Step → Type 0
   AreSound found [] = Unit {0}
   AreSound found (s ∷ steps) = AreFound found (claim s) × AreSound (added found (step_needs s)) steps
-
-  abbrev AreLive : List InstanceId → Type 0
-  AreLive enclosing = AllByRecursion (IsLive c) enclosing
 
   -- a step's instances are live, and its days are days of the calendar
   abbrev pub IsReady : Step → Type 0

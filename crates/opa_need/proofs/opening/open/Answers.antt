@@ -6,11 +6,6 @@ open_point-requires-clause-live g c =
     let r = g.H.Held.rules c.args.held.now in let held = g.H.Held.held c.args.held.now in let es = c.args.enclosing.now in let d = c.args.day in let e = c.args.tree.now in
     law.placed_live r held c.case-case.ensures.fits es c.requires.live _ c.in-Some.inst.now c.in-Some.ensures
 
-pub open_members-requires-clause-listed : goal.open_members-requires-clause-listed
-open_members-requires-clause-listed g c =
-    let r = g.H.Held.rules c.args.held.now in let held = g.H.Held.held c.args.held.now in let es = c.args.enclosing.now in let d = c.args.day in let e = c.args.tree.now in
-    law.listed_live r held c.case-case.ensures.fits c.in-Over.rel c.in-Some-source_place.inst.now c.in-Some-names_of.names.now _ _ c.in-Some-names_of.ensures c.as_slice-in-Some-names_of.ensures c.target_of-target.ensures
-
 pub returns-in-Const : goal.returns-in-Const
 returns-in-Const g c =
     let r = g.H.Held.rules c.args.held.now in let held = g.H.Held.held c.args.held.now in let es = c.args.enclosing.now in let d = c.args.day in let e = c.args.tree.now in
@@ -56,21 +51,6 @@ returns-in-Certain g c =
     let r = g.H.Held.rules c.args.held.now in let held = g.H.Held.held c.args.held.now in let es = c.args.enclosing.now in let d = c.args.day in let e = c.args.tree.now in
     law.opens_certain r held es d e c.open_whole-in-Certain.result c.in-Certain.part _ c.in-Certain.is c.get-in-Certain.ensures c.open_whole-in-Certain.ensures
 
-pub returns-in-None-source_place : goal.returns-in-None-source_place
-returns-in-None-source_place g c =
-    let r = g.H.Held.rules c.args.held.now in let held = g.H.Held.held c.args.held.now in let es = c.args.enclosing.now in let d = c.args.day in let e = c.args.tree.now in
-    law.opens_no_over r held es d e c.in-Over.quant c.in-Over.rel c.in-Over.parts c.new-in-None-source_place.result c.in-Over.is c.in-None-source_place.ensures c.new-in-None-source_place.ensures
-
-pub returns-in-None-names_of : goal.returns-in-None-names_of
-returns-in-None-names_of g c =
-    let r = g.H.Held.rules c.args.held.now in let held = g.H.Held.held c.args.held.now in let es = c.args.enclosing.now in let d = c.args.day in let e = c.args.tree.now in
-    law.opens_unlisted r held es d e c.open_list.result c.in-Over.quant c.in-Over.rel c.in-Over.parts c.in-Some-source_place.inst.now c.in-Over.is c.in-Some-source_place.ensures c.in-None-names_of.ensures c.open_list.ensures
-
-pub returns-in-Some-names_of : goal.returns-in-Some-names_of
-returns-in-Some-names_of g c =
-    let r = g.H.Held.rules c.args.held.now in let held = g.H.Held.held c.args.held.now in let es = c.args.enclosing.now in let d = c.args.day in let e = c.args.tree.now in
-    law.opens_listed r held es d e c.open_members.result c.in-Over.quant c.in-Over.rel c.in-Over.parts _ c.in-Some-source_place.inst.now c.in-Some-names_of.names.now _ _ c.in-Over.is c.in-Some-source_place.ensures c.in-Some-names_of.ensures c.as_slice-in-Some-names_of.ensures c.as_slice-in-Some-names_of-2.ensures c.target_of-target.ensures c.open_members.ensures
-
 pub returns-in-Window : goal.returns-in-Window
 returns-in-Window g c =
     let r = g.H.Held.rules c.args.held.now in let held = g.H.Held.held c.args.held.now in let es = c.args.enclosing.now in let d = c.args.day in let e = c.args.tree.now in
@@ -85,3 +65,8 @@ pub returns-in-Table : goal.returns-in-Table
 returns-in-Table g c =
     let r = g.H.Held.rules c.args.held.now in let held = g.H.Held.held c.args.held.now in let es = c.args.enclosing.now in let d = c.args.day in let e = c.args.tree.now in
     law.opens_table r held es d e c.open_rows.result c.in-Table.rows _ c.in-Table.last _ c.in-Table.is c.as_slice-in-Table.ensures c.get-in-Table.ensures c.open_rows.ensures
+
+pub returns-in-Over : goal.returns-in-Over
+returns-in-Over g c =
+    let r = g.H.Held.rules c.args.held.now in let held = g.H.Held.held c.args.held.now in let es = c.args.enclosing.now in let d = c.args.day in let e = c.args.tree.now in
+    law.opens_over r held es d e c.open_over.result c.in-Over.quant c.in-Over.rel c.in-Over.parts _ c.in-Over.is c.as_slice-in-Over.ensures c.open_over.ensures
