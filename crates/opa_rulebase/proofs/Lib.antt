@@ -1,3 +1,2 @@
 mod RuledLaws
 mod LoadLaws
-pub mod WritableLaws

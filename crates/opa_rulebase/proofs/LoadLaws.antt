@@ -48,6 +48,11 @@ module _ (files : List SourceFile) (blocks : List Block) (m : Lists) (inferences
   refused_by (Ok base) h = tt
   refused_by (Err u) h = refused_in u h
 
+-- what holds of the model holds of the rulebase's
+pub model_has : {P : Lists → Type 0} (m : Lists) (r : Result Rulebase Unaccepted) → P m → IfOk r (λ base. base.model ≡ m) → IfOk r (λ base. P base.model)
+model_has {P = P} m (Ok base) h e = subst P (sym e) h
+model_has m (Err u) h e = tt
+
 -- ---- shelves
 
 pub refused_as : (files : List SourceFile) (u : Unaccepted) (e : LoadError) → HasRefusal files u → IsUnacceptedAs files u e → IsRefusedAs files e

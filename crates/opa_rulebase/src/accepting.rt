@@ -14,7 +14,6 @@ ghost use Rattle.opa_check.specs.Refused.{IsRefused as IsCheckFault};
 ghost use Rattle.opa_rulebase.specs.declared.fault.Refusal.{Refusal as RefusalView};
 ghost use Rattle.opa_rulebase.specs.declared.fault.Unaccepted.TheVariants.{Refused};
 ghost use Rattle.opa_rulebase.specs.Loading.{AreBlocks, IsDeclared, AreInferred, IsAccepted, HasRefusal, phrase_at, phrases_of, IsCircleRefusal, IsPlain};
-ghost use Rattle.opa_rulebase.specs.Writable.{IsWritable};
 
 use crate::fault::{Refusal, Unaccepted};
 use crate::ruled::ruled_of;
@@ -28,7 +27,6 @@ use opa_model::{AttrId, Model};
 use opa_parse::read_inferences;
 use opa_table::read_all_rules;
 use opa_tree::{Inferences, RbError, RbFault, Rulebase, Rules};
-use opa_wording::{blocks_are_texts, phrases_are_texts, rules_are_given};
 use std::alloc::Global;
 
 /// The names of files.
@@ -133,12 +131,9 @@ fn accept_inferred(
     requires placed { All (λ b. b.file < length files.now) blocks.now }
     requires few { length files.now < 2 ^ 32 }
     ensures accepted { IfOk result (IsAccepted files.now) }
-    ensures writable { IfOk result (λ base. IsWritable base.model base.rules) }
+    ensures readable { IfOk result (λ base. IsReadable base.model) }
     ensures refused { IfErr result (HasRefusal files.now) }
 {
-    phrases_are_texts(&model, inferences);
-    blocks_are_texts(blocks);
-    rules_are_given();
     let names = names(alloc, files)?;
     let tables = tables_of(alloc, files)?;
     match read_all_rules(alloc, &model, inferences, blocks, tables.as_slice()) {
@@ -160,7 +155,7 @@ fn accept_declared(
     requires placed { All (λ b. b.file < length files.now) blocks.now }
     requires few { length files.now < 2 ^ 32 }
     ensures accepted { IfOk result (IsAccepted files.now) }
-    ensures writable { IfOk result (λ base. IsWritable base.model base.rules) }
+    ensures readable { IfOk result (λ base. IsReadable base.model) }
     ensures refused { IfErr result (HasRefusal files.now) }
 {
     match read_inferences(alloc, &model, blocks) {
@@ -181,7 +176,7 @@ fn accept_blocks(
     requires placed { All (λ b. b.file < length files.now) blocks.now }
     requires few { length files.now < 2 ^ 32 }
     ensures accepted { IfOk result (IsAccepted files.now) }
-    ensures writable { IfOk result (λ base. IsWritable base.model base.rules) }
+    ensures readable { IfOk result (λ base. IsReadable base.model) }
     ensures refused { IfErr result (HasRefusal files.now) }
 {
     match read_declarations(alloc, blocks) {
@@ -196,7 +191,7 @@ pub fn accept(alloc: Global, files: &[SourceFile]) -> Result<Rulebase, Unaccepte
     requires texts { All (λ (f : FileView). length f.text < 2 ^ 32) files.now }
     requires few { length files.now < 2 ^ 32 }
     ensures accepted { IfOk result (IsAccepted files.now) }
-    ensures writable { IfOk result (λ base. IsWritable base.model base.rules) }
+    ensures readable { IfOk result (λ base. IsReadable base.model) }
     ensures refused { IfErr result (HasRefusal files.now) }
 {
     match lay_out(alloc, files) {

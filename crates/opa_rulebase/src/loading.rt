@@ -1,9 +1,9 @@
 // A rulebase is loaded from a shelf.
 ghost use Rattle.std.specs.Prelude.{◌≡◌, ◌≤◌, length, Ok, All, IfOk, IfErr, IfSome};
+ghost use Rattle.opa_verbs.specs.Phrasing.{IsReadable};
 ghost use Rattle.opa_files.specs.declared.source.SourceFile.{SourceFile as FileView};
 ghost use Rattle.opa_kinds.specs.Memberships.{MembershipsCount};
 ghost use Rattle.opa_rulebase.specs.Loading.{Opens, HasLoadError, IsUntaken, IsUnacceptedAs, IsRefusedAs, IsAccepted, name_at};
-ghost use Rattle.opa_rulebase.specs.Writable.{IsWritable};
 
 use crate::accepting::accept;
 use crate::fault::{LoadError, Refusal, Unaccepted};
@@ -63,7 +63,7 @@ fn load_files(alloc: Global, files: &[SourceFile]) -> Result<Rulebase, LoadError
     requires texts { All (λ (f : FileView). length f.text ≤ 8388608) files.now }
     requires few { length files.now ≤ 101 }
     ensures accepted { IfOk result (IsAccepted files.now) }
-    ensures writable { IfOk result (λ base. IsWritable base.model base.rules) }
+    ensures readable { IfOk result (λ base. IsReadable base.model) }
     ensures refused { IfErr result (IsRefusedAs files.now) }
 {
     match accept(alloc, files) {
@@ -86,8 +86,8 @@ pub fn load_rulebase<F: Shelf>(
     // In what is accepted, over every case, trees that stand for quantifiers over an inferred relationship count its members alone.
     ensures memberships { IfOk result MembershipsCount }
 
-    // Rules can read what is declared, and each rule is one that the grammar gives, but for that of a table without cases.
-    ensures writable { IfOk result (λ base. IsWritable base.model base.rules) }
+    // Phrases are phrases, what denies an attribute is worded, and all of these differ, so that rules can read the model.
+    ensures readable { IfOk result (λ base. IsReadable base.model) }
 
     // The shelf is as it was.
     ensures files { F.files shelf.new ≡ F.files shelf.old }

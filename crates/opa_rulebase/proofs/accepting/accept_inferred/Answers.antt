@@ -1,12 +1,12 @@
 use Rattle.std.proofs.Common.{◌<◌, length, All, ap, sym, subst, ◌∙◌}
 use Rattle.std.proofs.lemmas.List.{length-map}
 use Rattle.opa_tree.specs.Accepted.{AreFiled}
+use Rattle.opa_verbs.specs.Phrasing.{IsReadable}
 use Rattle.opa_files.specs.declared.source.SourceFile.{SourceFile}
 use Rattle.opa_table.specs.declared.whole.TableFile.{TableFile}
 use Rattle.opa_table.specs.Whole.{AreAllRules, AreAllRefused}
 use Rattle.opa_rulebase.specs.Loading.{IsRefused}
-use Rattle.opa_rulebase.proofs.LoadLaws.{plain_refusal, accepted_by, refused_by}
-use Rattle.opa_rulebase.proofs.WritableLaws.{is_writable, writable_base}
+use Rattle.opa_rulebase.proofs.LoadLaws.{plain_refusal, accepted_by, refused_by, model_has}
 use Rattle.opa_rulebase.proofs.accepting.accept_inferred.Goals as goal
 
 pub accept_rules-requires-clause-filed : goal.accept_rules-requires-clause-filed
@@ -20,11 +20,8 @@ returns-in-Ok-clause-accepted c =
     accepted_by c.args.files.now c.args.blocks.now c.args.model c.args.inferences.now c.in-Ok.rules c.requires.inferred (subst (λ t. AreAllRules c.args.model c.args.inferences.now c.args.blocks.now t c.in-Ok.rules) (c.as_slice.ensures ∙ c.in_ok-tables.ensures.tables) c.in-Ok.ensures.rules)
     c.in_ok-names.names c.accept_rules.result c.in_ok-names.ensures c.accept_rules.ensures.model c.accept_rules.ensures.rules c.accept_rules.ensures.files
 
-pub returns-in-Ok-clause-writable : goal.returns-in-Ok-clause-writable
-returns-in-Ok-clause-writable c =
-    writable_base c.args.model c.in-Ok.rules c.accept_rules.result
-    (is_writable c.rules_are_given.ensures.with_tables c.rules_are_given.ensures.inferences c.args.model c.args.inferences.now c.requires.readable c.phrases_are_texts.ensures.texts c.phrases_are_texts.ensures.others c.args.blocks.now _ c.in-Ok.rules c.blocks_are_texts.ensures c.requires.inferred.inferences_are c.in-Ok.ensures.rules)
-    c.accept_rules.ensures.model c.accept_rules.ensures.rules
+pub returns-in-Ok-clause-readable : goal.returns-in-Ok-clause-readable
+returns-in-Ok-clause-readable c = model_has {P = IsReadable} c.args.model c.accept_rules.result c.requires.readable c.accept_rules.ensures.model
 
 pub returns-in-Ok-clause-refused : goal.returns-in-Ok-clause-refused
 returns-in-Ok-clause-refused c =
