@@ -49,9 +49,9 @@ module _ (files : List SourceFile) (blocks : List Block) (m : Lists) (inferences
   refused_by (Err u) h = refused_in u h
 
 -- what holds of the model holds of the rulebase's
-pub model_has : {P : Lists → Type 0} (m : Lists) (r : Result Rulebase Unaccepted) → P m → IfOk r (λ base. base.model ≡ m) → IfOk r (λ base. P base.model)
-model_has {P = P} m (Ok base) h e = subst P (sym e) h
-model_has m (Err u) h e = tt
+pub model_has : (P : Lists → Type 0) (m : Lists) (r : Result Rulebase Unaccepted) → P m → IfOk r (λ base. base.model ≡ m) → IfOk r (λ base. P base.model)
+model_has P m (Ok base) h e = subst P (sym e) h
+model_has P m (Err u) h e = tt
 
 -- ---- shelves
 

@@ -252,12 +252,10 @@ fn shown_pieces(alloc: Global, text: &str) -> Result<String, Fail> {
         return Ok(out);
     };
     let mut rest = Pieces::new(text, &found);
-    for _ in 0..found.len() {
-        if let Some((kind, token, later)) = rest.first() {
-            let one = format!(in alloc; "{}:{token} ", letter(kind))?;
-            out.push_str(one.as_str())?;
-            rest = later;
-        }
+    while let Some((kind, token, later)) = rest.first() {
+        let one = format!(in alloc; "{}:{token} ", letter(kind))?;
+        out.push_str(one.as_str())?;
+        rest = later;
     }
     if rest.is_empty() {
         out.push_str(".")?;

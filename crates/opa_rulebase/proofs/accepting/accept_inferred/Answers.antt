@@ -21,7 +21,7 @@ returns-in-Ok-clause-accepted c =
     c.in_ok-names.names c.accept_rules.result c.in_ok-names.ensures c.accept_rules.ensures.model c.accept_rules.ensures.rules c.accept_rules.ensures.files
 
 pub returns-in-Ok-clause-readable : goal.returns-in-Ok-clause-readable
-returns-in-Ok-clause-readable c = model_has {P = IsReadable} c.args.model c.accept_rules.result c.requires.readable c.accept_rules.ensures.model
+returns-in-Ok-clause-readable c = model_has IsReadable c.args.model c.accept_rules.result c.requires.readable c.accept_rules.ensures.model
 
 pub returns-in-Ok-clause-refused : goal.returns-in-Ok-clause-refused
 returns-in-Ok-clause-refused c =
