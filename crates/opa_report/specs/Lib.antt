@@ -1,0 +1,13 @@
+pub mod Adding
+pub mod Dates
+pub mod Declares
+pub mod Finding
+pub mod Laws
+pub mod Owning
+pub mod Promises
+pub mod ReportLines
+pub mod Reporting
+pub mod Runs
+pub mod Spreading
+pub mod Supporting
+pub mod Walking
