@@ -20,7 +20,7 @@ use Rattle.opa_mean.specs.Rulebases.{value_at}
 use Rattle.opa_window.specs.Days.{day_value}
 use Rattle.opa_dirty.specs.Settling.{Lines, Shift, IsShift, AreCurrent, HaveKinds, laid_look}
 use Rattle.opa_mean.specs.Slots.{is_slot}
-use Rattle.opa_dirty.proofs.Catching.{parts_of}
+use Rattle.opa_dirty.proofs.Parted.{parts_of}
 use Rattle.opa_dirty.proofs.Looking.{line_right}
 use Rattle.opa_dirty.proofs.Rising.{rises, listed_rise, to_one}
 

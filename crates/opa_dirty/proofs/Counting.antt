@@ -21,7 +21,7 @@ use Rattle.opa_mean.proofs.Fitting.{live_in}
 use Rattle.opa_dirty.specs.Dirty.{is_reached}
 use Rattle.opa_dirty.specs.Settling.{Lines, Shift, IsDirty, Stages, is_left, left, reached}
 use Rattle.opa_mean.specs.Slots.{is_slot}
-use Rattle.opa_dirty.proofs.Catching.{parts_of}
+use Rattle.opa_dirty.proofs.Parted.{parts_of}
 use Rattle.opa_dirty.proofs.Staging.{some_stays, some_here}
 
 in_filter : {X : Type 0} (p : X → Bool) (xs : List X) (x : X) → Contains xs x → p x ≡ true → Contains (filter p xs) x

@@ -3,6 +3,9 @@ pub mod Reaching
 pub mod Naming
 pub mod Differing
 pub mod Causes
+pub mod Parted
+pub mod Freshness
+pub mod Answering
 pub mod Catching
 pub mod Laying
 pub mod Looking

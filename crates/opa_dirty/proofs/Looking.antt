@@ -1,5 +1,5 @@
 -- While a change is settled, what is looked up of lower rank than all that waits is right.
-use Rattle.std.proofs.Common.{◌≡◌, ℕ, ◌<◌, ◌≤◌, Bool, true, false, List, [], ◌∷◌, Option, None, Some, is_some, Contains, refl, sym, ◌∙◌, ap, arith}
+use Rattle.std.proofs.Common.{◌≡◌, ℕ, ◌<◌, ◌≤◌, Bool, true, false, [], ◌∷◌, Option, None, Some, is_some, Contains, refl, sym, ◌∙◌, ap, arith}
 use Rattle.std.specs.Option.{option_or}
 use Rattle.std.specs.FinMap.{get}
 use Rattle.opa_date.specs.declared.TheConstants.{DAYS}
@@ -11,7 +11,6 @@ use Rattle.opa_cells.specs.declared.instance.InstanceId.{InstanceId}
 use Rattle.opa_case.specs.Cases.{Answer, IsLive}
 use Rattle.opa_case.specs.Live.{is_live}
 use Rattle.opa_case.specs.Shapes.{shape_of}
-use Rattle.opa_case.specs.declared.question.Question.{Question}
 use Rattle.opa_tree.specs.declared.rules.Rule.{Rule}
 use Rattle.opa_tree.specs.Rules.{rule_of}
 use Rattle.opa_mean.specs.Derivations.{derived}
@@ -25,15 +24,16 @@ use Rattle.opa_mean.proofs.LawsOver.{base}
 use Rattle.opa_dirty.specs.Dirty.{is_reached}
 use Rattle.opa_dirty.specs.Settling.{Lines, Waiting, Shift, IsShift, AreCurrent, IsSettling, rank_of, laid_value, laid_look}
 use Rattle.opa_mean.specs.Slots.{is_slot}
-use Rattle.opa_dirty.proofs.Catching.{parts_of, slot_is, clean_value, caught_up}
+use Rattle.opa_dirty.proofs.Catching.{clean_value, caught_up}
 use Rattle.opa_dirty.proofs.Laying.{derived_right}
+use Rattle.opa_dirty.proofs.Parted.{parts_of, slot_is}
 use Rattle.opa_dirty.proofs.Reaching.{new_is_dirty}
 
 -- the value of a line that stands for values
 pub line_right : (f : ℕ → Value) (l : Answer) → StandsFor DAYS f l → (d : ℕ) → d < DAYS → line_value (Some l) d ≡ f d
 line_right f l stands d lt = ap (value_or Unknown) (stands d lt)
 
-module _ (s : Shift) (is : IsShift s) (kept staged : Lines) (current : AreCurrent s.rules s.old kept) (waiting : Waiting) (told : List Question) (h : IsSettling s staged waiting told)
+module _ (s : Shift) (is : IsShift s) (kept staged : Lines) (current : AreCurrent s.rules s.old kept) (waiting : Waiting) (h : IsSettling s staged waiting)
     (n : ℕ) (above : (a : AttrId) (i : InstanceId) → Contains waiting (a, i) → n ≤ rank_of s a) where
   abbrev seen : AttrId → InstanceId → ℕ → Value
   seen = laid_value s.new kept staged
@@ -44,7 +44,7 @@ module _ (s : Shift) (is : IsShift s) (kept staged : Lines) (current : AreCurren
     where
       go : (b : Bool) → is_reached s.rules s.old s.new m j ≡ b → is_reached s.rules s.old s.new m j ≡ false
       go false e = e
-      go true e = absurd (cc (caught_up s is staged waiting told h n above m j lt (record { slot = slot; reached = e }), ap is_some none))
+      go true e = absurd (cc (caught_up s is staged waiting h n above m j lt (record { slot = slot; reached = e }), ap is_some none))
 
   pub seen_right : (m : AttrId) (j : InstanceId) → rank_of s m < n → IsLive s.new j → j.entity.0 ≡ owner_of (shape_of s.rules.model) m → (d : ℕ) → d < DAYS → seen m j d ≡ value_at s.rules s.new m j d
   seen_right m j low live own d lt = go (staged m j) refl (kept m j) refl (rule_of s.rules.rules m) refl

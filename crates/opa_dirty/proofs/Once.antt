@@ -27,7 +27,7 @@ use Rattle.opa_mean.proofs.Fitting.{in_live}
 use Rattle.opa_dirty.specs.Dirty.{is_reached}
 use Rattle.opa_dirty.specs.Settling.{Lines, Shift, IsShift, IsDirty, Stages, is_left, left}
 use Rattle.opa_mean.specs.Slots.{is_slot}
-use Rattle.opa_dirty.proofs.Catching.{slot_is}
+use Rattle.opa_dirty.proofs.Parted.{slot_is}
 use Rattle.opa_dirty.proofs.Counting.{in_slots}
 use Rattle.opa_dirty.proofs.Staging.{some_here, split_some, some_stays}
 

@@ -1,30 +1,29 @@
 -- One slot more is derived.
-use Rattle.std.proofs.Common.{◌≡◌, ◌⊎◌, inl, inr, ℕ, ◌<◌, ◌≤◌, Bool, true, false, cond, List, [], ◌∷◌, ◌++◌, Option, None, Some, is_some, Contains, refl, sym, ◌∙◌, ap, subst, arith}
+use Rattle.std.specs.Prelude.{◌||◌}
+use Rattle.std.proofs.Common.{◌≡◌, ◌⊎◌, inl, inr, ℕ, ◌<◌, ◌≤◌, Bool, true, false, not, cond, ◌∷◌, Option, None, Some, is_some, Contains, refl, sym, ◌∙◌, ap, subst, arith}
 use Rattle.std.specs.Cmp.{eq_by_cmp_equiv}
 use Rattle.std.proofs.lemmas.Map.Views.{tells_apart}
-use Rattle.std.proofs.lemmas.List.Elements.{Contains-append_left, Contains-append_right, Contains-append_cases}
 use Rattle.opa_date.specs.declared.TheConstants.{DAYS}
 use Rattle.opa_line.specs.Lines.{StandsFor}
 use Rattle.opa_model.specs.declared.ids.AttrId.{AttrId}
 use Rattle.opa_cells.specs.declared.instance.InstanceId.{InstanceId}
 use Rattle.opa_cells.proofs.Orders.{cell_exact, cell_total}
 use Rattle.opa_case.specs.Cases.{Answer, IsLive}
-use Rattle.opa_case.specs.Live.{is_live}
 use Rattle.opa_case.specs.declared.question.Question.{Question}
 use Rattle.opa_case.specs.declared.question.Question.TheVariants as question
-use Rattle.opa_tree.proofs.Members.{none_in, contains_head, contains_tail, contains_cases}
+use Rattle.opa_tree.specs.Rules.{rule_of}
+use Rattle.opa_tree.proofs.Members.{contains_head, contains_tail, contains_cases}
 use Rattle.opa_mean.specs.Given.{line_value}
 use Rattle.opa_mean.specs.Rulebases.{value_at}
 use Rattle.opa_mean.proofs.Everywhere.{each_of_all}
-use Rattle.opa_mean.proofs.Fitting.{in_live}
-use Rattle.opa_dirty.specs.Settling.{Lines, Waiting, Shift, IsShift, AreCurrent, AreReaders, IsDirty, IsSettling, IsCaught, SamePair, Stages, is_slot_same, is_line_changed, is_told, old_reads, rank_of}
+use Rattle.opa_dirty.specs.Dirty.{is_fresh, is_reached}
+use Rattle.opa_dirty.specs.Settling.{Lines, Waiting, Shift, IsShift, AreCurrent, AreReaders, IsDirty, IsSettling, IsCaught, SamePair, Stages, is_slot_same, is_known, is_line_changed, is_told, new_reads, rank_of}
 use Rattle.opa_mean.specs.Slots.{is_slot}
-use Rattle.opa_dirty.proofs.Catching.{parts_of, slot_is}
-use Rattle.opa_dirty.proofs.Causes.{passes_in}
 use Rattle.opa_dirty.proofs.Differing.{same_difference}
+use Rattle.opa_dirty.proofs.Freshness.{fresh_is_reached, reader_is_reached, read_before}
 use Rattle.opa_dirty.proofs.Looking.{line_right}
 use Rattle.opa_dirty.proofs.Naming.{slot_named}
-use Rattle.opa_dirty.proofs.Reaching.{dirty_by_old_reads}
+use Rattle.opa_dirty.proofs.Parted.{parts_of, slot_is}
 
 pub same_slot : (a : AttrId) (i : InstanceId) (b : AttrId) (j : InstanceId) → is_slot_same a i b j ≡ true → (a ≡ b) × (i ≡ j)
 same_slot a i b j h =
@@ -88,8 +87,8 @@ module _ (a : AttrId) (i : InstanceId) (line : Answer) (old new : Lines) (stages
       go true q = absurd (apart (same_slot a i b j q))
       go false q = e
 
-module _ (s : Shift) (is : IsShift s) (kept : Lines) (current : AreCurrent s.rules s.old kept) (readers : Question → Waiting) (are : AreReaders s.rules s.old readers)
-    (staged : Lines) (told : List Question) (a : AttrId) (i : InstanceId) (rest : Waiting) (h : IsSettling s staged ((a, i) ∷ rest) told)
+module _ (s : Shift) (is : IsShift s) (kept : Lines) (current : AreCurrent s.rules s.old kept) (readers : Question → Waiting) (are : AreReaders s.rules s.new readers)
+    (staged : Lines) (a : AttrId) (i : InstanceId) (rest : Waiting) (h : IsSettling s staged ((a, i) ∷ rest))
     (first : (b : AttrId) (j : InstanceId) → Contains rest (b, j) → rank_of s a ≤ rank_of s b) (once : Contains rest (a, i) → ⊥)
     (line : Answer) (right : StandsFor DAYS (value_at s.rules s.new a i) line) (staged' : Lines) (stages : Stages staged staged' a i line) where
   head_dirty : IsDirty s a i
@@ -132,89 +131,82 @@ module _ (s : Shift) (is : IsShift s) (kept : Lines) (current : AreCurrent s.rul
         go (inl e) = inl (subst (λ (k : AttrId × InstanceId). is_some (staged' k.0 k.1) ≡ true) e (some_here a i line staged staged' stages))
         go (inr more) = inr (stay b j more)
 
-  -- the line is the kept one: nothing else is told
-  pub step_same : is_line_changed kept a i line ≡ false → IsSettling s staged' rest told
+  -- what is known now was known before, or is the line of the slot
+  known_before : (q : Question) → is_known s staged' q ≡ true → (is_known s staged q ≡ true) ⊎ (question.Attr a i ≡ q)
+  known_before (question.Members q j) known = inl refl
+  known_before (question.Attr b j) known = go (is_some (rule_of s.rules.rules b)) refl
+    where
+      by : is_some (rule_of s.rules.rules b) ≡ true → ((a ≡ b) × (i ≡ j)) ⊎ (is_some (staged b j) ≡ true) → (is_known s staged (question.Attr b j) ≡ true) ⊎ (question.Attr a i ≡ question.Attr b j)
+      by ruled (inl same) = inr (λ k. question.Attr (same.0 k) (same.1 k))
+      by ruled (inr done) = inl (ap (λ x. not x || is_some (staged b j)) ruled ∙ done)
+
+      go : (x : Bool) → is_some (rule_of s.rules.rules b) ≡ x → (is_known s staged (question.Attr b j) ≡ true) ⊎ (question.Attr a i ≡ question.Attr b j)
+      go false e = inl (ap (λ x. not x || is_some (staged b j)) e)
+      go true e = by e (split_some a i line staged staged' stages b j (sym (ap (λ x. not x || is_some (staged' b j)) e) ∙ known))
+
+  -- where a reader isn't fresh, the slot's line differs exactly where it isn't the kept one
+  flag_of : (b : AttrId) (j : InstanceId) → is_fresh s.rules s.old s.new b j ≡ false → Contains (new_reads s b j) (question.Attr a i) → is_told s (question.Attr a i) ≡ is_line_changed kept a i line
+  flag_of b j stale reads = told_flag s is kept current a i line right (was_slot s a i head_dirty.slot (read_before s is b j stale a i reads))
+
+  -- the line is the kept one: nothing else waits
+  pub step_same : is_line_changed kept a i line ≡ false → IsSettling s staged' rest
   step_same flag = record {
     right = all_right;
     dirty = all_dirty;
     waits = λ b j there. h.waits b j (tail b j there);
     apart = rest_apart;
     order = λ b x j k e there. let l = low b j e in let f = first x k there in omega (arith, l, f);
-    arrived = λ b j slot new. caught_still rest (λ x k there. there) b j (h.arrived b j slot new);
-    readers = λ b j q slot live t reads. caught_still rest (λ x k there. there) b j (h.readers b j q slot live t reads);
-    lists = h.lists;
-    answers = h.answers;
-    lines = λ b j live e t. go b j live t (split_some a i line staged staged' stages b j e);
+    fresh = λ b j slot fresh. caught_still rest (λ x k there. there) b j (h.fresh b j slot fresh);
+    readers = λ b j q slot reads told known. caught b j q slot reads told (known_before q known) (is_fresh s.rules s.old s.new b j) refl;
   }
     where
-      go : (b : AttrId) (j : InstanceId) → is_live s.old.live j ≡ true → is_told s (question.Attr b j) ≡ true → ((a ≡ b) × (i ≡ j)) ⊎ (is_some (staged b j) ≡ true) → Contains told (question.Attr b j)
-      go b j live t (inl same) =
-          let live_i : IsLive s.old i = subst (λ (k : InstanceId). IsLive s.old k) (sym same.1) live in
-          let t_i : is_told s (question.Attr a i) ≡ true = subst (λ (x : AttrId). is_told s (question.Attr x i) ≡ true) (sym same.0) (subst (λ (k : InstanceId). is_told s (question.Attr b k) ≡ true) (sym same.1) t) in
-          absurd (cc (t_i, told_flag s is kept current a i line right (was_slot s a i head_dirty.slot live_i), flag))
-      go b j live t (inr e) = h.lines b j live e t
+      caught : (b : AttrId) (j : InstanceId) (q : Question) → is_slot s.rules s.new b j ≡ true → Contains (new_reads s b j) q → is_told s q ≡ true → (is_known s staged q ≡ true) ⊎ (question.Attr a i ≡ q) → (x : Bool) → is_fresh s.rules s.old s.new b j ≡ x → IsCaught staged' rest b j
+      caught b j q slot reads told (inl known) x e = caught_still rest (λ x k there. there) b j (h.readers b j q slot reads told known)
+      caught b j q slot reads told (inr is_it) true fresh = caught_still rest (λ x k there. there) b j (h.fresh b j slot fresh)
+      caught b j q slot reads told (inr is_it) false stale =
+          let here : Contains (new_reads s b j) (question.Attr a i) = subst (λ (x : Question). Contains (new_reads s b j) x) (sym is_it) reads in
+          let t : is_told s (question.Attr a i) ≡ true = subst (λ (x : Question). is_told s x ≡ true) (sym is_it) told in
+          absurd (cc (t, flag_of b j stale here, flag))
 
-  -- a reader of the slot that is live in the case that comes
-  abbrev Marked : AttrId → InstanceId → Type 0
-  Marked b j = Contains (readers (question.Attr a i)) (b, j) × IsLive s.new j
-
-  -- the line differs: it is told, and its readers that are live wait
+  -- the line differs: its readers wait
   pub step_changed : is_line_changed kept a i line ≡ true → (waiting' : Waiting) → ((b : AttrId) (j : InstanceId) → Contains rest (b, j) → Contains waiting' (b, j))
-      → ((b : AttrId) (j : InstanceId) → Contains (readers (question.Attr a i)) (b, j) → IsLive s.new j → Contains waiting' (b, j))
-      → ((b : AttrId) (j : InstanceId) → Contains waiting' (b, j) → Contains rest (b, j) ⊎ (Contains (readers (question.Attr a i)) (b, j) × IsLive s.new j))
-      → IsSettling s staged' waiting' (told ++ question.Attr a i ∷ [])
+      → ((b : AttrId) (j : InstanceId) → Contains (readers (question.Attr a i)) (b, j) → Contains waiting' (b, j))
+      → ((b : AttrId) (j : InstanceId) → Contains waiting' (b, j) → Contains rest (b, j) ⊎ Contains (readers (question.Attr a i)) (b, j))
+      → IsSettling s staged' waiting'
   step_changed flag waiting' stay marked marks = record {
     right = all_right;
     dirty = all_dirty;
     waits = λ b j there. waits b j (marks b j there);
     apart = λ b j there. apart b j (marks b j there);
     order = λ b x j k e there. order b x k (low b j e) (marks x k there);
-    arrived = λ b j slot new. caught_still waiting' stay b j (h.arrived b j slot new);
-    readers = λ b j q slot live t reads. by_told b j q slot live reads (Contains-append_cases told (question.Attr a i ∷ []) q t);
-    lists = λ r j live live' t. Contains-append_left told (question.Attr a i ∷ []) (question.Members r j) (h.lists r j live live' t);
-    answers = λ b j live live' none t. Contains-append_left told (question.Attr a i ∷ []) (question.Attr b j) (h.answers b j live live' none t);
-    lines = λ b j live e t. line_told b j live t (split_some a i line staged staged' stages b j e);
+    fresh = λ b j slot fresh. caught_still waiting' stay b j (h.fresh b j slot fresh);
+    readers = λ b j q slot reads told known. caught b j q slot reads told (known_before q known);
   }
     where
-      reader_live : (b : AttrId) (j : InstanceId) → Contains (readers (question.Attr a i)) (b, j) → IsLive s.old j
-      reader_live b j m = (parts_of s.rules s.old b j (are.slots (question.Attr a i) b j m)).live
+      -- what a reader reads of the slot is of lower rank
+      lower : (b : AttrId) (j : InstanceId) → Contains (readers (question.Attr a i)) (b, j) → rank_of s a < rank_of s b
+      lower b j m = (each_of_all _ (new_reads s b j) (slot_named s.rules s.new is.after b j (parts_of s.rules s.new b j (are.slots (question.Attr a i) b j m)).live) (question.Attr a i) (are.read (question.Attr a i) b j m)).2
 
-      -- what a reader reads of the slot: it was live, and is of lower rank
-      named : (b : AttrId) (j : InstanceId) → Contains (readers (question.Attr a i)) (b, j) → IsLive s.old i × (rank_of s a < rank_of s b)
-      named b j m = let n = each_of_all _ (old_reads s b j) (slot_named s.rules s.old is.before b j (reader_live b j m)) (question.Attr a i) (are.read (question.Attr a i) b j m) in (in_live s.old i n.0, n.2)
+      reader_reached : (b : AttrId) (j : InstanceId) → Contains (readers (question.Attr a i)) (b, j) → (x : Bool) → is_fresh s.rules s.old s.new b j ≡ x → is_reached s.rules s.old s.new b j ≡ true
+      reader_reached b j m true fresh = fresh_is_reached s b j fresh
+      reader_reached b j m false stale = let reads = are.read (question.Attr a i) b j m in reader_is_reached s b j (question.Attr a i) reads (flag_of b j stale reads ∙ flag)
 
-      waits : (b : AttrId) (j : InstanceId) → Contains rest (b, j) ⊎ Marked b j → IsDirty s b j
+      waits : (b : AttrId) (j : InstanceId) → Contains rest (b, j) ⊎ Contains (readers (question.Attr a i)) (b, j) → IsDirty s b j
       waits b j (inl there) = h.waits b j (tail b j there)
-      waits b j (inr m) =
-          let n = named b j m.0 in
-          let t : is_told s (question.Attr a i) ≡ true = told_flag s is kept current a i line right (was_slot s a i head_dirty.slot n.0) ∙ flag in
-          record {
-            slot = still_slot s b j (are.slots (question.Attr a i) b j m.0) m.1;
-            reached = dirty_by_old_reads s.rules s.old s.new is.before is.after is.stay b j (reader_live b j m.0) m.1 ∙ passes_in (is_told s) (old_reads s b j) (question.Attr a i) (are.read (question.Attr a i) b j m.0) t;
-          }
+      waits b j (inr m) = record { slot = are.slots (question.Attr a i) b j m; reached = reader_reached b j m (is_fresh s.rules s.old s.new b j) refl }
 
-      apart : (b : AttrId) (j : InstanceId) → Contains rest (b, j) ⊎ Marked b j → is_some (staged' b j) ≡ false
+      apart : (b : AttrId) (j : InstanceId) → Contains rest (b, j) ⊎ Contains (readers (question.Attr a i)) (b, j) → is_some (staged' b j) ≡ false
       apart b j (inl there) = rest_apart b j there
       apart b j (inr m) = go (is_some (staged' b j)) refl
         where
           go : (t : Bool) → is_some (staged' b j) ≡ t → is_some (staged' b j) ≡ false
           go false e = e
-          go true e = let l = low b j e in let n = (named b j m.0).1 in absurd (omega (arith, l, n))
+          go true e = let l = low b j e in let n = lower b j m in absurd (omega (arith, l, n))
 
-      order : (b x : AttrId) (k : InstanceId) → rank_of s b ≤ rank_of s a → Contains rest (x, k) ⊎ Marked x k → rank_of s b ≤ rank_of s x
+      order : (b x : AttrId) (k : InstanceId) → rank_of s b ≤ rank_of s a → Contains rest (x, k) ⊎ Contains (readers (question.Attr a i)) (x, k) → rank_of s b ≤ rank_of s x
       order b x k l (inl there) = let f = first x k there in omega (arith, l, f)
-      order b x k l (inr m) = let n = (named x k m.0).1 in omega (arith, l, n)
+      order b x k l (inr m) = let n = lower x k m in omega (arith, l, n)
 
-      by_told : (b : AttrId) (j : InstanceId) (q : Question) → is_slot s.rules s.new b j ≡ true → is_live s.old.live j ≡ true → Contains (old_reads s b j) q → Contains told q ⊎ Contains (question.Attr a i ∷ []) q → IsCaught staged' waiting' b j
-      by_told b j q slot live reads (inl t) = caught_still waiting' stay b j (h.readers b j q slot live t reads)
-      by_told b j q slot live reads (inr one) = go (contains_cases (question.Attr a i) q [] one)
-        where
-          go : (question.Attr a i ≡ q) ⊎ Contains [] q → IsCaught staged' waiting' b j
-          go (inl e) = inr (marked b j (are.all (question.Attr a i) b j (was_slot s b j slot live) (subst (λ (x : Question). Contains (old_reads s b j) x) (sym e) reads)) (parts_of s.rules s.new b j slot).live)
-          go (inr none) = absurd (none_in q none)
-
-      line_told : (b : AttrId) (j : InstanceId) → is_live s.old.live j ≡ true → is_told s (question.Attr b j) ≡ true → ((a ≡ b) × (i ≡ j)) ⊎ (is_some (staged b j) ≡ true) → Contains (told ++ question.Attr a i ∷ []) (question.Attr b j)
-      line_told b j live t (inl same) =
-          subst (λ (x : AttrId). Contains (told ++ question.Attr a i ∷ []) (question.Attr x j)) same.0 (subst (λ (k : InstanceId). Contains (told ++ question.Attr a i ∷ []) (question.Attr a k)) same.1
-          (Contains-append_right told (question.Attr a i ∷ []) (question.Attr a i) (contains_head (question.Attr a i) [])))
-      line_told b j live t (inr e) = Contains-append_left told (question.Attr a i ∷ []) (question.Attr b j) (h.lines b j live e t)
+      caught : (b : AttrId) (j : InstanceId) (q : Question) → is_slot s.rules s.new b j ≡ true → Contains (new_reads s b j) q → is_told s q ≡ true → (is_known s staged q ≡ true) ⊎ (question.Attr a i ≡ q) → IsCaught staged' waiting' b j
+      caught b j q slot reads told (inl known) = caught_still waiting' stay b j (h.readers b j q slot reads told known)
+      caught b j q slot reads told (inr is_it) = inr (marked b j (are.all (question.Attr a i) b j slot (subst (λ (x : Question). Contains (new_reads s b j) x) (sym is_it) reads)))

@@ -1,18 +1,22 @@
--- Which slots a change reaches, told by what their rules could look at before it.
-use Rattle.std.specs.Prelude.{◌≡◌, ◌≢◌, ℕ, ◌<◌, true, false, Bool, List, Contains}
+-- Which slots a change reaches, told by what their rules can look at.
+use Rattle.std.specs.Prelude.{◌≡◌, ◌≢◌, ℕ, ◌<◌, true, false, Bool, ◌&&◌, ◌||◌, not, is_some, List, Contains}
+use Rattle.std.specs.FinMap.{get}
 use Rattle.std.specs.List.{list_any, AllByRecursion}
 use Rattle.opa_model.specs.declared.ids.AttrId.{AttrId}
+use Rattle.opa_cells.specs.Instances.{is_same}
 use Rattle.opa_cells.specs.declared.instance.InstanceId.{InstanceId}
 use Rattle.opa_case.specs.Cases.{CaseView, IsLive}
-use Rattle.opa_case.specs.Live.{is_live}
+use Rattle.opa_case.specs.Live.{is_live, container_of}
 use Rattle.opa_case.specs.Laws.{KeepContainers}
 use Rattle.opa_case.specs.declared.question.Question.{Question}
 use Rattle.opa_case.specs.declared.question.Question.TheVariants as question
 use Rattle.opa_model.specs.declared.ids.RelId.{RelId}
 use Rattle.opa_tree.specs.declared.rulebase.Rulebase.{Rulebase}
-use Rattle.opa_mean.specs.Changes.{is_dirty, differs}
-use Rattle.opa_mean.specs.Given.{base_of, facts_of}
+use Rattle.opa_tree.specs.Rules.{rule_of}
+use Rattle.opa_mean.specs.Changes.{is_dirty, differs, first_difference}
+use Rattle.opa_mean.specs.Given.{base_of, facts_of, line_value}
 use Rattle.opa_mean.specs.Reads.{reads_of}
+use Rattle.opa_mean.specs.Sameness.{same_question, same_lists, same_options}
 use Rattle.opa_mean.specs.Frees.{IsFree}
 use Rattle.opa_mean.specs.Slots.{has_place}
 use Rattle.opa_tree.specs.Ranks.{rank_at}
@@ -29,6 +33,21 @@ is_changed r c c' = differs (base_of r) (facts_of c) (facts_of c')
 
 abbrev pub is_reached : Rulebase → CaseView → CaseView → AttrId → InstanceId → Bool
 is_reached r c c' = is_dirty (base_of r) (facts_of c) (facts_of c')
+
+-- The instance wasn't live in the same container before, or what the slot's rule can look at differs.
+abbrev pub is_fresh : Rulebase → CaseView → CaseView → AttrId → InstanceId → Bool
+is_fresh r c c' a i =
+    not (is_live c.live i && same_options is_same (container_of c.live i) (container_of c'.live i))
+    || not (same_lists same_question (slot_reads r c a i) (slot_reads r c' a i))
+
+-- A slot is dirty exactly where it is fresh, or a line or a list differs that its rule can look at.
+abbrev pub FreshOrReads : Type 0
+FreshOrReads = (r : Rulebase) (c c' : CaseView) (a : AttrId) (i : InstanceId) → is_reached r c c' a i ≡ (is_fresh r c c' a i || list_any (is_changed r c c') (slot_reads r c' a i))
+
+-- The line of an attribute without a rule differs exactly where its answer does.
+abbrev pub AnswersDiffer : Type 0
+AnswersDiffer = (r : Rulebase) (c c' : CaseView) → IsOf r c → IsOf r c' → (a : AttrId) (i : InstanceId) → is_some (rule_of r.rules a) ≡ false
+    → is_changed r c c' (question.Attr a i) ≡ is_some (first_difference DAYS (line_value (get c.answers (a.0, i))) (line_value (get c'.answers (a.0, i))))
 
 -- What was live before is dirty exactly where a line or a list differs that its rule could look at before.
 abbrev pub DirtyByOldReads : Type 0

@@ -1,5 +1,6 @@
-// Which slots a change reaches: those of new instances, and the readers of what differs.
+// Which slots a change reaches: those that are fresh, and the readers of what differs.
 ghost use Rattle.opa_dirty.specs.Dirty as law;
+ghost use Rattle.opa_dirty.specs.Settling as settling;
 
 /// What was live before is dirty exactly where a line or a list differs that its rule could look at before.
 pub fn dirty_by_old_reads()
@@ -29,4 +30,34 @@ pub fn reads_stay()
 /// What a live instance's slot reads is of lower rank, and at live instances.
 pub fn reads_are_lower()
     ensures { law.ReadsAreLower }
+{}
+
+/// A slot is dirty exactly where it is fresh, or a line or a list differs that its rule can look at.
+pub fn fresh_or_reads()
+    ensures { law.FreshOrReads }
+{}
+
+/// The line of an attribute without a rule differs exactly where its answer does.
+pub fn answers_differ()
+    ensures { law.AnswersDiffer }
+{}
+
+/// Answers alone make nothing fresh.
+pub fn nothing_is_fresh()
+    ensures { settling.NothingIsFresh }
+{}
+
+/// Answers alone leave readers as they are.
+pub fn readers_stay()
+    ensures { settling.ReadersStay }
+{}
+
+/// Where the dirty slots were derived, their lines laid over those that are kept are current.
+pub fn laid_are_current()
+    ensures { settling.LaidAreCurrent }
+{}
+
+/// The same where the same instances are live, so that nothing has to be taken out.
+pub fn laid_stay_current()
+    ensures { settling.LaidStayCurrent }
 {}

@@ -2,8 +2,13 @@
 #![tactic(auto)]
 
 mod laws;
+mod readers;
+mod slot;
 
 pub use laws::{
-    dirty_by_new_reads, dirty_by_old_reads, new_is_dirty, reads_are_lower, reads_stay,
+    answers_differ, dirty_by_new_reads, dirty_by_old_reads, fresh_or_reads, laid_are_current,
+    laid_stay_current, new_is_dirty, nothing_is_fresh, readers_stay, reads_are_lower, reads_stay,
     settled_stays,
 };
+pub use readers::Readers;
+pub use slot::Slot;

@@ -1,0 +1,15 @@
+//! What a change of the case reaches and what is told of it, computed from two held states.
+#![tactic(auto)]
+
+mod laws;
+mod lines;
+mod lists;
+mod order;
+mod reach;
+mod tell;
+mod walk;
+
+pub use laws::told_once;
+pub use reach::dirty_slots;
+pub use tell::changes;
+pub use walk::{slot_count, slots};
