@@ -17,27 +17,25 @@ use opa_changes::{changes, dirty_slots};
 use opa_fresh::{Fresh, Lines, determine};
 use opa_io::NoMemory;
 use opa_listen::{Change, Listener, tell};
+use opa_mean::Held;
 use opa_tree::Rulebase;
 use std::alloc::Global;
 
 /// What another case reaches, and what is told of it.
+#[derive(Drop)]
 struct Reached {
     dirty: u64,
     changes: Vec<Change>,
 }
 
 /// What another case with its lines reaches, and what is told of it.
-fn reached_by(
-    alloc: Global,
-    old: Fresh<'_>,
-    new: Fresh<'_>,
-) -> Result<Reached, NoMemory>
-    requires same { old.base.now ≡ new.base.now }
-    ensures dirty { IfOk result (λ r. r.dirty ≡ reached old.base.now old.case.now new.case.now) }
-    ensures changes { IfOk result (λ r. AreChanges old.base.now old.case.now new.case.now r.changes.items) }
+fn reached_by<H: Held, K: Held>(alloc: Global, held: &H, coming: &K) -> Result<Reached, NoMemory>
+    requires same { H.rules held.now ≡ K.rules coming.now }
+    ensures dirty { IfOk result (λ r. r.dirty ≡ reached (K.rules coming.now) (H.held held.now) (K.held coming.now)) }
+    ensures changes { IfOk result (λ r. AreChanges (K.rules coming.now) (H.held held.now) (K.held coming.now) r.changes.items) }
 {
-    let dirty = dirty_slots(alloc, &old, &new)?;
-    let changes = changes(alloc, &old, &new)?;
+    let dirty = dirty_slots(alloc, held, coming)?;
+    let changes = changes(alloc, held, coming)?;
     Ok(Reached { dirty, changes })
 }
 
@@ -100,7 +98,7 @@ impl Session {
         let lines = determine(alloc, &self.base, &self.code, &case)?;
         let held = Fresh::new(&self.base, &self.case, &self.lines);
         let coming = Fresh::new(&self.base, &case, &lines);
-        let reached = reached_by(alloc, held, coming)?;
+        let reached = reached_by(alloc, &held, &coming)?;
         let count = count_of(reached.changes.as_slice())?;
         let lists = readied(alloc, listeners, reached.changes.as_slice())?;
         self.put(case, lines, reached.dirty);
