@@ -134,6 +134,21 @@ module _ {X : Type 0} (rule : Rule X) (Stops : X → List ℕ → X → Type 0) 
         wrote = h.wrote;
       }
 
+  -- among lines whose line feed was read
+  pub among_whole : (s s' : X) (whole rest read : List ℕ) (m w y : Option (List ℕ)) → whole ++ rest ≡ read → EndsLine whole → Halted rule Stops s s' (input_lines whole) w y → HaltedAmong rule Stops s s' read m w y
+  among_whole s s' whole rest read m w y cut ends h =
+      let more = whole_of rest in
+      let f = more.1 in (
+        whole ++ more.0,
+        inl (record {
+          rest = f.rest;
+          cut = append_assoc whole more.0 f.rest ∙ ap (λ t. whole ++ t) f.cut ∙ cut;
+          ends = EndsLine-append whole more.0 ends f.ends;
+          part = f.part;
+        }),
+        halted_more s s' whole more.0 w y ends h,
+      )
+
   -- among all lines of what was read
   pub halted_all : (s s' : X) (taken read : List ℕ) (m w y : Option (List ℕ)) → IsTaken taken read m → Halted rule Stops s s' (input_lines taken) w y → Halted rule Stops s s' (input_lines read) w y
   halted_all s s' taken read m w y is h =
@@ -187,18 +202,7 @@ module _ {X : Type 0} (rule : Rule X) (s : X) (w x : Option (List ℕ)) (asked :
 
     halted_among : (s' : X) (read : List ℕ) (m y : Option (List ℕ)) → BreaksAmong rule Stops (fresh_point s) s' read m x y → HaltedAmong rule Stops s s' read m w y
     halted_among s' read m y (inr b) = (read, inr (b.0, refl), halted s' read y b.1)
-    halted_among s' read m y (inl b) =
-        let more = whole_of b.rest in
-        let f = more.1 in (
-          b.whole ++ more.0,
-          inl (record {
-            rest = f.rest;
-            cut = append_assoc b.whole more.0 f.rest ∙ ap (λ t. b.whole ++ t) f.cut ∙ b.cut;
-            ends = EndsLine-append b.whole more.0 b.ends f.ends;
-            part = f.part;
-          }),
-          halted_more rule Stops s s' b.whole more.0 w y b.ends (halted s' b.whole y b.breaks),
-        )
+    halted_among s' read m y (inl b) = among_whole rule Stops s s' b.whole b.rest read m w y b.cut b.ends (halted s' b.whole y b.breaks)
 
     halts_at : (now : Point X) (most : ℕ) (read : List ℕ) (m y : Option (List ℕ)) (e : Halt) → FeedBreaksAt rule Stops (fresh_point s) now most read m x y e → HaltsAt rule Stops s now.state most read m w y e
     halts_at now most read m y halt.Input b = (b.0, paused now read y b.1)
