@@ -12,7 +12,7 @@ use Rattle.opa_talk.specs.Halt.{IsLineCause}
 use Rattle.opa_talk.specs.Lines.{lines_from, input_lines, EndsLine}
 use Rattle.opa_talk.specs.Transcript.{Rule, IsOver, Prints, IsTranscript}
 use Rattle.opa_talk.specs.Talk.{LeftAt, IsTaken, Halted, HaltedAmong, Paused, Converses, Halts, HaltsAt}
-use Rattle.opa_talk.specs.Points.{Point, fresh_point, is_empty, CarriesOut, Breaks, BreaksAmong, BreaksPart, GoesOn, TakesLines, Probes, Finishes, Feeds, FeedBreaks, FeedBreaksAt}
+use Rattle.opa_talk.specs.Points.{Point, fresh_point, is_empty, CarriesOut, Breaks, BreaksAmong, GoesOn, TakesLines, Probes, Finishes, Feeds, FeedBreaks, FeedBreaksAt}
 use Rattle.opa_talk.proofs.LinesLaws.{lines_from-append, EndsLine-append, part_none, whole_of}
 use Rattle.opa_talk.proofs.TranscriptLaws.{prints-append, prints_over}
 use Rattle.opa_talk.proofs.PointsLaws.{front_after, front_none, lines_two, breaks_behind}
@@ -82,15 +82,6 @@ module _ {X : Type 0} (rule : Rule X) (at now : Point X) (w x : Option (List ℕ
         let front : take most (lines.0 ++ probe.0) ≡ lines.0 = take-append-le most lines.0 probe.0 (omega (arith, lines.2)) ∙ take_all most lines.0 (omega (arith, lines.2)) in
         let P : List ℕ → Type 0 = λ s. GoesOn rule at now s w x in
         (lines.0 ++ probe.0, Consumes-append l m n lines.0 probe.0 lines.1 probe.1, (omega (arith, length-append lines.0 probe.0, lines.2, probe.2), subst P (sym front) lines.3))
-
-    -- the talk halts among pieces
-    pub part_breaks : (most : ℕ) (l m : Option (List ℕ)) (e : Halt) → BreaksPart rule Stops at now most l m w x e → FeedBreaks rule Stops at now most l m w x e
-    part_breaks most l m halt.Input b = (b.0, b.1, (b.2, b.3))
-    part_breaks most l m halt.Output b = (b.0, b.1, (b.2, inl b.3))
-    part_breaks most l m halt.Take b = (b.0, b.1, (b.2, inl b.3))
-    part_breaks most l m halt.Keep b = (b.0, b.1, (b.2, inl b.3))
-    part_breaks most l m halt.Memory b = (b.0, b.1, (b.2, inl b.3))
-    part_breaks most l m halt.Limit b = absurd b.3
 
     -- the talk halts at the last line
     last_breaks : (most : ℕ) (l m y : Option (List ℕ)) (new : Point X) → TakesLines rule at now most l m w x ending.End → Breaks rule Stops now new.state now.pending x y
