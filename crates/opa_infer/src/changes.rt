@@ -12,7 +12,7 @@ ghost use Rattle.opa_infer.specs.Sessions.{rules_of, held_of, reached_of, change
 use crate::session::Session;
 use crate::stepping::stepped;
 use crate::telling::readied;
-use opa_case::{Case, ChangeCommand, Refusal, step_fits};
+use opa_case::{Case, ChangeCommand, Refusal, models_are_shapes, step_fits};
 use opa_changes::{changes, dirty_slots};
 use opa_fresh::{Fresh, Lines, determine};
 use opa_io::NoMemory;
@@ -70,6 +70,7 @@ impl Session {
         ensures base { rules_of self.new ≡ rules_of self.old }
     {
         let _count = self.base.model.attribute_count();
+        models_are_shapes();
         step_fits();
         let next = stepped(alloc, &self.base, &self.case, command)?;
         let count = self.replace_case(alloc, next, listeners)?;

@@ -82,6 +82,7 @@ impl Session {
         ensures line { IfSome result (λ line. StandsFor DAYS (value_at (rules_of self.now) (held_of self.now) attr inst.now) line.now) }
         ensures none { is_some result ≡ slots.has_place (rules_of self.now) (held_of self.now) attr inst.now }
     {
+        let _case = self.case();
         match self.line(attr, inst) {
             Some(line) => Some(line),
             None => {

@@ -42,15 +42,19 @@ pub record IsMade (n : ℕ) (old new before after : Outside) : Type 0 where
   pub kept : new.files ≡ old.files
   pub unread : new.left ≡ old.left
 
+-- There was no memory for it, and nothing was done.
+abbrev pub RunsOut : Outside → Outside → Status → Type 0
+RunsOut old new result = (result ≡ status.NoMemory) × Appends old.written new.written [] × IsUnused old new
+
 -- The lines of the generated input were carried out over the generated rulebase; or there was no memory to make them.
 abbrev pub Generates : ℕ → Outside → Outside → Status → Type 0
 Generates n old new result =
-    ((result ≡ status.NoMemory) × Appends old.written new.written [] × IsUnused old new)
+    RunsOut old new result
     ⊎ ((before : Outside) × (after : Outside) × IsMade n old new before after × Runs a_run generated_name before after result)
 
 -- A number out of range is refused; for another so many people are generated.
 pub record IsGenerated (number : List ℕ) (old new : Outside) (result : Status) : Type 0 where
-  pub refuses : (n : ℕ) → SaysNumber n number → IsOutOfRange n → IsTold status.Refused refused_number old.written new.written old.writes new.writes result × IsUnused old new
+  pub refuses : (n : ℕ) → SaysNumber n number → IsOutOfRange n → RunsOut old new result ⊎ (IsTold status.Refused refused_number old.written new.written old.writes new.writes result × IsUnused old new)
   pub talks : (n : ℕ) → SaysNumber n number → 1 ≤ n → n ≤ 1000 → Generates n old new result
 
 -- the number is in range, or it isn't

@@ -52,3 +52,67 @@ fn input_of(alloc: Global, input: &str) -> Result<MemSource, NoMemory>
     let bytes = input.as_bytes().to_vec(alloc)?;
     Ok(MemSource::new(bytes, Vec::new(alloc), PIECE))
 }
+
+/// A generated rulebase on its shelf, and the input for it.
+#[derive(Drop)]
+struct Made {
+    shelf: MemShelf,
+    input: MemSource,
+}
+
+/// The generated rulebase, and the input of so many people.
+fn made(alloc: Global, size: u32) -> Result<Made, NoMemory>
+    requires least { 1 ≤ size }
+    requires most { size ≤ 1000 }
+    ensures files { IfOk result (λ m. ⟦<MemShelf as Shelf>⟧.files m.shelf ≡ Some generated_files) }
+    ensures input { IfOk result (λ m. ⟦<MemSource as Source>⟧.left m.input ≡ Some (input_text 1 size)) }
+{
+    let made = generate(alloc, 1, size)?;
+    let shelf = shelf_of(alloc, made.rules.as_str())?;
+    let input = input_of(alloc, made.input.as_str())?;
+    Ok(Made { shelf, input })
+}
+
+/// Carries out the generated input over the generated rulebase.
+fn talk_over<S: Source, F: Shelf, K: Sink>(
+    alloc: Global,
+    size: u32,
+    shelf: &F,
+    input: &S,
+    out: &mut K,
+    listeners: &mut Vec<Box<dyn Listener>>,
+) -> Status
+    requires least { 1 ≤ size }
+    requires most { size ≤ 1000 }
+    requires fewer { length listeners.old.items < 2 ^ 64 }
+    ensures { Generates size
+        (outside F.files F.take_faults F.keep_faults S.left S.faults K.written K.faults shelf.now (map (λ l. hearer (state l)) listeners.old.items) input.now out.old)
+        (outside F.files F.take_faults F.keep_faults S.left S.faults K.written K.faults shelf.now (map (λ l. hearer (state l)) listeners.new.items) input.now out.new) result }
+{
+    let Ok(made) = made(alloc, size) else {
+        return Status::NoMemory;
+    };
+    let mut rules = made.shelf;
+    let mut lines = made.input;
+    open_and_talk(alloc, NAME, &mut rules, listeners, &mut lines, out)
+}
+
+/// The transcript of the generated rulebase and its input, or the refusal of a number.
+pub(crate) fn generated<S: Source, F: Shelf, K: Sink>(
+    alloc: Global,
+    number: &str,
+    shelf: &F,
+    input: &S,
+    out: &mut K,
+    listeners: &mut Vec<Box<dyn Listener>>,
+) -> Status
+    requires fewer { length listeners.old.items < 2 ^ 64 }
+    ensures { IsGenerated number.now
+        (outside F.files F.take_faults F.keep_faults S.left S.faults K.written K.faults shelf.now (map (λ l. hearer (state l)) listeners.old.items) input.now out.old)
+        (outside F.files F.take_faults F.keep_faults S.left S.faults K.written K.faults shelf.now (map (λ l. hearer (state l)) listeners.new.items) input.now out.new) result }
+{
+    match size_of(number) {
+        None => tell(Status::Refused, out, "refused: number\n"),
+        Some(size) => talk_over(alloc, size, shelf, input, out, listeners),
+    }
+}

@@ -2,6 +2,7 @@
 #![tactic(auto)]
 
 mod check;
+mod generating;
 mod talk;
 mod top;
 
