@@ -55,13 +55,13 @@ fn input_of(alloc: Global, input: &str) -> Result<MemSource, NoMemory>
 
 /// A generated rulebase on its shelf, and the input for it.
 #[derive(Drop)]
-struct Made {
+struct Example {
     shelf: MemShelf,
     input: MemSource,
 }
 
 /// The generated rulebase, and the input of so many people.
-fn made(alloc: Global, size: u32) -> Result<Made, NoMemory>
+fn example(alloc: Global, size: u32) -> Result<Example, NoMemory>
     requires least { 1 ≤ size }
     requires most { size ≤ 1000 }
     ensures files { IfOk result (λ m. ⟦<MemShelf as Shelf>⟧.files m.shelf ≡ Some generated_files) }
@@ -70,7 +70,7 @@ fn made(alloc: Global, size: u32) -> Result<Made, NoMemory>
     let made = generate(alloc, 1, size)?;
     let shelf = shelf_of(alloc, made.rules.as_str())?;
     let input = input_of(alloc, made.input.as_str())?;
-    Ok(Made { shelf, input })
+    Ok(Example { shelf, input })
 }
 
 /// Carries out the generated input over the generated rulebase.
@@ -89,11 +89,11 @@ fn talk_over<S: Source, F: Shelf, K: Sink>(
         (outside F.files F.take_faults F.keep_faults S.left S.faults K.written K.faults shelf.now (map (λ l. hearer (state l)) listeners.old.items) input.now out.old)
         (outside F.files F.take_faults F.keep_faults S.left S.faults K.written K.faults shelf.now (map (λ l. hearer (state l)) listeners.new.items) input.now out.new) result }
 {
-    let Ok(made) = made(alloc, size) else {
+    let Ok(found) = example(alloc, size) else {
         return Status::NoMemory;
     };
-    let mut rules = made.shelf;
-    let mut lines = made.input;
+    let mut rules = found.shelf;
+    let mut lines = found.input;
     open_and_talk(alloc, NAME, &mut rules, listeners, &mut lines, out)
 }
 

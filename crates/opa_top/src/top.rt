@@ -9,9 +9,10 @@ ghost use Rattle.opa_top.specs.Promises.{Asks, Promises, words_of};
 ghost use Rattle.opa_top.specs.Running.{outside, IsUnused, Runs, a_run, an_interview};
 ghost use Rattle.opa_top.specs.Statuses.{SaysUsage};
 
+use crate::asking::open_and_ask;
 use crate::check::{check, tell};
 use crate::generating::generated;
-use crate::talk::{open_and_ask, open_and_talk};
+use crate::talk::open_and_talk;
 use opa_decided::{one_opening, one_transcript};
 use opa_io::{Shelf, Sink, Source, Status};
 use opa_listen::Listener;

@@ -4,8 +4,8 @@ use Rattle.opa_top.proofs.generating.talk_over.Goals as goal
 
 pub returns : goal.returns
 returns g c = inr (_, _, record {
-  files = c.in_ok-made.ensures.files;
-  input = c.in_ok-made.ensures.input;
+  files = c.in_ok-found.ensures.files;
+  input = c.in_ok-found.ensures.input;
   written_before = refl;
   written_after = refl;
   hearers_before = refl;
