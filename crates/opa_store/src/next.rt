@@ -59,10 +59,9 @@ pub struct Answered<'a> {
 }
 
 impl<'a> Next for Answered<'a> {
-    ghost use Rattle.opa_store.specs.Nexts.{answered};
-    ghost use Rattle.std.specs.Option.{option_copied};
+    ghost use Rattle.opa_store.specs.Nexts.{case_with};
 
-    ghost next = { λ n. answered n.case.now n.attr n.inst.now (option_copied n.line) };
+    ghost next = { λ n. case_with n };
 
     fn answer_of(&self, attr: AttrId, inst: &InstanceId) -> Option<&Line<Value>> {
         if attr.0 == self.attr.0 && inst.equals(self.inst) {

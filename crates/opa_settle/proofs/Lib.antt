@@ -1,0 +1,5 @@
+pub mod Adding
+pub mod Marking
+pub mod Tasking
+pub mod Answered
+pub mod Settles

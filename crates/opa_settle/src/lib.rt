@@ -1,0 +1,14 @@
+//! Only what a change reaches is derived again.
+#![tactic(auto)]
+
+mod answer;
+mod settling;
+mod starting;
+mod task;
+mod tasks;
+
+pub use answer::settle_answer;
+pub use settling::settle;
+pub use starting::{mark, start_answer};
+pub use task::Task;
+pub use tasks::Tasks;
