@@ -57,12 +57,11 @@ module _ (r : Rulebase) (old : CaseView) (a : AttrId) (i : InstanceId) (o : Opti
       go true e = let both = same_slot m j a i e in (sym both.0, sym both.1)
       go false e =
           let same : get (answers_with old.answers a i o) (m.0, j) ≡ get old.answers (m.0, j) = got_with old.answers a i o (m.0, j) ∙ ap (λ b. cond b o (get old.answers (m.0, j))) e in
-          absurd (cc (
-            told,
-            answers_differ r old (answered old a i o) before after m j none,
-            ap (λ x. is_some (first_difference DAYS (line_value (get old.answers (m.0, j))) (line_value x))) same,
-            ap is_some (none_where_same DAYS (line_value (get old.answers (m.0, j))) (line_value (get old.answers (m.0, j))) (λ d lt. refl)),
-          ))
+          let none_told : is_told s (question.Attr m j) ≡ false =
+          answers_differ r old (answered old a i o) before after m j none
+          ∙ ap (λ x. is_some (first_difference DAYS (line_value (get old.answers (m.0, j))) (line_value x))) same
+          ∙ ap is_some (none_where_same DAYS (line_value (get old.answers (m.0, j))) (line_value (get old.answers (m.0, j))) (λ d lt. refl)) in
+          absurd (cc (told, none_told))
 
   no_rule : (m : AttrId) (j : InstanceId) → is_given r (question.Attr m j) ≡ true → is_some (rule_of r.rules m) ≡ false
   no_rule m j given = go (is_some (rule_of r.rules m)) refl

@@ -2,4 +2,5 @@ pub mod Adding
 pub mod Marking
 pub mod Tasking
 pub mod Answered
+pub mod Changed
 pub mod Settles

@@ -2,12 +2,14 @@
 #![tactic(auto)]
 
 mod answer;
+mod changing;
 mod settling;
 mod starting;
 mod task;
 mod tasks;
 
 pub use answer::settle_answer;
+pub use changing::{Reading, start_change};
 pub use settling::settle;
 pub use starting::{mark, start_answer};
 pub use task::Task;
