@@ -3,6 +3,7 @@
 
 mod answer;
 mod changing;
+mod laws;
 mod settling;
 mod starting;
 mod task;
@@ -10,6 +11,7 @@ mod tasks;
 
 pub use answer::settle_answer;
 pub use changing::{Reading, start_change};
+pub use laws::same_are_current;
 pub use settling::settle;
 pub use starting::{mark, start_answer};
 pub use task::Task;
