@@ -24,7 +24,7 @@ use Rattle.opa_mean.specs.Sameness.{same_question, same_lists, same_options}
 use Rattle.opa_mean.specs.Slots.{is_slot, has_place}
 use Rattle.opa_mean.proofs.Everywhere.{each_of_all}
 use Rattle.opa_mean.proofs.Exact.{lists_exact, question_exact}
-use Rattle.opa_changes.specs.Reaching.{has_stayed, reads_same, AreSlots, ArePlaced, HasPlaceIn}
+use Rattle.opa_changes.specs.Reaching.{AreSlots, ArePlaced, HasPlaceIn}
 
 some_is : {X : Type 0} (o : Option X) → is_some o ≡ true → IsSome o
 some_is None h = absurd (cc h)

@@ -10,6 +10,6 @@ mod tell;
 mod walk;
 
 pub use laws::told_once;
-pub use reach::dirty_slots;
+pub use reach::{dirty_slots, is_fresh};
 pub use tell::changes;
-pub use walk::{slot_count, slots};
+pub use walk::{live_slots, slot_count, slots};

@@ -24,7 +24,7 @@ pub fn slots<H: Held>(
 {
     let base = held.base();
     let case = held.case();
-    let all = slots_of(alloc, base, case)?;
+    let all = live_slots(alloc, base, case)?;
     Ok(all)
 }
 
@@ -36,8 +36,8 @@ pub fn slot_count<H: Held>(alloc: Global, held: &H) -> Result<u64, NoMemory>
     Ok(all.len() as u64)
 }
 
-/// The live slots of a case.
-pub(crate) fn slots_of(
+/// The same of a case that fits a rulebase.
+pub fn live_slots(
     alloc: Global,
     base: &Rulebase,
     case: &Case,

@@ -6,8 +6,8 @@ use Rattle.opa_mean.specs.Given.{base_of, facts_of}
 use Rattle.opa_changes.proofs.Reached.{is_of_same}
 use Rattle.opa_changes.proofs.walk.slots.Goals as goal
 
-pub slots_of-requires : goal.slots_of-requires
-slots_of-requires g c = is_of_same _ _ _ _ c.base-base.ensures c.case-case.ensures.case c.case-case.ensures.fits
+pub live_slots-requires : goal.live_slots-requires
+live_slots-requires g c = is_of_same _ _ _ _ c.base-base.ensures c.case-case.ensures.case c.case-case.ensures.fits
 
 pub returns : goal.returns
 returns g c =
