@@ -5,13 +5,14 @@ mod Checked
 mod Declared
 mod FileLoading
 mod FirstOfFaults
+mod Interviewing
 mod Laid
 mod LawsHold
 mod LineFaults
 mod Opened
 mod Reading
 mod Refused
+mod ReplyFaults
 mod Replying
-mod Showing
 mod Taken
 mod Transcripts

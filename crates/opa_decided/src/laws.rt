@@ -1,32 +1,49 @@
 // Nothing else can be printed.
 ghost use Rattle.opa_script.specs.Laws.{RefusedOrRead};
+ghost use Rattle.opa_reply.specs.Interviews.{interview};
+ghost use Rattle.opa_reply.specs.Replies.{conversation};
 ghost use Rattle.opa_decided.specs.Laws as law;
+
+use opa_changes::told_once;
+use opa_told::one_report_told;
 
 /// A line has at most one fault but for want of memory, and a line that is a command has none.
 pub fn one_command_fault()
     ensures fault { law.OneCommandFault }
     ensures apart { RefusedOrRead }
+    ensures reply { law.OneReplyFault }
 {}
 
-/// `show` prints one text, of an attribute and of a list.
-pub fn one_shown()
-    ensures value { law.OneShown }
-    ensures list { law.OneListShown }
-{}
-
-/// Where files are told, loading a file prints one text, and leaves one case.
+/// Where files are told, loading a file prints one text, and loads one case or none.
 pub fn one_loaded()
     ensures { law.OneLoaded }
 {}
 
-/// Where files are told, a line prints one text and leaves one thing; the rulebase stays, and files are told again.
+/// Where files are told, a line of a run prints one text and leaves one thing; the rulebase stays, and files are told again.
 pub fn one_reply()
-    ensures reply { law.OneReply }
-    ensures base { law.SameBase }
-    ensures told { law.StaysTold }
-{}
+    ensures reply { law.OneReply conversation }
+    ensures base { law.SameBase conversation }
+    ensures told { law.StaysTold conversation }
+{
+    told_once();
+    one_report_told();
+}
+
+/// The same of a line of an interview.
+pub fn one_answer()
+    ensures reply { law.OneReply interview }
+    ensures base { law.SameBase interview }
+    ensures told { law.StaysTold interview }
+{
+    told_once();
+    one_report_told();
+}
 
 /// Where files are told, lines have one transcript, and leave one thing.
 pub fn one_transcript()
-    ensures { law.OneTranscript }
-{}
+    ensures run { law.OneTranscript conversation }
+    ensures interview { law.OneTranscript interview }
+{
+    one_reply();
+    one_answer();
+}

@@ -10,4 +10,4 @@ mod told;
 pub use by_rank::determine;
 pub use laws::{each_once, exactly_the_live};
 pub use lines::Lines;
-pub use told::Fresh;
+pub use told::{Fresh, told_line};

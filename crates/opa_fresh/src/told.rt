@@ -66,7 +66,7 @@ impl<'a> Held for Fresh<'a> {
 }
 
 /// The line of a conclusion, or else the answer.
-fn told_line<'a>(
+pub fn told_line<'a>(
     base: &'a Rulebase,
     case: &'a Case,
     lines: &'a Lines,

@@ -1,5 +1,8 @@
 mod Changing
-mod Days
+mod Dismissing
 mod LoadLaws
+mod ReadLaws
 mod ReplyLaws
+mod Same
 mod Saving
+mod Settling

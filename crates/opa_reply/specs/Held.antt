@@ -1,28 +1,34 @@
--- What is held between two lines: a rulebase, a case, and the files of a shelf, where they are told.
-use Rattle.std.specs.Prelude.{Option}
+-- What is held between two lines: a rulebase, a case, how many slots the last change reached, what listeners watch and keep, and
+-- the files of a shelf, where they are told.
+use Rattle.std.specs.Prelude.{ℕ, List, Option}
 use Rattle.opa_io.specs.Outside.{Files}
 use Rattle.opa_case.specs.Cases.{CaseView, no_case}
+use Rattle.opa_listen.specs.Hearing.{Hearer}
 use Rattle.opa_tree.specs.declared.rulebase.Rulebase.{Rulebase}
+use Rattle.opa_infer.specs.declared.session.Session.{Session}
+use Rattle.opa_infer.specs.Sessions.{rules_of, held_of, reached_of}
 
-abbrev pub Held : Type 0
-Held = (Rulebase × CaseView) × Option Files
+pub record Held : Type 0 where
+  pub rules : Rulebase
+  pub case : CaseView
+  pub reached : ℕ
+  pub hearers : List Hearer
+  pub files : Option Files
 
-abbrev pub held : Rulebase → CaseView → Option Files → Held
-held base case files = ((base, case), files)
+abbrev pub held : Rulebase → CaseView → ℕ → List Hearer → Option Files → Held
+held rules case reached hearers files = record { rules = rules; case = case; reached = reached; hearers = hearers; files = files }
 
-abbrev pub base_in : Held → Rulebase
-base_in x = x.0.0
+-- a session, beside what listeners hear and the files
+abbrev pub beside : Session → List Hearer → Option Files → Held
+beside s hearers files = held (rules_of s) (held_of s) (reached_of s) hearers files
 
-abbrev pub case_in : Held → CaseView
-case_in x = x.0.1
+-- other listeners, or other files
+abbrev pub with_hearers : Held → List Hearer → Held
+with_hearers x hearers = held x.rules x.case x.reached hearers x.files
 
-abbrev pub files_in : Held → Option Files
-files_in x = x.1
+abbrev pub with_files : Held → Option Files → Held
+with_files x files = held x.rules x.case x.reached x.hearers files
 
--- with another case
-abbrev pub with_case : Held → CaseView → Held
-with_case x case = held (base_in x) case (files_in x)
-
--- at first nothing is known of the case
-abbrev pub at_first : Rulebase → Option Files → Held
-at_first base files = held base no_case files
+-- at first nothing is known of the case, and nothing was changed
+abbrev pub at_first : Rulebase → List Hearer → Option Files → Held
+at_first rules hearers files = held rules no_case 0 hearers files

@@ -1,6 +1,7 @@
+pub mod Dismissals
 pub mod Held
+pub mod Interviews
 pub mod Lines
 pub mod Refused
 pub mod Loads
-pub mod Shown
 pub mod Replies

@@ -1,4 +1,4 @@
--- What loading a file prints, and the case that is held after it.
+-- What loading a file prints, and the case that is loaded.
 use Rattle.std.specs.Prelude.{◌≡◌, ◌≢◌, ◌≤◌, ℕ, List, [], ◌∷◌, ◌++◌, length, codes, Option, None, Some}
 use Rattle.std.specs.FinMap as map
 use Rattle.opa_io.specs.Outside.{Files, IsFile, IsTooLong}
@@ -25,10 +25,10 @@ loaded_text origin.First = codes "loaded from version 1" ++ 10 ∷ []
 abbrev pub refused_load : ℕ → List ℕ
 refused_load n = refused (codes "load") n
 
--- The bytes are a saved case, which is held then; or they are refused, and the case is held as it was.
-pub data LoadsBytes (r : Rulebase) (c : CaseView) (bytes : List ℕ) : List ℕ → CaseView → Type 0 where
-  loads : (d : CaseView) (o : Origin) → IsLoaded r.model r.ruled bytes d o → LoadsBytes r c bytes (loaded_text o) d
-  refuses : (f : LoadFault) → f ≢ fault.NoMemory → HasLoadFault r.model r.ruled bytes f → LoadsBytes r c bytes (refused_load (fault_number f)) c
+-- The bytes are a saved case, or they are refused.
+pub data LoadsBytes (r : Rulebase) (bytes : List ℕ) : List ℕ → Option CaseView → Type 0 where
+  loads : (c : CaseView) (o : Origin) → IsLoaded r.model r.ruled bytes c o → LoadsBytes r bytes (loaded_text o) (Some c)
+  refuses : (f : LoadFault) → f ≢ fault.NoMemory → HasLoadFault r.model r.ruled bytes f → LoadsBytes r bytes (refused_load (fault_number f)) None
 
 -- no file has this name, where files are told
 abbrev pub IsNoFile : Option Files → List ℕ → Type 0
@@ -36,7 +36,7 @@ IsNoFile None name = Unit {0}
 IsNoFile (Some files) name = map.get files name ≡ None
 
 -- The file of this name is loaded; one of more than 8,388,608 bytes, and a name without a file, are refused.
-pub data Loads (r : Rulebase) (c : CaseView) (told : Option Files) (name : List ℕ) : List ℕ → CaseView → Type 0 where
-  of_bytes : (bytes text : List ℕ) (d : CaseView) → IsFile told name bytes → length bytes ≤ FILE_MOST → LoadsBytes r c bytes text d → Loads r c told name text d
-  too_long : IsTooLong told name FILE_MOST → Loads r c told name (refused_load 6) c
-  missing : IsNoFile told name → Loads r c told name (refused_load 7) c
+pub data Loads (r : Rulebase) (told : Option Files) (name : List ℕ) : List ℕ → Option CaseView → Type 0 where
+  of_bytes : (bytes text : List ℕ) (o : Option CaseView) → IsFile told name bytes → length bytes ≤ FILE_MOST → LoadsBytes r bytes text o → Loads r told name text o
+  too_long : IsTooLong told name FILE_MOST → Loads r told name (refused_load 6) None
+  missing : IsNoFile told name → Loads r told name (refused_load 7) None

@@ -23,6 +23,6 @@ refused_command f = refused (codes "command") (fault_number f)
 abbrev pub refused_change : Refusal → List ℕ
 refused_change e = refused (codes "change") (number_of e)
 
--- where the instance isn't live, or is of another entity
-abbrev pub refused_point : List ℕ
-refused_point = codes "refused: point" ++ 10 ∷ []
+-- where no listener has the number
+abbrev pub refused_dismiss : List ℕ
+refused_dismiss = codes "refused: dismiss" ++ 10 ∷ []

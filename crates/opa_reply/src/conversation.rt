@@ -1,18 +1,21 @@
-// A session as what answers lines.
-ghost use Rattle.std.specs.Prelude.{◌≡◌, IfOk};
-ghost use Rattle.opa_case.specs.Cases.{CaseView, no_case};
-ghost use Rattle.opa_tree.specs.declared.rulebase.Rulebase.{Rulebase as Base};
-ghost use Rattle.opa_session.specs.Sessions.{rules_of, held_of};
+// A session as what answers the lines of a run.
+ghost use Rattle.std.specs.Prelude.{◌≡◌, List, Option, IfOk};
+ghost use Rattle.opa_io.specs.Outside.{Files};
+ghost use Rattle.opa_listen.specs.Hearing.{Hearer};
+ghost use Rattle.opa_reply.specs.Held.{Held as Holding, beside, at_first};
 ghost use Rattle.opa_reply.specs.Replies.{conversation, Stops};
 
-use crate::replying::reply;
+use crate::carrying::respond;
+use crate::replying::asked;
+use opa_infer::Session;
 use opa_io::{NoMemory, Shelf};
-use opa_session::Session;
+use opa_listen::Listener;
+use opa_mean::Held;
 use opa_talk::{Halt, Prompt, Replier};
 use opa_tree::Rulebase;
 use std::alloc::Global;
 
-/// A session that answers lines.
+/// A session that answers lines: each is a command.
 #[derive(Drop)]
 pub struct Conversation {
     session: Session,
@@ -21,7 +24,7 @@ pub struct Conversation {
 impl Conversation {
     /// Nothing is known of the case.
     pub fn start(alloc: Global, base: Rulebase) -> Result<Conversation, NoMemory>
-        ensures { IfOk result (λ c. ⟦<Conversation as Replier>⟧.state c ≡ (base, no_case)) }
+        ensures { IfOk result (λ c. (hearers : List Hearer) (files : Option Files) → ⟦<Conversation as Replier>⟧.held c hearers files ≡ at_first base hearers files) }
     {
         let session = Session::start(alloc, base)?;
         Ok(Conversation { session })
@@ -29,13 +32,13 @@ impl Conversation {
 }
 
 impl Replier for Conversation {
-    ghost State = { Base × CaseView };
+    ghost Held = { Holding };
 
     ghost rule = { conversation };
 
     ghost Stops = { Stops };
 
-    ghost state = { λ c. (rules_of c.session, held_of c.session) };
+    ghost held = { λ c hearers files. beside c.session hearers files };
 
     fn prompt(&self, alloc: Global) -> Result<Prompt, NoMemory> {
         Ok(Prompt {
@@ -44,12 +47,15 @@ impl Replier for Conversation {
         })
     }
 
+    #[tactic(auto, using(crate::proofs::ReplyLaws::replying))]
     fn reply<F: Shelf>(
         &mut self,
         alloc: Global,
         shelf: &mut F,
+        listeners: &mut Vec<Box<dyn Listener>>,
         line: &[u8],
     ) -> Result<Vec<u8>, Halt> {
-        reply(alloc, &mut self.session, shelf, line)
+        let read = asked(alloc, &self.session.base().model, line);
+        respond(alloc, &mut self.session, shelf, listeners, read)
     }
 }

@@ -1,14 +1,15 @@
 // A case is kept under a name.
-ghost use Rattle.std.specs.Prelude.{◌≡◌, ◌≤◌, IfOk, OnErr, IfErr};
+ghost use Rattle.std.specs.Prelude.{◌≡◌, ◌≤◌, List, IfOk, OnErr, IfErr};
 ghost use Rattle.opa_talk.specs.Halt.{IsReplyCause};
-ghost use Rattle.opa_session.specs.Sessions.{rules_of, held_of};
+ghost use Rattle.opa_listen.specs.Hearing.{Hearer};
 ghost use Rattle.opa_script.specs.declared.command.Command.TheVariants as commands;
-ghost use Rattle.opa_reply.specs.Held.{held};
+ghost use Rattle.opa_reply.specs.Held.{beside};
 ghost use Rattle.opa_reply.specs.Replies.{CarriesOut, HaltsAt};
 
+use opa_infer::Session;
 use opa_io::{Shelf, Txt};
+use opa_mean::Held;
 use opa_saved::saved_text;
-use opa_session::Session;
 use opa_talk::Halt;
 use std::alloc::Global;
 
@@ -20,8 +21,8 @@ pub(crate) fn save<F: Shelf>(
     shelf: &mut F,
     name: &Txt,
 ) -> Result<Vec<u8>, Halt>
-    ensures ok { IfOk result (λ t. CarriesOut (commands.Save name.now) (held (rules_of session.now) (held_of session.now) (F.files shelf.old)) t.items (held (rules_of session.now) (held_of session.now) (F.files shelf.new))) }
-    ensures err { OnErr result (HaltsAt (F.keep_faults shelf.old) (F.keep_faults shelf.new) (commands.Save name.now) (held (rules_of session.now) (held_of session.now) (F.files shelf.old)) (held (rules_of session.now) (held_of session.now) (F.files shelf.new))) }
+    ensures ok { IfOk result (λ t. (hearers : List Hearer) → CarriesOut (commands.Save name.now) (beside session.now hearers (F.files shelf.old)) t.items (beside session.now hearers (F.files shelf.new))) }
+    ensures err { OnErr result ((hearers : List Hearer) → HaltsAt (F.keep_faults shelf.old) (F.keep_faults shelf.new) (commands.Save name.now) (beside session.now hearers (F.files shelf.old)) (beside session.now hearers (F.files shelf.new))) }
     ensures cause { IfErr result (IsReplyCause (F.take_faults shelf.old) (F.take_faults shelf.new) (F.keep_faults shelf.old) (F.keep_faults shelf.new)) }
     ensures later_take { F.take_faults shelf.old ≤ F.take_faults shelf.new }
     ensures later_keep { F.keep_faults shelf.old ≤ F.keep_faults shelf.new }

@@ -1,14 +1,16 @@
-//! What a line of the input prints, and what is held after it.
+//! What a line of the input prints, and what is held after it, in a run and in an interview.
 #![tactic(auto)]
 
+mod carrying;
 mod changes;
 mod conversation;
+mod dismissing;
 mod files;
+mod interview;
 mod lines;
 mod loading;
 mod refused;
 mod replying;
-mod shown;
 
 pub use conversation::Conversation;
-pub use replying::reply;
+pub use interview::Interview;

@@ -1,7 +1,11 @@
 // A line of the input, as it is read.
-ghost use Rattle.std.specs.Prelude.{◌≡◌};
+ghost use denote.Ref.{Bor};
+ghost use Rattle.std.specs.Option.{option_map};
+ghost use Rattle.std.specs.Prelude.{◌≡◌, ℕ, List as Seq};
+ghost use Rattle.opa_script.specs.Replies.{slashed};
 ghost use Rattle.std.specs.Str.Lines.{strip_carriage_return};
 ghost use Rattle.opa_script.specs.Lines as script;
+ghost use Rattle.opa_reply.specs.Interviews as meant_asked;
 ghost use Rattle.opa_reply.specs.Lines as meant;
 
 /// How many bytes a line may have.
@@ -67,4 +71,31 @@ pub(crate) fn is_too_long(line: &[u8]) -> bool
     ensures { result ≡ meant.is_too_long line.now }
 {
     bytes_of(line).len() > LONGEST && !is_idle(text_of(line))
+}
+
+/// What follows a slash that is the first character but blanks.
+fn behind_slash(text: &[u8]) -> Option<&[u8]>
+    ensures { option_map (λ (r : Bor (Seq ℕ)). r.now) result ≡ slashed text.now }
+{
+    match past_blanks(text) {
+        [] => None,
+        [first, rest @ ..] => if *first == b'/' { Some(rest) } else { None },
+    }
+}
+
+/// Whether a text is blank or a comment, also behind a slash.
+fn is_idle_reply(text: &[u8]) -> bool
+    ensures { result ≡ meant_asked.is_idle_reply text.now }
+{
+    match behind_slash(text) {
+        Some(rest) => is_idle(rest),
+        None => is_idle(text),
+    }
+}
+
+/// Whether a line of an interview is neither blank nor a comment, also behind a slash, and has more bytes than a line may have.
+pub(crate) fn is_long_reply(line: &[u8]) -> bool
+    ensures { result ≡ meant_asked.is_long_reply line.now }
+{
+    bytes_of(line).len() > LONGEST && !is_idle_reply(text_of(line))
 }

@@ -1,20 +1,37 @@
 // A case is loaded from a file.
-ghost use Rattle.std.specs.Prelude.{◌≡◌, ◌≢◌, ◌≤◌, IfOk, OnErr, IfErr};
+ghost use Rattle.std.specs.Prelude.{◌≡◌, ◌≢◌, ◌≤◌, ◌<◌, ◌^◌, Option, length, map, IfOk, IfSome, OnErr, IfErr};
+ghost use Rattle.opa_case.specs.Fits.{Fits};
+ghost use Rattle.opa_case.specs.Shapes.{shape_of};
+ghost use Rattle.opa_infer.specs.Sessions.{rules_of, held_of, reached_of};
+ghost use Rattle.opa_io.specs.Outside.{Files};
+ghost use Rattle.opa_listen.specs.Hearing.{hearer};
 ghost use Rattle.opa_talk.specs.Halt.{IsReplyCause};
 ghost use Rattle.opa_saved.specs.declared.fault.LoadFault.TheVariants as faults;
 ghost use Rattle.opa_saved.specs.Faults.{fault_number};
-ghost use Rattle.opa_session.specs.Sessions.{rules_of, held_of};
+ghost use Rattle.opa_reply.specs.Held.{beside};
 ghost use Rattle.opa_reply.specs.Loads.{loaded_text as origin_text, refused_load as load_text, LoadsBytes, Loads};
+ghost use Rattle.opa_reply.specs.Replies.{Settles, LoadsFile};
 
 use crate::refused::refused;
+use opa_case::Case;
+use opa_infer::Session;
 use opa_io::{NoMemory, Shelf, TakeFault, Txt};
+use opa_listen::Listener;
+use opa_mean::Held;
 use opa_saved::{LoadFault, Origin, load};
-use opa_session::Session;
 use opa_talk::Halt;
+use opa_tree::Rulebase;
 use std::alloc::Global;
 
 /// How many bytes a saved case may have.
 const FILE_MOST: u64 = 8_388_608;
+
+/// What is printed of a file, and the case that was loaded, if one was.
+#[derive(Drop)]
+struct Loading {
+    text: Vec<u8>,
+    case: Option<Case>,
+}
 
 /// Where a case came from.
 fn loaded_text(alloc: Global, origin: Origin) -> Result<Vec<u8>, NoMemory>
@@ -43,38 +60,45 @@ fn refused_load(alloc: Global, fault: LoadFault) -> Result<Vec<u8>, NoMemory>
     }
 }
 
-/// Loads a case from bytes. All memory is taken before it takes the place of the one that is held.
-#[tactic(auto, using(crate::proofs::LoadLaws::of_bytes))]
-fn load_bytes(alloc: Global, session: &mut Session, bytes: &[u8]) -> Result<Vec<u8>, NoMemory>
-    ensures ok { IfOk result (λ t. LoadsBytes (rules_of session.old) (held_of session.old) bytes.now t.items (held_of session.new)) }
-    ensures err { OnErr result (held_of session.new ≡ held_of session.old) }
-    ensures base { rules_of session.new ≡ rules_of session.old }
+/// A refusal of a file.
+fn refusal(text: Vec<u8>) -> Loading
+    ensures text { result.text.items ≡ text.items }
+    ensures case { result.case ≡ None }
 {
-    let base = session.base();
+    Loading { text, case: None }
+}
+
+/// Reads a case from bytes.
+#[tactic(auto, using(crate::proofs::LoadLaws::of_bytes))]
+fn load_bytes(alloc: Global, base: &Rulebase, bytes: &[u8]) -> Result<Loading, NoMemory>
+    ensures ok { IfOk result (λ l. LoadsBytes base.now bytes.now l.text.items l.case) }
+    ensures fits { IfOk result (λ l. IfSome l.case (Fits (shape_of base.now.model) base.now.ruled)) }
+{
     match load(alloc, &base.model, &base.ruled, bytes) {
         Ok(loaded) => {
             let text = loaded_text(alloc, loaded.origin)?;
-            session.replace_case(loaded.case);
-            Ok(text)
+            Ok(Loading {
+                text,
+                case: Some(loaded.case),
+            })
         }
         Err(fault) => {
             let text = refused_load(alloc, fault)?;
-            Ok(text)
+            Ok(refusal(text))
         }
     }
 }
 
-/// Loads a case from the file of this name.
+/// Reads a case from the file of this name.
 #[tactic(auto, using(crate::proofs::LoadLaws::of_files))]
-pub(crate) fn load_file<F: Shelf>(
+fn read_file<F: Shelf>(
     alloc: Global,
-    session: &mut Session,
+    base: &Rulebase,
     shelf: &mut F,
     name: &Txt,
-) -> Result<Vec<u8>, Halt>
-    ensures ok { IfOk result (λ t. Loads (rules_of session.old) (held_of session.old) (F.files shelf.old) name.now t.items (held_of session.new)) }
-    ensures err { OnErr result (held_of session.new ≡ held_of session.old) }
-    ensures base { rules_of session.new ≡ rules_of session.old }
+) -> Result<Loading, Halt>
+    ensures ok { IfOk result (λ l. Loads base.now (F.files shelf.old) name.now l.text.items l.case) }
+    ensures fits { IfOk result (λ l. IfSome l.case (Fits (shape_of base.now.model) base.now.ruled)) }
     ensures files { F.files shelf.new ≡ F.files shelf.old }
     ensures cause { IfErr result (IsReplyCause (F.take_faults shelf.old) (F.take_faults shelf.new) (F.keep_faults shelf.old) (F.keep_faults shelf.new)) }
     ensures later_take { F.take_faults shelf.old ≤ F.take_faults shelf.new }
@@ -82,18 +106,65 @@ pub(crate) fn load_file<F: Shelf>(
 {
     match shelf.take(alloc, name.as_str(), FILE_MOST) {
         Ok(bytes) => {
-            let text = load_bytes(alloc, session, bytes.as_slice())?;
-            Ok(text)
+            let loading = load_bytes(alloc, base, bytes.as_slice())?;
+            Ok(loading)
         }
         Err(TakeFault::Missing) => {
             let text = refused(alloc, "load", 7)?;
-            Ok(text)
+            Ok(refusal(text))
         }
         Err(TakeFault::TooLong) => {
             let text = refused(alloc, "load", 6)?;
-            Ok(text)
+            Ok(refusal(text))
         }
         Err(TakeFault::Failed) => Err(Halt::Take),
         Err(TakeFault::NoMemory) => Err(Halt::Memory),
     }
+}
+
+/// Puts a case that was loaded in the place of the one that is held.
+#[tactic(auto, using(crate::proofs::Settling::settling))]
+fn settle(
+    alloc: Global,
+    session: &mut Session,
+    listeners: &mut Vec<Box<dyn Listener>>,
+    case: Option<Case>,
+) -> Result<(), NoMemory>
+    requires fits { IfSome case (Fits (shape_of (rules_of session.old).model) (rules_of session.old).ruled) }
+    requires fewer { length listeners.old.items < 2 ^ 64 }
+    ensures ok { IfOk result (λ _. (files : Option Files) → Settles (beside session.old (map (λ l. hearer (state l)) listeners.old.items) files) case (beside session.new (map (λ l. hearer (state l)) listeners.new.items) files)) }
+    ensures case { OnErr result (held_of session.new ≡ held_of session.old) }
+    ensures still { OnErr result (reached_of session.new ≡ reached_of session.old) }
+    ensures quiet { OnErr result (map (λ l. hearer (state l)) listeners.new.items ≡ map (λ l. hearer (state l)) listeners.old.items) }
+    ensures base { rules_of session.new ≡ rules_of session.old }
+{
+    match case {
+        None => Ok(()),
+        Some(case) => {
+            session.replace_case(alloc, case, listeners)?;
+            Ok(())
+        }
+    }
+}
+
+/// Loads a case from the file of this name, and answers what is printed of it.
+#[tactic(auto, using(crate::proofs::Settling::loads_file))]
+pub(crate) fn load_file<F: Shelf>(
+    alloc: Global,
+    session: &mut Session,
+    shelf: &mut F,
+    listeners: &mut Vec<Box<dyn Listener>>,
+    name: &Txt,
+) -> Result<Vec<u8>, Halt>
+    requires fewer { length listeners.old.items < 2 ^ 64 }
+    ensures ok { IfOk result (λ t. LoadsFile (beside session.old (map (λ l. hearer (state l)) listeners.old.items) (F.files shelf.old)) name.now t.items (beside session.new (map (λ l. hearer (state l)) listeners.new.items) (F.files shelf.new))) }
+    ensures err { OnErr result (beside session.new (map (λ l. hearer (state l)) listeners.new.items) (F.files shelf.new) ≡ beside session.old (map (λ l. hearer (state l)) listeners.old.items) (F.files shelf.old)) }
+    ensures cause { IfErr result (IsReplyCause (F.take_faults shelf.old) (F.take_faults shelf.new) (F.keep_faults shelf.old) (F.keep_faults shelf.new)) }
+    ensures later_take { F.take_faults shelf.old ≤ F.take_faults shelf.new }
+    ensures later_keep { F.keep_faults shelf.old ≤ F.keep_faults shelf.new }
+    ensures base { rules_of session.new ≡ rules_of session.old }
+{
+    let loading = read_file(alloc, session.base(), shelf, name)?;
+    settle(alloc, session, listeners, loading.case)?;
+    Ok(loading.text)
 }

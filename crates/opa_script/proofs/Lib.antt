@@ -7,3 +7,4 @@ pub mod NamedOnce
 pub mod OneCommand
 pub mod ExampleLaws
 pub mod Ranges
+pub mod ReplyLaws

@@ -30,18 +30,18 @@ use Rattle.opa_script.proofs.PointLaws.{one_given}
 use Rattle.opa_script.proofs.NamedOnce.{one_attribute, one_relation, not_both}
 use Rattle.opa_script.proofs.LawsHold.{same_tokens, same_begin, idle_apart}
 
-one_line : (l k : List (ℕ × Value)) (ps : List Piece) → IsLine DAYS l → IsLine DAYS k → SpellsLine l ps → SpellsLine k ps → l ≡ k
+pub one_line : (l k : List (ℕ × Value)) (ps : List Piece) → IsLine DAYS l → IsLine DAYS k → SpellsLine l ps → SpellsLine k ps → l ≡ k
 one_line l k ps il ik h g =
     let same = pairs_one h.0 g.0 ps h.1 g.1 in
     equal_where_values_are Value l k il ik (λ d b. h.2 d b ∙ ap (λ xs. at xs d) same ∙ sym (g.2 d b))
 
-abbrev answered : AttrId → InstanceId → List (ℕ × Value) → Command
+abbrev pub answered : AttrId → InstanceId → List (ℕ × Value) → Command
 answered a i l = command.Change (change.Answer a i l)
 
 abbrev withdrawn : AttrId → InstanceId → Command
 withdrawn a i = command.Change (change.Withdraw a i)
 
-abbrev listed : RelId → InstanceId → List (List ℕ) → Command
+abbrev pub listed : RelId → InstanceId → List (List ℕ) → Command
 listed r i ns = command.Change (change.SetList r i ns)
 
 abbrev forgotten : RelId → InstanceId → Command

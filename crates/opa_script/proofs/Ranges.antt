@@ -1,6 +1,7 @@
 -- What a command names is declared.
 use Rattle.std.proofs.Common.{◌≡◌, inl, inr, ℕ, List, sym, subst}
 use Rattle.std.proofs.lemmas.Option.{slice_get_within}
+use Rattle.opa_date.proofs.ReadTexts.{only_texts_are_read}
 use Rattle.opa_model.specs.declared.ids.AttrId.{AttrId}
 use Rattle.opa_model.specs.declared.ids.EntityId.{EntityId}
 use Rattle.opa_model.specs.declared.ids.RelId.{RelId}
@@ -29,7 +30,7 @@ module _ (m : Lists) where
   names_relation : (p : Point) (r : RelId) (i : InstanceId) → NamesRelation m p r i → HasRelation m r
   names_relation p r i n = has_relation r n.1.0 n.1.1
 
-  same_range : (c d : Command) → c ≡ d → IsInRange m d → IsInRange m c
+  pub same_range : (c d : Command) → c ≡ d → IsInRange m d → IsInRange m c
   same_range c d e h = subst (IsInRange m) (sym e) h
 
   shows_in_range : (p : Point) (c : Command) → Shows m p c → IsInRange m c
@@ -42,7 +43,7 @@ module _ (m : Lists) where
   says_in_range verb.SetList ps c (p, after, r, i, ns, given, names, spells, e) = same_range c _ e (names_relation p r i names)
   says_in_range verb.Forget ps c (p, r, i, spells, names, e) = same_range c _ e (names_relation p r i names)
   says_in_range verb.Show ps c (p, spells, shows) = shows_in_range p c shows
-  says_in_range verb.Report ps c (p, t, a, i, d, spells, names, day, e) = same_range c _ e (names_attribute p a i names)
+  says_in_range verb.Report ps c (p, t, a, i, d, spells, names, day, e) = same_range c _ e (names_attribute p a i names, (only_texts_are_read t d day).0)
   says_in_range verb.Save ps c (t, is, name, e) = same_range c _ e tt
   says_in_range verb.Load ps c (t, is, name, e) = same_range c _ e tt
   says_in_range verb.Dismiss ps c (t, n, is, count, e) = same_range c _ e tt

@@ -1,5 +1,5 @@
 // What holds of all lines.
-ghost use Rattle.opa_script.specs.Laws.{OneCommand, RefusedOrRead, CommandsAreInRange};
+ghost use Rattle.opa_script.specs.Laws.{OneCommand, RefusedOrRead, CommandsAreInRange, OneReply, RefusedOrReplied, RepliesAreInRange};
 
 /// A line is at most one command.
 pub fn one_command()
@@ -11,8 +11,25 @@ pub fn refused_or_read()
     ensures { RefusedOrRead }
 {}
 
-/// What a command names is declared.
+/// What a command names is declared, and a day is of the calendar.
 #[tactic(auto, using(crate::proofs::Ranges::command_in_range))]
 pub fn commands_are_in_range()
     ensures { CommandsAreInRange }
+{}
+/// A line is at most one reply to a question.
+#[tactic(auto, using(crate::proofs::ReplyLaws::one_reply_holds))]
+pub fn one_reply()
+    ensures { OneReply }
+{}
+
+/// A line that is a reply has no fault.
+#[tactic(auto, using(crate::proofs::ReplyLaws::refused_or_replied_holds))]
+pub fn refused_or_replied()
+    ensures { RefusedOrReplied }
+{}
+
+/// What a reply to a declared question names is declared.
+#[tactic(auto, using(crate::proofs::ReplyLaws::reply_in_range))]
+pub fn replies_are_in_range()
+    ensures { RepliesAreInRange }
 {}

@@ -19,6 +19,9 @@ mod verbs;
 pub use command::Command;
 pub use examples::{Generated, generate};
 pub use fault::CmdFault;
-pub use laws::{commands_are_in_range, one_command, refused_or_read};
+pub use laws::{
+    commands_are_in_range, one_command, one_reply, refused_or_read, refused_or_replied,
+    replies_are_in_range,
+};
 pub use reading::read_command;
 pub use replies::read_reply;

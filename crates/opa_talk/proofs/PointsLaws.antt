@@ -3,12 +3,13 @@ use Rattle.std.proofs.Common.{inl, inr, subst, ◌≡◌, ℕ, Bool, true, false
 use Rattle.std.specs.declared.option.Option.{Option}
 use Rattle.std.specs.Io.KnownBytes.{Appends}
 use Rattle.std.specs.Prelude.{◌==◌}
+use Rattle.std.proofs.lemmas.List.Elements.{All-append}
 use Rattle.opa_io.specs.Outside.{AppendsFront}
 use Rattle.opa_io.proofs.Appended.{Appends-append, Appends-none}
 use Rattle.opa_talk.specs.Lines.{lines, line_at, lines_from, IsPart, EndsLine}
 use Rattle.opa_talk.specs.Transcript.{Rule, IsGoing, Prints}
 use Rattle.opa_talk.specs.Talk.{LeftBy, LeftAt}
-use Rattle.opa_talk.specs.Points.{Point, is_empty, CarriesOut, Breaks, CarriesLine, StopsAt, Finishes}
+use Rattle.opa_talk.specs.Points.{Point, is_empty, CarriesOut, GoesOn, Breaks, CarriesLine, StopsAt, Finishes}
 use Rattle.opa_talk.proofs.LinesLaws.{lines_last, line_at_part, lines_from_line, lines_from-append, lines_from-cut, fresh_feed, fresh-append, EndsLine-append, part_none}
 use Rattle.opa_talk.proofs.TranscriptLaws.{prints-append, prints_one}
 
@@ -95,6 +96,16 @@ module _ {X : Type 0} (rule : Rule X) where
             subst P (sym split) (prints-append rule a.state b.state c.state (lines_from a.fresh f.whole) (lines_from b.fresh g.whole) f.text g.text f.said g.said);
         wrote = Appends-append before mid now f.text g.text f.wrote g.wrote;
       }
+
+  -- bytes without a line feed are kept after bytes that were carried out
+  pub goes_part : (a b : Point X) (front rest bytes pending : List ℕ) (before now : Option (List ℕ)) → CarriesOut rule a b front before now → IsGoing rule b.state → IsPart rest → pending ≡ b.pending ++ rest
+      → front ++ rest ≡ bytes → GoesOn rule a (record { state = b.state; pending = pending; fresh = b.fresh }) bytes before now
+  goes_part a b front rest bytes pending before now f going part is joins =
+      let next : Point X = record { state = b.state; pending = pending; fresh = b.fresh } in
+      let P : List ℕ → Type 0 = λ s. CarriesOut rule a next s before now in
+      let Q : List ℕ → Type 0 = IsPart in
+      let whole : IsPart pending = subst Q (sym is) (All-append (λ x. (x == 10) ≡ false) b.pending rest f.part part) in
+      record { going = going; carried = subst P joins (carries-append a b next front rest before now now f (carries_part b rest pending now whole is)) }
 
   -- a line is carried out at its line feed
   pub carries_line : (at : Point X) (next : X) (bytes line pending : List ℕ) (over : Bool) (before now : Option (List ℕ)) → IsPart (at.pending ++ bytes) → IsGoing rule at.state

@@ -1,7 +1,8 @@
 // A talk over its input: piece after piece is read, and each line is carried out.
-ghost use Rattle.std.specs.Prelude.{◌≡◌, ◌<◌, ◌≤◌, [], length, vec_len, IfOk, OnOk, OnErr, IfErr};
+ghost use Rattle.std.specs.Prelude.{◌≡◌, ◌<◌, ◌≤◌, ◌^◌, [], length, map, vec_len, IfOk, OnOk, OnErr, IfErr};
 ghost use Rattle.std.specs.Io.KnownBytes.{Keeps};
 ghost use Rattle.opa_io.specs.Outside.{Reads, HasCause};
+ghost use Rattle.opa_listen.specs.Hearing.{hearer};
 ghost use Rattle.opa_talk.specs.Halt.{IsCause};
 ghost use Rattle.opa_talk.specs.Lines.{IsPart};
 ghost use Rattle.opa_talk.specs.Transcript.{IsGoing, CutsAnywhere, HasOneTranscript};
@@ -12,6 +13,7 @@ use crate::halt::Halt;
 use crate::replier::Replier;
 use crate::talk::{Pending, ask, finish, take_piece};
 use opa_io::{Failed, Shelf, Sink, Source};
+use opa_listen::Listener;
 use std::alloc::{AllocError, Global};
 
 /// How many bytes an input may have.
@@ -52,16 +54,17 @@ fn take_turn<T: Replier, F: Shelf, S: Source, K: Sink>(
     alloc: Global,
     replier: &mut T,
     shelf: &mut F,
+    listeners: &mut Vec<Box<dyn Listener>>,
     pending: &mut Pending,
     buf: &mut Vec<u8>,
     input: &mut S,
     out: &mut K,
 ) -> Result<Turn, Halt>
-    requires going { IsGoing T.rule (T.state replier.old, F.files shelf.old) }
+    requires going { IsGoing T.rule (T.held replier.old (map (λ l. hearer (state l)) listeners.old.items) (F.files shelf.old)) }
     requires part { IsPart pending.old.bytes.items }
     requires room { 0 < vec_len buf.old }
-    ensures ok { IfOk result (TakesTurn T.rule (point_of (T.state replier.old, F.files shelf.old) pending.old) (point_of (T.state replier.new, F.files shelf.new) pending.new) (vec_len buf.old) (S.left input.old) (S.left input.new) (K.written out.old) (K.written out.new)) }
-    ensures err { IfErr result (BreaksPart T.rule (WhereRose (F.keep_faults shelf.old) (F.keep_faults shelf.new) T.Stops) (point_of (T.state replier.old, F.files shelf.old) pending.old) (point_of (T.state replier.new, F.files shelf.new) pending.new) (vec_len buf.old) (S.left input.old) (S.left input.new) (K.written out.old) (K.written out.new)) }
+    ensures ok { IfOk result (TakesTurn T.rule (point_of (T.held replier.old (map (λ l. hearer (state l)) listeners.old.items) (F.files shelf.old)) pending.old) (point_of (T.held replier.new (map (λ l. hearer (state l)) listeners.new.items) (F.files shelf.new)) pending.new) (vec_len buf.old) (S.left input.old) (S.left input.new) (K.written out.old) (K.written out.new)) }
+    ensures err { IfErr result (BreaksPart T.rule (WhereRose (F.keep_faults shelf.old) (F.keep_faults shelf.new) T.Stops) (point_of (T.held replier.old (map (λ l. hearer (state l)) listeners.old.items) (F.files shelf.old)) pending.old) (point_of (T.held replier.new (map (λ l. hearer (state l)) listeners.new.items) (F.files shelf.new)) pending.new) (vec_len buf.old) (S.left input.old) (S.left input.new) (K.written out.old) (K.written out.new)) }
     ensures cause { IfErr result (IsCause (F.take_faults shelf.old) (F.take_faults shelf.new) (F.keep_faults shelf.old) (F.keep_faults shelf.new) (K.faults out.old) (K.faults out.new) (S.faults input.old) (S.faults input.new)) }
     ensures later_input { S.faults input.old ≤ S.faults input.new }
     ensures later { K.faults out.old ≤ K.faults out.new }
@@ -75,7 +78,15 @@ fn take_turn<T: Replier, F: Shelf, S: Source, K: Sink>(
     if count == 0 {
         return Ok(Turn::End);
     }
-    let over = take_piece(alloc, replier, shelf, pending, &buf[..count], out)?;
+    let over = take_piece(
+        alloc,
+        replier,
+        shelf,
+        listeners,
+        pending,
+        &buf[..count],
+        out,
+    )?;
     if over {
         Ok(Turn::Over)
     } else {
@@ -88,16 +99,17 @@ fn take_lines<T: Replier, F: Shelf, S: Source, K: Sink>(
     alloc: Global,
     replier: &mut T,
     shelf: &mut F,
+    listeners: &mut Vec<Box<dyn Listener>>,
     pending: &mut Pending,
     buf: &mut Vec<u8>,
     input: &mut S,
     out: &mut K,
 ) -> Result<Ending, Halt>
-    requires going { IsGoing T.rule (T.state replier.old, F.files shelf.old) }
+    requires going { IsGoing T.rule (T.held replier.old (map (λ l. hearer (state l)) listeners.old.items) (F.files shelf.old)) }
     requires part { IsPart pending.old.bytes.items }
     requires room { 0 < vec_len buf.old }
-    ensures ok { IfOk result (TakesLines T.rule (point_of (T.state replier.old, F.files shelf.old) pending.old) (point_of (T.state replier.new, F.files shelf.new) pending.new) LIMIT (S.left input.old) (S.left input.new) (K.written out.old) (K.written out.new)) }
-    ensures err { IfErr result (BreaksPart T.rule (WhereRose (F.keep_faults shelf.old) (F.keep_faults shelf.new) T.Stops) (point_of (T.state replier.old, F.files shelf.old) pending.old) (point_of (T.state replier.new, F.files shelf.new) pending.new) LIMIT (S.left input.old) (S.left input.new) (K.written out.old) (K.written out.new)) }
+    ensures ok { IfOk result (TakesLines T.rule (point_of (T.held replier.old (map (λ l. hearer (state l)) listeners.old.items) (F.files shelf.old)) pending.old) (point_of (T.held replier.new (map (λ l. hearer (state l)) listeners.new.items) (F.files shelf.new)) pending.new) LIMIT (S.left input.old) (S.left input.new) (K.written out.old) (K.written out.new)) }
+    ensures err { IfErr result (BreaksPart T.rule (WhereRose (F.keep_faults shelf.old) (F.keep_faults shelf.new) T.Stops) (point_of (T.held replier.old (map (λ l. hearer (state l)) listeners.old.items) (F.files shelf.old)) pending.old) (point_of (T.held replier.new (map (λ l. hearer (state l)) listeners.new.items) (F.files shelf.new)) pending.new) LIMIT (S.left input.old) (S.left input.new) (K.written out.old) (K.written out.new)) }
     ensures cause { IfErr result (IsCause (F.take_faults shelf.old) (F.take_faults shelf.new) (F.keep_faults shelf.old) (F.keep_faults shelf.new) (K.faults out.old) (K.faults out.new) (S.faults input.old) (S.faults input.new)) }
     ensures later_input { S.faults input.old ≤ S.faults input.new }
     ensures later { K.faults out.old ≤ K.faults out.new }
@@ -107,7 +119,7 @@ fn take_lines<T: Replier, F: Shelf, S: Source, K: Sink>(
     let mut left = LIMIT;
     while left > 0 {
         buf.truncate(left);
-        match take_turn(alloc, replier, shelf, pending, buf, input, out)? {
+        match take_turn(alloc, replier, shelf, listeners, pending, buf, input, out)? {
             Turn::End => return Ok(Ending::End),
             Turn::Over => return Ok(Ending::Over),
             Turn::Read(count) => left -= count,
@@ -138,31 +150,32 @@ fn go_on<T: Replier, F: Shelf, S: Source, K: Sink>(
     alloc: Global,
     replier: &mut T,
     shelf: &mut F,
+    listeners: &mut Vec<Box<dyn Listener>>,
     pending: &mut Pending,
     buf: &mut Vec<u8>,
     input: &mut S,
     out: &mut K,
 ) -> Result<(), Halt>
-    requires going { IsGoing T.rule (T.state replier.old, F.files shelf.old) }
+    requires going { IsGoing T.rule (T.held replier.old (map (λ l. hearer (state l)) listeners.old.items) (F.files shelf.old)) }
     requires part { IsPart pending.old.bytes.items }
     requires room { 0 < vec_len buf.old }
-    ensures ok { OnOk result (Feeds T.rule (point_of (T.state replier.old, F.files shelf.old) pending.old) (T.state replier.new, F.files shelf.new) LIMIT (S.left input.old) (S.left input.new) (K.written out.old) (K.written out.new)) }
-    ensures err { IfErr result (FeedBreaks T.rule (WhereRose (F.keep_faults shelf.old) (F.keep_faults shelf.new) T.Stops) (point_of (T.state replier.old, F.files shelf.old) pending.old) (point_of (T.state replier.new, F.files shelf.new) pending.new) LIMIT (S.left input.old) (S.left input.new) (K.written out.old) (K.written out.new)) }
+    ensures ok { OnOk result (Feeds T.rule (point_of (T.held replier.old (map (λ l. hearer (state l)) listeners.old.items) (F.files shelf.old)) pending.old) (T.held replier.new (map (λ l. hearer (state l)) listeners.new.items) (F.files shelf.new)) LIMIT (S.left input.old) (S.left input.new) (K.written out.old) (K.written out.new)) }
+    ensures err { IfErr result (FeedBreaks T.rule (WhereRose (F.keep_faults shelf.old) (F.keep_faults shelf.new) T.Stops) (point_of (T.held replier.old (map (λ l. hearer (state l)) listeners.old.items) (F.files shelf.old)) pending.old) (point_of (T.held replier.new (map (λ l. hearer (state l)) listeners.new.items) (F.files shelf.new)) pending.new) LIMIT (S.left input.old) (S.left input.new) (K.written out.old) (K.written out.new)) }
     ensures cause { IfErr result (IsCause (F.take_faults shelf.old) (F.take_faults shelf.new) (F.keep_faults shelf.old) (F.keep_faults shelf.new) (K.faults out.old) (K.faults out.new) (S.faults input.old) (S.faults input.new)) }
     ensures later_input { S.faults input.old ≤ S.faults input.new }
     ensures later { K.faults out.old ≤ K.faults out.new }
     ensures later_take { F.take_faults shelf.old ≤ F.take_faults shelf.new }
     ensures later_keep { F.keep_faults shelf.old ≤ F.keep_faults shelf.new }
 {
-    match take_lines(alloc, replier, shelf, pending, buf, input, out)? {
+    match take_lines(alloc, replier, shelf, listeners, pending, buf, input, out)? {
         Ending::Over => Ok(()),
-        Ending::End => finish(alloc, replier, shelf, pending, out),
+        Ending::End => finish(alloc, replier, shelf, listeners, pending, out),
         Ending::Full => {
             let Ok(ended) = is_at_end(input) else {
                 return Err(Halt::Input);
             };
             if ended {
-                finish(alloc, replier, shelf, pending, out)
+                finish(alloc, replier, shelf, listeners, pending, out)
             } else {
                 Err(Halt::Limit)
             }
@@ -175,11 +188,13 @@ pub fn converse<T: Replier, F: Shelf, S: Source, K: Sink>(
     alloc: Global,
     replier: &mut T,
     shelf: &mut F,
+    listeners: &mut Vec<Box<dyn Listener>>,
     input: &mut S,
     out: &mut K,
 ) -> Result<(), Halt>
-    ensures ok { OnOk result (Converses T.rule (T.state replier.old, F.files shelf.old) (T.state replier.new, F.files shelf.new) LIMIT (S.left input.old) (S.left input.new) (K.written out.old) (K.written out.new)) }
-    ensures err { IfErr result (Halts T.rule (WhereRose (F.keep_faults shelf.old) (F.keep_faults shelf.new) T.Stops) (T.state replier.old, F.files shelf.old) (T.state replier.new, F.files shelf.new) LIMIT (S.left input.old) (S.left input.new) (K.written out.old) (K.written out.new)) }
+    requires fewer { length listeners.old.items < 2 ^ 64 }
+    ensures ok { OnOk result (Converses T.rule (T.held replier.old (map (λ l. hearer (state l)) listeners.old.items) (F.files shelf.old)) (T.held replier.new (map (λ l. hearer (state l)) listeners.new.items) (F.files shelf.new)) LIMIT (S.left input.old) (S.left input.new) (K.written out.old) (K.written out.new)) }
+    ensures err { IfErr result (Halts T.rule (WhereRose (F.keep_faults shelf.old) (F.keep_faults shelf.new) T.Stops) (T.held replier.old (map (λ l. hearer (state l)) listeners.old.items) (F.files shelf.old)) (T.held replier.new (map (λ l. hearer (state l)) listeners.new.items) (F.files shelf.new)) LIMIT (S.left input.old) (S.left input.new) (K.written out.old) (K.written out.new)) }
     ensures cause { IfErr result (IsCause (F.take_faults shelf.old) (F.take_faults shelf.new) (F.keep_faults shelf.old) (F.keep_faults shelf.new) (K.faults out.old) (K.faults out.new) (S.faults input.old) (S.faults input.new)) }
     ensures later_input { S.faults input.old ≤ S.faults input.new }
     ensures later { K.faults out.old ≤ K.faults out.new }
@@ -191,11 +206,20 @@ pub fn converse<T: Replier, F: Shelf, S: Source, K: Sink>(
         fresh: true,
     };
     let mut buf = buffer(alloc)?;
-    let over = ask(alloc, replier, shelf, out)?;
+    let over = ask(alloc, replier, shelf, listeners, out)?;
     if over {
         return Ok(());
     }
-    go_on(alloc, replier, shelf, &mut pending, &mut buf, input, out)
+    go_on(
+        alloc,
+        replier,
+        shelf,
+        listeners,
+        &mut pending,
+        &mut buf,
+        input,
+        out,
+    )
 }
 
 /// Laws over the transcripts of what answers lines: an input may be cut at any line feed, and where each line prints one text,

@@ -1,4 +1,4 @@
-//! A talk: lines are read from a source, and what each prints is written to a sink.
+//! A talk: lines are read from a source and answered, beside a shelf of files and listeners, and what each prints is written to a sink.
 #![tactic(auto)]
 
 mod feed;

@@ -1,6 +1,7 @@
 // A talk between two bytes of its input: lines are cut from pieces, and each is carried out.
-ghost use Rattle.std.specs.Prelude.{◌≡◌, ◌≤◌, ◌++◌, ◌∷◌, [], OnOk, OnErr, IfOk, IfErr, MatchOption};
+ghost use Rattle.std.specs.Prelude.{◌≡◌, ◌≤◌, ◌++◌, ◌∷◌, [], map, OnOk, OnErr, IfOk, IfErr, MatchOption};
 ghost use Rattle.opa_io.specs.Outside.{Rose, AppendsAll, AppendsFront};
+ghost use Rattle.opa_listen.specs.Hearing.{hearer};
 ghost use Rattle.opa_talk.specs.Halt.{IsLineCause};
 ghost use Rattle.opa_talk.specs.Lines.{line_at, IsPart};
 ghost use Rattle.opa_talk.specs.Transcript.{IsGoing};
@@ -11,6 +12,7 @@ use crate::halt::Halt;
 use crate::line::without_mark;
 use crate::replier::Replier;
 use opa_io::{Shelf, Sink, write_all_of};
+use opa_listen::Listener;
 use std::alloc::Global;
 
 /// The bytes since the last line feed, and whether no line feed was read yet.
@@ -56,10 +58,11 @@ pub fn ask<T: Replier, F: Shelf, K: Sink>(
     alloc: Global,
     replier: &T,
     shelf: &F,
+    listeners: &Vec<Box<dyn Listener>>,
     out: &mut K,
 ) -> Result<bool, Halt>
-    ensures ok { IfOk result (λ over. Asks T.rule (T.state replier.now, F.files shelf.now) over (K.written out.old) (K.written out.new)) }
-    ensures err { OnErr result (AppendsFront (K.written out.old) (K.written out.new) (T.rule.prompt (T.state replier.now, F.files shelf.now))) }
+    ensures ok { IfOk result (λ over. Asks T.rule (T.held replier.now (map (λ l. hearer (state l)) listeners.now.items) (F.files shelf.now)) over (K.written out.old) (K.written out.new)) }
+    ensures err { OnErr result (AppendsFront (K.written out.old) (K.written out.new) (T.rule.prompt (T.held replier.now (map (λ l. hearer (state l)) listeners.now.items) (F.files shelf.now)))) }
     ensures cause { IfErr result (λ halt. IsLineCause 0 0 0 0 (K.faults out.old) (K.faults out.new) halt) }
     ensures later { K.faults out.old ≤ K.faults out.new }
 {
@@ -74,19 +77,20 @@ fn carry_out<T: Replier, F: Shelf, K: Sink>(
     alloc: Global,
     replier: &mut T,
     shelf: &mut F,
+    listeners: &mut Vec<Box<dyn Listener>>,
     line: &[u8],
     out: &mut K,
 ) -> Result<bool, Halt>
-    ensures ok { IfOk result (λ over. CarriesLine T.rule (T.state replier.old, F.files shelf.old) (T.state replier.new, F.files shelf.new) line.now over (K.written out.old) (K.written out.new)) }
-    ensures err { OnErr result (StopsAt T.rule (WhereRose (F.keep_faults shelf.old) (F.keep_faults shelf.new) T.Stops) (T.state replier.old, F.files shelf.old) (T.state replier.new, F.files shelf.new) line.now (K.written out.old) (K.written out.new)) }
+    ensures ok { IfOk result (λ over. CarriesLine T.rule (T.held replier.old (map (λ l. hearer (state l)) listeners.old.items) (F.files shelf.old)) (T.held replier.new (map (λ l. hearer (state l)) listeners.new.items) (F.files shelf.new)) line.now over (K.written out.old) (K.written out.new)) }
+    ensures err { OnErr result (StopsAt T.rule (WhereRose (F.keep_faults shelf.old) (F.keep_faults shelf.new) T.Stops) (T.held replier.old (map (λ l. hearer (state l)) listeners.old.items) (F.files shelf.old)) (T.held replier.new (map (λ l. hearer (state l)) listeners.new.items) (F.files shelf.new)) line.now (K.written out.old) (K.written out.new)) }
     ensures cause { IfErr result (IsLineCause (F.take_faults shelf.old) (F.take_faults shelf.new) (F.keep_faults shelf.old) (F.keep_faults shelf.new) (K.faults out.old) (K.faults out.new)) }
     ensures later { K.faults out.old ≤ K.faults out.new }
     ensures later_take { F.take_faults shelf.old ≤ F.take_faults shelf.new }
     ensures later_keep { F.keep_faults shelf.old ≤ F.keep_faults shelf.new }
 {
-    let text = replier.reply(alloc, shelf, line)?;
+    let text = replier.reply(alloc, shelf, listeners, line)?;
     say(out, &text)?;
-    ask(alloc, replier, shelf, out)
+    ask(alloc, replier, shelf, listeners, out)
 }
 
 /// Takes the rest of a line, and carries it out with its line feed.
@@ -94,15 +98,16 @@ fn take_line<T: Replier, F: Shelf, K: Sink>(
     alloc: Global,
     replier: &mut T,
     shelf: &mut F,
+    listeners: &mut Vec<Box<dyn Listener>>,
     pending: &mut Pending,
     bytes: &[u8],
     out: &mut K,
 ) -> Result<bool, Halt>
-    requires going { IsGoing T.rule (T.state replier.old, F.files shelf.old) }
+    requires going { IsGoing T.rule (T.held replier.old (map (λ l. hearer (state l)) listeners.old.items) (F.files shelf.old)) }
     requires part { IsPart (pending.old.bytes.items ++ bytes.now) }
-    ensures over { IfOk result (λ over. over ≡ T.rule.is_over (T.state replier.new, F.files shelf.new)) }
-    ensures ok { OnOk result (CarriesOut T.rule (point_of (T.state replier.old, F.files shelf.old) pending.old) (point_of (T.state replier.new, F.files shelf.new) pending.new) (bytes.now ++ 10 ∷ []) (K.written out.old) (K.written out.new)) }
-    ensures err { OnErr result (Breaks T.rule (WhereRose (F.keep_faults shelf.old) (F.keep_faults shelf.new) T.Stops) (point_of (T.state replier.old, F.files shelf.old) pending.old) (T.state replier.new, F.files shelf.new) (bytes.now ++ 10 ∷ []) (K.written out.old) (K.written out.new)) }
+    ensures over { IfOk result (λ over. over ≡ T.rule.is_over (T.held replier.new (map (λ l. hearer (state l)) listeners.new.items) (F.files shelf.new))) }
+    ensures ok { OnOk result (CarriesOut T.rule (point_of (T.held replier.old (map (λ l. hearer (state l)) listeners.old.items) (F.files shelf.old)) pending.old) (point_of (T.held replier.new (map (λ l. hearer (state l)) listeners.new.items) (F.files shelf.new)) pending.new) (bytes.now ++ 10 ∷ []) (K.written out.old) (K.written out.new)) }
+    ensures err { OnErr result (Breaks T.rule (WhereRose (F.keep_faults shelf.old) (F.keep_faults shelf.new) T.Stops) (point_of (T.held replier.old (map (λ l. hearer (state l)) listeners.old.items) (F.files shelf.old)) pending.old) (T.held replier.new (map (λ l. hearer (state l)) listeners.new.items) (F.files shelf.new)) (bytes.now ++ 10 ∷ []) (K.written out.old) (K.written out.new)) }
     ensures cause { IfErr result (IsLineCause (F.take_faults shelf.old) (F.take_faults shelf.new) (F.keep_faults shelf.old) (F.keep_faults shelf.new) (K.faults out.old) (K.faults out.new)) }
     ensures later { K.faults out.old ≤ K.faults out.new }
     ensures later_take { F.take_faults shelf.old ≤ F.take_faults shelf.new }
@@ -111,7 +116,7 @@ fn take_line<T: Replier, F: Shelf, K: Sink>(
     pending.bytes.extend_from_slice(bytes)?;
     pending.bytes.push(b'\n')?;
     let line = line_at(pending.fresh, &pending.bytes);
-    let over = carry_out(alloc, replier, shelf, line, out)?;
+    let over = carry_out(alloc, replier, shelf, listeners, line, out)?;
     pending.bytes.clear();
     pending.fresh = false;
     Ok(over)
@@ -122,14 +127,15 @@ pub fn take_piece<T: Replier, F: Shelf, K: Sink>(
     alloc: Global,
     replier: &mut T,
     shelf: &mut F,
+    listeners: &mut Vec<Box<dyn Listener>>,
     pending: &mut Pending,
     piece: &[u8],
     out: &mut K,
 ) -> Result<bool, Halt>
-    requires going { IsGoing T.rule (T.state replier.old, F.files shelf.old) }
+    requires going { IsGoing T.rule (T.held replier.old (map (λ l. hearer (state l)) listeners.old.items) (F.files shelf.old)) }
     requires part { IsPart pending.old.bytes.items }
-    ensures ok { IfOk result (TakesPiece T.rule (point_of (T.state replier.old, F.files shelf.old) pending.old) (point_of (T.state replier.new, F.files shelf.new) pending.new) piece.now (K.written out.old) (K.written out.new)) }
-    ensures err { OnErr result (Breaks T.rule (WhereRose (F.keep_faults shelf.old) (F.keep_faults shelf.new) T.Stops) (point_of (T.state replier.old, F.files shelf.old) pending.old) (T.state replier.new, F.files shelf.new) piece.now (K.written out.old) (K.written out.new)) }
+    ensures ok { IfOk result (TakesPiece T.rule (point_of (T.held replier.old (map (λ l. hearer (state l)) listeners.old.items) (F.files shelf.old)) pending.old) (point_of (T.held replier.new (map (λ l. hearer (state l)) listeners.new.items) (F.files shelf.new)) pending.new) piece.now (K.written out.old) (K.written out.new)) }
+    ensures err { OnErr result (Breaks T.rule (WhereRose (F.keep_faults shelf.old) (F.keep_faults shelf.new) T.Stops) (point_of (T.held replier.old (map (λ l. hearer (state l)) listeners.old.items) (F.files shelf.old)) pending.old) (T.held replier.new (map (λ l. hearer (state l)) listeners.new.items) (F.files shelf.new)) piece.now (K.written out.old) (K.written out.new)) }
     ensures cause { IfErr result (IsLineCause (F.take_faults shelf.old) (F.take_faults shelf.new) (F.keep_faults shelf.old) (F.keep_faults shelf.new) (K.faults out.old) (K.faults out.new)) }
     ensures later { K.faults out.old ≤ K.faults out.new }
     ensures later_take { F.take_faults shelf.old ≤ F.take_faults shelf.new }
@@ -137,7 +143,7 @@ pub fn take_piece<T: Replier, F: Shelf, K: Sink>(
 {
     let mut rest = piece;
     while let Some((bytes, after)) = cut(rest) {
-        let over = take_line(alloc, replier, shelf, pending, bytes, out)?;
+        let over = take_line(alloc, replier, shelf, listeners, pending, bytes, out)?;
         if over {
             return Ok(true);
         }
@@ -152,13 +158,14 @@ pub fn finish<T: Replier, F: Shelf, K: Sink>(
     alloc: Global,
     replier: &mut T,
     shelf: &mut F,
+    listeners: &mut Vec<Box<dyn Listener>>,
     pending: &Pending,
     out: &mut K,
 ) -> Result<(), Halt>
-    requires going { IsGoing T.rule (T.state replier.old, F.files shelf.old) }
+    requires going { IsGoing T.rule (T.held replier.old (map (λ l. hearer (state l)) listeners.old.items) (F.files shelf.old)) }
     requires part { IsPart pending.now.bytes.items }
-    ensures ok { OnOk result (Finishes T.rule (point_of (T.state replier.old, F.files shelf.old) pending.now) (T.state replier.new, F.files shelf.new) (K.written out.old) (K.written out.new)) }
-    ensures err { OnErr result (Breaks T.rule (WhereRose (F.keep_faults shelf.old) (F.keep_faults shelf.new) T.Stops) (point_of (T.state replier.old, F.files shelf.old) pending.now) (T.state replier.new, F.files shelf.new) [] (K.written out.old) (K.written out.new)) }
+    ensures ok { OnOk result (Finishes T.rule (point_of (T.held replier.old (map (λ l. hearer (state l)) listeners.old.items) (F.files shelf.old)) pending.now) (T.held replier.new (map (λ l. hearer (state l)) listeners.new.items) (F.files shelf.new)) (K.written out.old) (K.written out.new)) }
+    ensures err { OnErr result (Breaks T.rule (WhereRose (F.keep_faults shelf.old) (F.keep_faults shelf.new) T.Stops) (point_of (T.held replier.old (map (λ l. hearer (state l)) listeners.old.items) (F.files shelf.old)) pending.now) (T.held replier.new (map (λ l. hearer (state l)) listeners.new.items) (F.files shelf.new)) [] (K.written out.old) (K.written out.new)) }
     ensures cause { IfErr result (IsLineCause (F.take_faults shelf.old) (F.take_faults shelf.new) (F.keep_faults shelf.old) (F.keep_faults shelf.new) (K.faults out.old) (K.faults out.new)) }
     ensures later { K.faults out.old ≤ K.faults out.new }
     ensures later_take { F.take_faults shelf.old ≤ F.take_faults shelf.new }
@@ -168,6 +175,6 @@ pub fn finish<T: Replier, F: Shelf, K: Sink>(
     if line.is_empty() {
         return Ok(());
     }
-    carry_out(alloc, replier, shelf, line, out)?;
+    carry_out(alloc, replier, shelf, listeners, line, out)?;
     Ok(())
 }

@@ -7,49 +7,55 @@ use Rattle.opa_io.specs.declared.fault.Status.TheVariants as status
 use Rattle.opa_model.specs.Models.{IsModel}
 use Rattle.opa_talk.specs.Lines.{input_lines}
 use Rattle.opa_tree.specs.declared.rulebase.Rulebase.{Rulebase}
-use Rattle.opa_reply.specs.Held.{at_first, files_in}
+use Rattle.opa_reply.specs.Held.{Held}
 use Rattle.opa_rulebase.specs.Loading.{Opens}
 use Rattle.opa_decided.specs.Laws.{OneTranscript}
 use Rattle.opa_decided.specs.Opening.{OneOpening}
 use Rattle.opa_top.specs.Checking.{IsOpened, IsTold}
-use Rattle.opa_top.specs.Running.{Counts, Outside, SaysAll, Talks, Runs}
+use Rattle.opa_top.specs.Running.{Manner, Outside, beginning, Leaves, SaysAll, SaysOver, Talks, Runs}
 use Rattle.opa_top.specs.Statuses.{WroteWhatever, IsOnly}
-use Rattle.opa_top.proofs.StatusLaws.{all_read}
+use Rattle.opa_top.proofs.StatusLaws.{all_read, all_over}
 
-module _ (one_opening : OneOpening) (one_transcript : OneTranscript) (name : List ℕ) (old new : Outside) where
-  whatever : (base : Rulebase) → IsModel base.model → (files : Files) → old.files ≡ Some files → (bytes : List ℕ) → SaysAll base old new bytes → WroteWhatever name old new base bytes
+-- what one thing held leaves, another that is the same does
+left_so : (new : Outside) (x y : Held) → x ≡ y → Leaves new x → Leaves new y
+left_so new x y e h = subst (Leaves new) e h
+
+module _ (way : Manner) (one_opening : OneOpening) (one_transcript : OneTranscript way.rule) (name : List ℕ) (old new : Outside) where
+  whatever : (base : Rulebase) → IsModel base.model → (files : Files) → old.files ≡ Some files → (bytes : List ℕ) → SaysAll way base old new bytes → WroteWhatever way name old new base bytes
   whatever base m files told bytes says text held said =
-      let one = one_transcript (at_first base old.files) held says.held (input_lines bytes) text says.text m (files, told) said says.said in
-      (subst (Appends old.written new.written) (sym one.0) says.wrote, says.files ∙ ap files_in (sym one.1))
+      let one = one_transcript (beginning base old) held says.held (input_lines bytes) text says.text m (files, told) said says.said in
+      (subst (Appends old.written new.written) (sym one.0) says.wrote, left_so new says.held held (sym one.1) says.leaves)
 
-  only_all : (base : Rulebase) → IsModel base.model → (read : List ℕ) (o : Option Files) → old.files ≡ o → (l : Option (List ℕ)) → IfSome o (λ files. Opens files name (Ok base)) → Consumes l new.left read → IsAtEnd new.left → SaysAll base old new read
-      → IfSome o (λ files. IfSome l (λ bytes. (opened : Result Rulebase (List ℕ)) → Opens files name opened → (b : Rulebase) × (opened ≡ Ok b) × WroteWhatever name old new b bytes))
-  only_all base m read None told l opens took end says = tt
-  only_all base m read (Some files) told None opens took end says = tt
-  only_all base m read (Some files) told (Some bytes) opens took end says =
-      λ opened o. (base, one_opening files name opened (Ok base) o opens, whatever base m files told bytes (subst (λ t. SaysAll base old new t) (all_read name old new bytes read new.left took end) says))
+  only_all : (base : Rulebase) → IsModel base.model → (read : List ℕ) (o : Option Files) → old.files ≡ o → (l : Option (List ℕ)) → IfSome o (λ files. Opens files name (Ok base)) → Consumes l new.left read
+      → ((bytes : List ℕ) → Consumes (Some bytes) new.left read → SaysAll way base old new bytes)
+      → IfSome o (λ files. IfSome l (λ bytes. (opened : Result Rulebase (List ℕ)) → Opens files name opened → (b : Rulebase) × (opened ≡ Ok b) × WroteWhatever way name old new b bytes))
+  only_all base m read None told l opens took says = tt
+  only_all base m read (Some files) told None opens took says = tt
+  only_all base m read (Some files) told (Some bytes) opens took says =
+      λ opened o. (base, one_opening files name opened (Ok base) o opens, whatever base m files told bytes (says bytes took))
 
   only_refusal : (text : List ℕ) (o : Option Files) → IfSome o (λ files. Opens files name (Err text)) → Appends old.written new.written text
       → IfSome o (λ files. (opened : Result Rulebase (List ℕ)) → Opens files name opened → (t : List ℕ) × (opened ≡ Err t) × Appends old.written new.written t)
   only_refusal text None opens wrote = tt
   only_refusal text (Some files) opens wrote = λ opened o. (text, one_opening files name opened (Err text) o opens, wrote)
 
-  module _ (n : Counts) where
-    talk_only : (s : Status) (base : Rulebase) → IsModel base.model → IsOpened old.files name (Ok base) → Talks base old new n s → IsOnly name old new s
-    talk_only status.Done base m o (read, took, few, (end, says)) = only_all base m read old.files refl old.left o took end says
-    talk_only status.Refused base m o t = absurd t
-    talk_only status.Usage base m o t = tt
-    talk_only status.ReadFault base m o t = tt
-    talk_only status.WriteFault base m o t = tt
-    talk_only status.NoMemory base m o t = tt
-    talk_only status.InputLimit base m o t = tt
+  talk_only : (s : Status) (base : Rulebase) → IsModel base.model → IsOpened old.files name (Ok base) → Talks way base old new s → IsOnly way name old new s
+  talk_only status.Done base m o (read, took, few, inl h) =
+      only_all base m read old.files refl old.left o took (λ bytes all. subst (λ t. SaysAll way base old new t) (all_read way name old new bytes read new.left all h.0) h.1)
+  talk_only status.Done base m o (read, took, few, inr h) = only_all base m read old.files refl old.left o took (λ bytes all. all_over way name old new base bytes read new.left all h)
+  talk_only status.Refused base m o t = absurd t
+  talk_only status.Usage base m o t = tt
+  talk_only status.ReadFault base m o t = tt
+  talk_only status.WriteFault base m o t = tt
+  talk_only status.NoMemory base m o t = tt
+  talk_only status.InputLimit base m o t = tt
 
-    refusal_only : (s : Status) (text : List ℕ) → IsOpened old.files name (Err text) → IsTold status.Refused text old.written new.written n.write_before n.write_now s → IsOnly name old new s
-    refusal_only s text o (inl h) = subst (IsOnly name old new) (sym h.0) (only_refusal text old.files o h.1)
-    refusal_only s text o (inr h) = subst (IsOnly name old new) (sym h.0) tt
+  refusal_only : (s : Status) (text : List ℕ) → IsOpened old.files name (Err text) → IsTold status.Refused text old.written new.written old.writes new.writes s → IsOnly way name old new s
+  refusal_only s text o (inl h) = subst (IsOnly way name old new) (sym h.0) (only_refusal text old.files o h.1)
+  refusal_only s text o (inr h) = subst (IsOnly way name old new) (sym h.0) tt
 
-    pub run_only : (s : Status) → Runs name old new n s → IsOnly name old new s
-    run_only s (Runs.talks base m o t) = talk_only s base m o t
-    run_only s (Runs.refuses text o u told) = refusal_only s text o told
-    run_only status.ReadFault (Runs.cannot_take rose u none) = tt
-    run_only status.NoMemory (Runs.cannot_hold u none) = tt
+  pub run_only : (s : Status) → Runs way name old new s → IsOnly way name old new s
+  run_only s (Runs.talks base m o t) = talk_only s base m o t
+  run_only s (Runs.refuses text o u told) = refusal_only s text o told
+  run_only status.ReadFault (Runs.cannot_take rose u none) = tt
+  run_only status.NoMemory (Runs.cannot_hold u none) = tt

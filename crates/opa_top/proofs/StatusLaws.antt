@@ -12,8 +12,8 @@ use Rattle.opa_talk.specs.Points.{is_empty}
 use Rattle.opa_talk.proofs.LinesLaws.{lines_from-append}
 use Rattle.opa_tree.specs.declared.rulebase.Rulebase.{Rulebase}
 use Rattle.opa_top.specs.Checking.{IsOpened, IsTold, verdict_status}
-use Rattle.opa_top.specs.Running.{MOST, Counts, Outside, SaysAll, SaysFront, SaysWhole, Talks, IsUnused, Runs}
-use Rattle.opa_top.specs.Statuses.{WroteRefusal, WroteFront, Wrote, WroteLines, LeftOff, OpensBase, OpensRefusal, HasCause, Calm, Completes, ReadAtMost}
+use Rattle.opa_top.specs.Running.{MOST, Manner, Outside, SaysAll, SaysOver, SaysFront, SaysWhole, Talks, IsUnused, Runs}
+use Rattle.opa_top.specs.Statuses.{WroteRefusal, WroteFront, Wrote, WroteLines, LeftOff, OpensBase, OpensRefusal, IsThrough, HasCause, Calm, Completes, ReadAtMost}
 
 -- what is told of files that are told
 told_with : (P Q : Files → Type 0) (o : Option Files) → IfSome o P → ((files : Files) → P files → Q files) → IfSome o Q
@@ -25,11 +25,11 @@ front_all a b text h = (text, [], append-nil text, h)
 
 -- ---- what was written
 
-module _ (name : List ℕ) (old new : Outside) where
+module _ (way : Manner) (name : List ℕ) (old new : Outside) where
   unread : IsUnused old new → Consumes old.left new.left []
   unread u = let P : Option (List ℕ) → Type 0 = λ l. Consumes old.left l [] in subst P (sym u.left) (Consumes-none old.left)
 
-  none_read : IsUnused old new → ReadAtMost name old new MOST
+  none_read : IsUnused old new → ReadAtMost way name old new MOST
   none_read u = ([], unread u, omega arith)
 
   abbrev Opened : Files → Type 0
@@ -38,138 +38,155 @@ module _ (name : List ℕ) (old new : Outside) where
   abbrev Refused : Files → Type 0
   Refused files = (text : List ℕ) × Opens files name (Err text)
 
-  opens_base : (base : Rulebase) → IsOpened old.files name (Ok base) → OpensBase name old new
+  opens_base : (base : Rulebase) → IsOpened old.files name (Ok base) → OpensBase way name old new
   opens_base base o = told_with (λ files. Opens files name (Ok base)) Opened old.files o (λ files h. (base, h))
 
-  opens_refusal : (text : List ℕ) → IsOpened old.files name (Err text) → OpensRefusal name old new
+  opens_refusal : (text : List ℕ) → IsOpened old.files name (Err text) → OpensRefusal way name old new
   opens_refusal text o = told_with (λ files. Opens files name (Err text)) Refused old.files o (λ files h. (text, h))
 
   pub all_read : (bytes read : List ℕ) (l' : Option (List ℕ)) → Consumes (Some bytes) l' read → IsAtEnd l' → read ≡ bytes
   all_read bytes read None took end = absurd took
   all_read bytes read (Some rest) took end = search (append-nil, took, end)
 
-  wrote_all : (base : Rulebase) (read : List ℕ) (o : Option Files) (l : Option (List ℕ)) → IfSome o (λ files. Opens files name (Ok base)) → Consumes l new.left read → IsAtEnd new.left → SaysAll base old new read
-      → IfSome o (λ files. IfSome l (λ bytes. (b : Rulebase) × Opens files name (Ok b) × SaysAll b old new bytes))
+  wrote_all : (base : Rulebase) (read : List ℕ) (o : Option Files) (l : Option (List ℕ)) → IfSome o (λ files. Opens files name (Ok base)) → Consumes l new.left read → IsAtEnd new.left → SaysAll way base old new read
+      → IfSome o (λ files. IfSome l (λ bytes. (b : Rulebase) × Opens files name (Ok b) × SaysAll way b old new bytes))
   wrote_all base read None l opens took end says = tt
   wrote_all base read (Some files) None opens took end says = tt
-  wrote_all base read (Some files) (Some bytes) opens took end says = (base, opens, subst (λ t. SaysAll base old new t) (all_read bytes read new.left took end) says)
+  wrote_all base read (Some files) (Some bytes) opens took end says = (base, opens, subst (λ t. SaysAll way base old new t) (all_read bytes read new.left took end) says)
 
-  module _ (n : Counts) where
-    abbrev Front : List ℕ → Files → Type 0
-    Front read files =
-        (Appends old.written new.written [] × IsUnused old new) ⊎ ((text : List ℕ) × Opens files name (Err text) × AppendsFront old.written new.written text × IsUnused old new) ⊎ ((base : Rulebase) × Opens files name (Ok base) × SaysFront base old new n read)
+  -- bytes that begin with those after which no line is taken
+  pub all_over : (base : Rulebase) (bytes read : List ℕ) (l' : Option (List ℕ)) → Consumes (Some bytes) l' read → SaysOver way base old new read → SaysAll way base old new bytes
+  all_over base bytes read None took says = absurd took
+  all_over base bytes read (Some rest) took says =
+      subst (λ t. SaysAll way base old new t) (sym took) (record { text = says.text; held = says.held; said = says.said rest; wrote = says.wrote; leaves = says.leaves })
 
-    wrote_front : (base : Rulebase) (read : List ℕ) → IsOpened old.files name (Ok base) → Consumes old.left new.left read → SaysFront base old new n read → WroteFront name old new n
-    wrote_front base read opens took says = (read, took, told_with (λ files. Opens files name (Ok base)) (Front read) old.files opens (λ files o. inr (inr (base, o, says))))
+  wrote_over : (base : Rulebase) (read : List ℕ) (o : Option Files) (l : Option (List ℕ)) → IfSome o (λ files. Opens files name (Ok base)) → Consumes l new.left read → SaysOver way base old new read
+      → IfSome o (λ files. IfSome l (λ bytes. (b : Rulebase) × Opens files name (Ok b) × SaysAll way b old new bytes))
+  wrote_over base read None l opens took says = tt
+  wrote_over base read (Some files) None opens took says = tt
+  wrote_over base read (Some files) (Some bytes) opens took says = (base, opens, all_over base bytes read new.left took says)
 
-    wrote_refused : (text : List ℕ) → IsOpened old.files name (Err text) → IsUnused old new → AppendsFront old.written new.written text → WroteFront name old new n
-    wrote_refused text opens u wrote = ([], unread u, told_with (λ files. Opens files name (Err text)) (Front []) old.files opens (λ files o. inr (inl (text, o, wrote, u))))
+  through : (base : Rulebase) (read : List ℕ) → IsOpened old.files name (Ok base) → Consumes old.left new.left read → SaysOver way base old new read → IsThrough way name old new
+  through base read o took says =
+      told_with (λ files. Opens files name (Ok base)) (λ files. (b : Rulebase) × Opens files name (Ok b) × ((r : List ℕ) × Consumes old.left new.left r × SaysOver way b old new r)) old.files o (λ files h. (base, h, (read, took, says)))
 
-    nothing_told : (o : Option Files) → IsUnused old new → Appends old.written new.written [] → IfSome o (Front [])
-    nothing_told None u none = tt
-    nothing_told (Some files) u none = inl (none, u)
+  abbrev Front : List ℕ → Files → Type 0
+  Front read files =
+      (Appends old.written new.written [] × IsUnused old new) ⊎ ((text : List ℕ) × Opens files name (Err text) × AppendsFront old.written new.written text × IsUnused old new) ⊎ ((base : Rulebase) × Opens files name (Ok base) × SaysFront way base old new read)
 
-    wrote_nothing : IsUnused old new → Appends old.written new.written [] → WroteFront name old new n
-    wrote_nothing u none = ([], unread u, nothing_told old.files u none)
+  wrote_front : (base : Rulebase) (read : List ℕ) → IsOpened old.files name (Ok base) → Consumes old.left new.left read → SaysFront way base old new read → WroteFront way name old new
+  wrote_front base read opens took says = (read, took, told_with (λ files. Opens files name (Ok base)) (Front read) old.files opens (λ files o. inr (inr (base, o, says))))
 
-    -- the lines of a front of what was read
-    front_lines : (whole rest read : List ℕ) → whole ++ rest ≡ read → EndsLine whole → input_lines read ≡ input_lines whole ++ lines_from (is_empty whole) rest
-    front_lines whole rest read cut ends = ap input_lines (sym cut) ∙ lines_from-append true whole rest ends
+  wrote_refused : (text : List ℕ) → IsOpened old.files name (Err text) → IsUnused old new → AppendsFront old.written new.written text → WroteFront way name old new
+  wrote_refused text opens u wrote = ([], unread u, told_with (λ files. Opens files name (Err text)) (Front []) old.files opens (λ files o. inr (inl (text, o, wrote, u))))
 
-    whole_front : (base : Rulebase) (whole rest read : List ℕ) → whole ++ rest ≡ read → EndsLine whole → SaysAll base old new whole → SaysFront base old new n read
-    whole_front base whole rest read cut ends s = record {
+  nothing_told : (o : Option Files) → IsUnused old new → Appends old.written new.written [] → IfSome o (Front [])
+  nothing_told None u none = tt
+  nothing_told (Some files) u none = inl (none, u)
+
+  wrote_nothing : IsUnused old new → Appends old.written new.written [] → WroteFront way name old new
+  wrote_nothing u none = ([], unread u, nothing_told old.files u none)
+
+  -- the lines of a front of what was read
+  front_lines : (whole rest read : List ℕ) → whole ++ rest ≡ read → EndsLine whole → input_lines read ≡ input_lines whole ++ lines_from (is_empty whole) rest
+  front_lines whole rest read cut ends = ap input_lines (sym cut) ∙ lines_from-append true whole rest ends
+
+  whole_front : (base : Rulebase) (whole rest read : List ℕ) → whole ++ rest ≡ read → EndsLine whole → SaysAll way base old new whole → SaysFront way base old new read
+  whole_front base whole rest read cut ends s = record {
+    held = s.held;
+    halted = record {
+      done = input_lines whole;
+      more = lines_from (is_empty whole) rest;
+      cut = sym (front_lines whole rest read cut ends);
+      text = s.text;
       held = s.held;
-      halted = record {
-        done = input_lines whole;
-        more = lines_from (is_empty whole) rest;
-        cut = sym (front_lines whole rest read cut ends);
-        text = s.text;
-        held = s.held;
-        said = s.said;
-        left = inl refl;
-        wrote = front_all old.written new.written s.text s.wrote;
-      };
-      files = s.files;
-    }
+      said = s.said;
+      left = inl refl;
+      wrote = front_all old.written new.written s.text s.wrote;
+    };
+    leaves = s.leaves;
+  }
 
-    lines_front : (base : Rulebase) (read : List ℕ) → SaysWhole base old new read → SaysFront base old new n read
-    lines_front base read (whole, is, says) = whole_front base whole is.rest read is.cut is.ends says
+  lines_front : (base : Rulebase) (read : List ℕ) → SaysWhole way base old new read → SaysFront way base old new read
+  lines_front base read w = whole_front base w.whole w.is_whole.rest read w.is_whole.cut w.is_whole.ends w.says
 
-    limit_front : (base : Rulebase) (read : List ℕ) → SaysWhole base old new (take MOST read) → SaysFront base old new n read
-    limit_front base read (whole, is, says) =
-        whole_front base whole (is.rest ++ drop MOST read) read (sym (append_assoc whole is.rest (drop MOST read)) ∙ ap (λ s. s ++ drop MOST read) is.cut ∙ take-append-drop MOST read) is.ends says
+  limit_front : (base : Rulebase) (read : List ℕ) → SaysWhole way base old new (take MOST read) → SaysFront way base old new read
+  limit_front base read w =
+      whole_front base w.whole (w.is_whole.rest ++ drop MOST read) read (sym (append_assoc w.whole w.is_whole.rest (drop MOST read)) ∙ ap (λ s. s ++ drop MOST read) w.is_whole.cut ∙ take-append-drop MOST read) w.is_whole.ends w.says
 
-    talked : (s : Status) (base : Rulebase) → IsOpened old.files name (Ok base) → Talks base old new n s → Wrote name old new n s
-    talked status.Done base o (read, took, few, (end, says)) = wrote_all base read old.files old.left o took end says
-    talked status.Refused base o t = absurd t
-    talked status.Usage base o t = absurd t
-    talked status.ReadFault base o (read, took, few, inl h) = wrote_front base read o took (lines_front base read h.1)
-    talked status.ReadFault base o (read, took, few, inr h) = wrote_front base read o took h.1
-    talked status.WriteFault base o (read, took, few, (why, says)) = wrote_front base read o took says
-    talked status.NoMemory base o (read, took, few, says) = wrote_front base read o took says
-    talked status.InputLimit base o (read, took, many, says) = wrote_front base read o took (limit_front base read says)
+  talked : (s : Status) (base : Rulebase) → IsOpened old.files name (Ok base) → Talks way base old new s → Wrote way name old new s
+  talked status.Done base o (read, took, few, inl h) = wrote_all base read old.files old.left o took h.0 h.1
+  talked status.Done base o (read, took, few, inr h) = wrote_over base read old.files old.left o took h
+  talked status.Refused base o t = absurd t
+  talked status.Usage base o t = absurd t
+  talked status.ReadFault base o (read, took, few, inl h) = wrote_front base read o took (lines_front base read h.1)
+  talked status.ReadFault base o (read, took, few, inr h) = wrote_front base read o took h.1
+  talked status.WriteFault base o (read, took, few, (why, says)) = wrote_front base read o took says
+  talked status.NoMemory base o (read, took, few, says) = wrote_front base read o took says
+  talked status.InputLimit base o (read, took, many, says) = wrote_front base read o took (limit_front base read says)
 
-    refusal_written : (text : List ℕ) → IsOpened old.files name (Err text) → IsUnused old new → Appends old.written new.written text → WroteRefusal name old new
-    refusal_written text o u wrote =
-        told_with (λ files. Opens files name (Err text)) (λ files. (t : List ℕ) × Opens files name (Err t) × Appends old.written new.written t × IsUnused old new) old.files o (λ files h. (text, h, wrote, u))
+  refusal_written : (text : List ℕ) → IsOpened old.files name (Err text) → IsUnused old new → Appends old.written new.written text → WroteRefusal way name old new
+  refusal_written text o u wrote =
+      told_with (λ files. Opens files name (Err text)) (λ files. (t : List ℕ) × Opens files name (Err t) × Appends old.written new.written t × IsUnused old new) old.files o (λ files h. (text, h, wrote, u))
 
-    told_refusal : (s : Status) (text : List ℕ) → IsOpened old.files name (Err text) → IsUnused old new → IsTold status.Refused text old.written new.written n.write_before n.write_now s → Wrote name old new n s
-    told_refusal s text o u (inl h) = subst (Wrote name old new n) (sym h.0) (refusal_written text o u h.1)
-    told_refusal s text o u (inr h) = subst (Wrote name old new n) (sym h.0) (wrote_refused text o u h.2)
+  told_refusal : (s : Status) (text : List ℕ) → IsOpened old.files name (Err text) → IsUnused old new → IsTold status.Refused text old.written new.written old.writes new.writes s → Wrote way name old new s
+  told_refusal s text o u (inl h) = subst (Wrote way name old new) (sym h.0) (refusal_written text o u h.1)
+  told_refusal s text o u (inr h) = subst (Wrote way name old new) (sym h.0) (wrote_refused text o u h.2)
 
-    pub run_wrote : (s : Status) → Runs name old new n s → Wrote name old new n s
-    run_wrote s (Runs.talks base m o t) = talked s base o t
-    run_wrote s (Runs.refuses text o u told) = told_refusal s text o u told
-    run_wrote status.ReadFault (Runs.cannot_take rose u none) = wrote_nothing u none
-    run_wrote status.NoMemory (Runs.cannot_hold u none) = wrote_nothing u none
+  pub run_wrote : (s : Status) → Runs way name old new s → Wrote way name old new s
+  run_wrote s (Runs.talks base m o t) = talked s base o t
+  run_wrote s (Runs.refuses text o u told) = told_refusal s text o u told
+  run_wrote status.ReadFault (Runs.cannot_take rose u none) = wrote_nothing u none
+  run_wrote status.NoMemory (Runs.cannot_hold u none) = wrote_nothing u none
 
-    -- ---- where it left off
+  -- ---- where it left off
 
-    lines_written : (base : Rulebase) (read : List ℕ) (part : List ℕ → List ℕ) → IsOpened old.files name (Ok base) → Consumes old.left new.left read → SaysWhole base old new (part read) → WroteLines name old new part
-    lines_written base read part o took says =
-        told_with (λ files. Opens files name (Ok base)) (λ files. (b : Rulebase) × Opens files name (Ok b) × ((r : List ℕ) × Consumes old.left new.left r × SaysWhole b old new (part r))) old.files o (λ files h. (base, h, (read, took, says)))
+  lines_written : (base : Rulebase) (read : List ℕ) (part : List ℕ → List ℕ) → IsOpened old.files name (Ok base) → Consumes old.left new.left read → SaysWhole way base old new (part read) → WroteLines way name old new part
+  lines_written base read part o took says =
+      told_with (λ files. Opens files name (Ok base)) (λ files. (b : Rulebase) × Opens files name (Ok b) × ((r : List ℕ) × Consumes old.left new.left r × SaysWhole way b old new (part r))) old.files o (λ files h. (base, h, (read, took, says)))
 
-    talk_left_off : (s : Status) (base : Rulebase) → IsOpened old.files name (Ok base) → Talks base old new n s → LeftOff name old new n s
-    talk_left_off status.Done base o t = tt
-    talk_left_off status.Refused base o t = tt
-    talk_left_off status.Usage base o t = tt
-    talk_left_off status.ReadFault base o (read, took, few, inl h) = λ calm. lines_written base read (λ r. r) o took h.1
-    talk_left_off status.ReadFault base o (read, took, few, inr h) = λ calm. absurd (calm h.0)
-    talk_left_off status.WriteFault base o t = tt
-    talk_left_off status.NoMemory base o t = tt
-    talk_left_off status.InputLimit base o (read, took, many, says) = lines_written base read (take MOST) o took says
+  talk_left_off : (s : Status) (base : Rulebase) → IsOpened old.files name (Ok base) → Talks way base old new s → LeftOff way name old new s
+  talk_left_off status.Done base o t = tt
+  talk_left_off status.Refused base o t = tt
+  talk_left_off status.Usage base o t = tt
+  talk_left_off status.ReadFault base o (read, took, few, inl h) = λ calm. lines_written base read (λ r. r) o took h.1
+  talk_left_off status.ReadFault base o (read, took, few, inr h) = λ calm. absurd (calm h.0)
+  talk_left_off status.WriteFault base o t = tt
+  talk_left_off status.NoMemory base o t = tt
+  talk_left_off status.InputLimit base o (read, took, many, says) = lines_written base read (take MOST) o took says
 
-    refusal_left_off : (s : Status) (text : List ℕ) → IsTold status.Refused text old.written new.written n.write_before n.write_now s → LeftOff name old new n s
-    refusal_left_off s text (inl h) = subst (LeftOff name old new n) (sym h.0) tt
-    refusal_left_off s text (inr h) = subst (LeftOff name old new n) (sym h.0) tt
+  refusal_left_off : (s : Status) (text : List ℕ) → IsTold status.Refused text old.written new.written old.writes new.writes s → LeftOff way name old new s
+  refusal_left_off s text (inl h) = subst (LeftOff way name old new) (sym h.0) tt
+  refusal_left_off s text (inr h) = subst (LeftOff way name old new) (sym h.0) tt
 
-    pub run_left_off : (s : Status) → Runs name old new n s → LeftOff name old new n s
-    run_left_off s (Runs.talks base m o t) = talk_left_off s base o t
-    run_left_off s (Runs.refuses text o u told) = refusal_left_off s text told
-    run_left_off status.ReadFault (Runs.cannot_take rose u none) = λ calm. absurd (calm rose)
-    run_left_off status.NoMemory (Runs.cannot_hold u none) = tt
+  pub run_left_off : (s : Status) → Runs way name old new s → LeftOff way name old new s
+  run_left_off s (Runs.talks base m o t) = talk_left_off s base o t
+  run_left_off s (Runs.refuses text o u told) = refusal_left_off s text told
+  run_left_off status.ReadFault (Runs.cannot_take rose u none) = λ calm. absurd (calm rose)
+  run_left_off status.NoMemory (Runs.cannot_hold u none) = tt
 
-    -- ---- causes
+  -- ---- causes
 
-    talk_cause : (s : Status) (base : Rulebase) → IsOpened old.files name (Ok base) → Talks base old new n s → HasCause name old new n s
-    talk_cause status.Done base o (read, took, few, (end, says)) = (opens_base base o, end, (read, took, few))
-    talk_cause status.Refused base o t = absurd t
-    talk_cause status.Usage base o t = absurd t
-    talk_cause status.ReadFault base o (read, took, few, inl h) = (inr h.0, (read, took, few))
-    talk_cause status.ReadFault base o (read, took, few, inr h) = (inl h.0, (read, took, few))
-    talk_cause status.WriteFault base o (read, took, few, (why, says)) = (why, (read, took, few))
-    talk_cause status.NoMemory base o (read, took, few, says) = (read, took, few)
-    talk_cause status.InputLimit base o (read, took, many, says) = (opens_base base o, (read, took, many))
+  talk_cause : (s : Status) (base : Rulebase) → IsOpened old.files name (Ok base) → Talks way base old new s → HasCause way name old new s
+  talk_cause status.Done base o (read, took, few, inl h) = (opens_base base o, inl h.0, (read, took, few))
+  talk_cause status.Done base o (read, took, few, inr h) = (opens_base base o, inr (through base read o took h), (read, took, few))
+  talk_cause status.Refused base o t = absurd t
+  talk_cause status.Usage base o t = absurd t
+  talk_cause status.ReadFault base o (read, took, few, inl h) = (inr h.0, (read, took, few))
+  talk_cause status.ReadFault base o (read, took, few, inr h) = (inl h.0, (read, took, few))
+  talk_cause status.WriteFault base o (read, took, few, (why, says)) = (why, (read, took, few))
+  talk_cause status.NoMemory base o (read, took, few, says) = (read, took, few)
+  talk_cause status.InputLimit base o (read, took, many, says) = (opens_base base o, (read, took, many))
 
-    refusal_cause : (s : Status) (text : List ℕ) → IsOpened old.files name (Err text) → IsUnused old new → IsTold status.Refused text old.written new.written n.write_before n.write_now s → HasCause name old new n s
-    refusal_cause s text o u (inl h) = subst (HasCause name old new n) (sym h.0) (opens_refusal text o, u)
-    refusal_cause s text o u (inr h) = subst (HasCause name old new n) (sym h.0) (inl h.1, none_read u)
+  refusal_cause : (s : Status) (text : List ℕ) → IsOpened old.files name (Err text) → IsUnused old new → IsTold status.Refused text old.written new.written old.writes new.writes s → HasCause way name old new s
+  refusal_cause s text o u (inl h) = subst (HasCause way name old new) (sym h.0) (opens_refusal text o, u)
+  refusal_cause s text o u (inr h) = subst (HasCause way name old new) (sym h.0) (inl h.1, none_read u)
 
-    pub run_cause : (s : Status) → Runs name old new n s → HasCause name old new n s
-    run_cause s (Runs.talks base m o t) = talk_cause s base o t
-    run_cause s (Runs.refuses text o u told) = refusal_cause s text o u told
-    run_cause status.ReadFault (Runs.cannot_take rose u none) = (inl rose, none_read u)
-    run_cause status.NoMemory (Runs.cannot_hold u none) = none_read u
+  pub run_cause : (s : Status) → Runs way name old new s → HasCause way name old new s
+  run_cause s (Runs.talks base m o t) = talk_cause s base o t
+  run_cause s (Runs.refuses text o u told) = refusal_cause s text o u told
+  run_cause status.ReadFault (Runs.cannot_take rose u none) = (inl rose, none_read u)
+  run_cause status.NoMemory (Runs.cannot_hold u none) = none_read u
 
 -- ---- where nothing fails
 
@@ -177,38 +194,41 @@ took_within : (bytes read : List ℕ) (l' : Option (List ℕ)) → Consumes (Som
 took_within bytes read None h = absurd h
 took_within bytes read (Some rest) h = omega (arith, ap length h, length-append read rest)
 
-module _ (name : List ℕ) (files : Files) (bytes : List ℕ) (new : Outside) (w : Option (List ℕ)) (n : Counts) (calm : Calm n) (short : length bytes ≤ MOST) where
-  abbrev there : Outside
-  there = record { files = Some files; left = Some bytes; written = w }
-
+module _ (way : Manner) (name : List ℕ) (files : Files) (bytes : List ℕ) (old new : Outside) (calm : Calm old new) (short : length bytes ≤ MOST) where
   abbrev Decided : Status → Type 0
   Decided s = (opened : Result Rulebase (List ℕ)) × Opens files name opened × (s ≡ verdict_status opened)
 
-  talk_decided : (s : Status) (base : Rulebase) → Opens files name (Ok base) → Talks base there new n s → s ≢ status.NoMemory → Decided s
-  talk_decided status.Done base o t some = (Ok base, o, refl)
-  talk_decided status.Refused base o t some = absurd t
-  talk_decided status.Usage base o t some = absurd t
-  talk_decided status.ReadFault base o (read, took, few, inl h) some = absurd (calm.read h.0)
-  talk_decided status.ReadFault base o (read, took, few, inr h) some = absurd (calm.take h.0)
-  talk_decided status.WriteFault base o (read, took, few, (inl h, says)) some = absurd (calm.write h)
-  talk_decided status.WriteFault base o (read, took, few, (inr h, says)) some = absurd (calm.keep h)
-  talk_decided status.NoMemory base o t some = absurd (some refl)
-  talk_decided status.InputLimit base o (read, took, many, says) some = absurd (let few = took_within bytes read new.left took in omega (arith, few, many, short))
+  talk_decided : (s : Status) (base : Rulebase) → old.left ≡ Some bytes → Opens files name (Ok base) → Talks way base old new s → s ≢ status.NoMemory → Decided s
+  talk_decided status.Done base l o t some = (Ok base, o, refl)
+  talk_decided status.Refused base l o t some = absurd t
+  talk_decided status.Usage base l o t some = absurd t
+  talk_decided status.ReadFault base l o (read, took, few, inl h) some = absurd (calm.read h.0)
+  talk_decided status.ReadFault base l o (read, took, few, inr h) some = absurd (calm.take h.0)
+  talk_decided status.WriteFault base l o (read, took, few, (inl h, says)) some = absurd (calm.write h)
+  talk_decided status.WriteFault base l o (read, took, few, (inr h, says)) some = absurd (calm.keep h)
+  talk_decided status.NoMemory base l o t some = absurd (some refl)
+  talk_decided status.InputLimit base l o (read, took, many, says) some =
+      absurd (let few = took_within bytes read new.left (subst (λ x. Consumes x new.left read) l took) in omega (arith, few, many, short))
 
-  refusal_decided : (s : Status) (text : List ℕ) (w' : Option (List ℕ)) → Opens files name (Err text) → IsTold status.Refused text w w' n.write_before n.write_now s → Decided s
-  refusal_decided s text w' o (inl h) = (Err text, o, h.0)
-  refusal_decided s text w' o (inr h) = absurd (calm.write h.1)
+  refusal_decided : (s : Status) (text : List ℕ) → Opens files name (Err text) → IsTold status.Refused text old.written new.written old.writes new.writes s → Decided s
+  refusal_decided s text o (inl h) = (Err text, o, h.0)
+  refusal_decided s text o (inr h) = absurd (calm.write h.1)
 
-  decided : (s : Status) → Runs name there new n s → s ≢ status.NoMemory → Decided s
-  decided s (Runs.talks base m o t) some = talk_decided s base o t some
-  decided s (Runs.refuses text o u told) some = refusal_decided s text new.written o told
-  decided status.ReadFault (Runs.cannot_take rose u none) some = absurd (calm.take rose)
-  decided status.NoMemory (Runs.cannot_hold u none) some = absurd (some refl)
+  opened : (P : Result Rulebase (List ℕ)) → old.files ≡ Some files → IsOpened old.files name P → Opens files name P
+  opened r f o = let Q : Option Files → Type 0 = λ t. IsOpened t name r in subst Q f o
 
-completed : (name : List ℕ) (f : Option Files) (l w : Option (List ℕ)) (new : Outside) (n : Counts) (s : Status) → Runs name (record { files = f; left = l; written = w }) new n s → Completes name (record { files = f; left = l; written = w }) n s
-completed name None l w new n s r = tt
-completed name (Some files) None w new n s r = tt
-completed name (Some files) (Some bytes) w new n s r = λ calm short some. decided name files bytes new w n calm short s r some
+  decided : (s : Status) → old.files ≡ Some files → old.left ≡ Some bytes → Runs way name old new s → s ≢ status.NoMemory → Decided s
+  decided s f l (Runs.talks base m o t) some = talk_decided s base l (opened (Ok base) f o) t some
+  decided s f l (Runs.refuses text o u told) some = refusal_decided s text (opened (Err text) f o) told
+  decided status.ReadFault f l (Runs.cannot_take rose u none) some = absurd (calm.take rose)
+  decided status.NoMemory f l (Runs.cannot_hold u none) some = absurd (some refl)
 
-pub run_complete : (name : List ℕ) (old new : Outside) (n : Counts) (s : Status) → Runs name old new n s → Completes name old n s
-run_complete name old new n s r = completed name old.files old.left old.written new n s r
+module _ (way : Manner) (name : List ℕ) (old new : Outside) (s : Status) (r : Runs way name old new s) where
+  completed : (f : Option Files) (l : Option (List ℕ)) → old.files ≡ f → old.left ≡ l
+      → IfSome f (λ files. IfSome l (λ bytes. Calm old new → length bytes ≤ MOST → s ≢ status.NoMemory → (opened : Result Rulebase (List ℕ)) × Opens files name opened × (s ≡ verdict_status opened)))
+  completed None l ef el = tt
+  completed (Some files) None ef el = tt
+  completed (Some files) (Some bytes) ef el = λ calm short some. decided way name files bytes old new calm short s ef el r some
+
+  pub run_complete : Completes name old new s
+  run_complete = completed old.files old.left refl refl

@@ -1,7 +1,10 @@
 -- How a run ends, from what its parts ensure.
-use Rattle.std.proofs.Common.{◌≡◌, ◌≤◌, inl, inr, ℕ, List, Result, Ok, Err, OnOk, IfErr, refl, subst, arith}
+use Rattle.std.proofs.Common.{◌≡◌, ◌≤◌, inl, inr, ℕ, true, false, List, Result, Ok, Err, OnOk, IfErr, refl, sym, subst, arith, ◌∙◌}
+use Rattle.std.specs.Io.KnownBytes.{IsAtEnd}
 use Rattle.opa_io.specs.Outside.{Rose}
-use Rattle.opa_case.specs.Cases.{CaseView, no_case}
+use Rattle.opa_io.specs.declared.fault.Status.{Status}
+use Rattle.opa_io.specs.declared.fault.Status.TheVariants as status
+use Rattle.opa_model.specs.Models.{IsModel}
 use Rattle.opa_talk.specs.declared.halt.Halt.{Halt}
 use Rattle.opa_talk.specs.declared.halt.Halt.TheVariants as halt
 use Rattle.opa_talk.specs.Halt.{IsCause}
@@ -9,44 +12,64 @@ use Rattle.opa_talk.specs.Lines.{input_lines}
 use Rattle.opa_talk.specs.Talk.{Converses, Halts, Halted, Paused, WhereRose}
 use Rattle.opa_talk.proofs.EndLaws.{halts_memory}
 use Rattle.opa_tree.specs.declared.rulebase.Rulebase.{Rulebase}
-use Rattle.opa_reply.specs.Held.{Held, at_first, files_in}
-use Rattle.opa_reply.specs.Replies.{conversation, Stops}
-use Rattle.opa_top.specs.Running.{MOST, Counts, Outside, SaysFront, SaysWhole, Talks, TalksAll, TalksPart, end_of}
+use Rattle.opa_reply.specs.Held.{Held}
+use Rattle.opa_top.specs.Checking.{IsTold}
+use Rattle.opa_top.specs.Running.{MOST, Manner, Outside, beginning, Leaves, SaysFront, SaysOver, SaysWhole, Talks, TalksAll, TalksPart, Runs, a_run, end_of}
 
-module _ (base : Rulebase) (old new : Outside) (s s' : Rulebase × CaseView) (is : s ≡ (base, no_case)) where
-  pub talks_all : {E : Type 0} (r : Result (Unit {0}) E) → OnOk r (Converses conversation (s, old.files) (s', new.files) MOST old.left new.left old.written new.written) → OnOk r (TalksAll base old new)
-  talks_all (Ok u) h = let P : Rulebase × CaseView → Type 0 = λ x. Converses conversation (x, old.files) (s', new.files) MOST old.left new.left old.written new.written in ((s', new.files), subst P is h, refl)
+module _ (way : Manner) (base : Rulebase) (old new : Outside) (s s' : Held) (is : s ≡ beginning base old) (leaves : Leaves new s') where
+  pub talks_all : {E : Type 0} (r : Result (Unit {0}) E) → OnOk r (Converses way.rule s s' MOST old.left new.left old.written new.written) → OnOk r (TalksAll way base old new)
+  talks_all (Ok u) h = let P : Held → Type 0 = λ x. Converses way.rule x s' MOST old.left new.left old.written new.written in (s', subst P is h, leaves)
   talks_all (Err e) h = tt
 
-  pub talks_part : {T : Type 0} (keep keep' : ℕ) (r : Result T Halt) → IfErr r (Halts conversation (WhereRose keep keep' Stops) (s, old.files) (s', new.files) MOST old.left new.left old.written new.written)
-      → IfErr r (TalksPart base old new keep keep')
-  talks_part keep keep' (Ok u) h = tt
-  talks_part keep keep' (Err e) h = let P : Rulebase × CaseView → Type 0 = λ x. Halts conversation (WhereRose keep keep' Stops) (x, old.files) (s', new.files) MOST old.left new.left old.written new.written e in ((s', new.files), subst P is h, refl)
+  pub talks_part : {T : Type 0} (r : Result T Halt) → IfErr r (Halts way.rule (WhereRose old.keeps new.keeps way.stops) s s' MOST old.left new.left old.written new.written)
+      → IfErr r (TalksPart way base old new)
+  talks_part (Ok u) h = tt
+  talks_part (Err e) h = let P : Held → Type 0 = λ x. Halts way.rule (WhereRose old.keeps new.keeps way.stops) x s' MOST old.left new.left old.written new.written e in (s', subst P is h, leaves)
 
 -- memory ran out before the first line
-pub talks_not : (base : Rulebase) (old : Outside) (keep keep' : ℕ) → TalksPart base old old keep keep' halt.Memory
-talks_not base old keep keep' = (at_first base old.files, halts_memory conversation (WhereRose keep keep' Stops) (at_first base old.files) MOST old.left old.written, refl)
+pub talks_not : (way : Manner) (base : Rulebase) (old : Outside) → TalksPart way base old old halt.Memory
+talks_not way base old =
+    (beginning base old, halts_memory way.rule (WhereRose old.keeps old.keeps way.stops) (beginning base old) MOST old.left old.written, record { files = refl; hearers = refl })
 
 -- a count that rose later rose
 rose_later : (before mid now : ℕ) → before ≤ mid → Rose mid now → Rose before now
 rose_later before mid now less rose = search (arith, less, rose)
 
-module _ (base : Rulebase) (old new : Outside) (n : Counts) (mid : ℕ) (less : n.take_before ≤ mid) where
-  whole : (y : Held) (read : List ℕ) → Paused conversation (at_first base old.files) y read old.written new.written → new.files ≡ files_in y → SaysWhole base old new read
-  whole y read p files = (p.whole, p.is_whole, record { text = p.text; held = y; said = p.said; wrote = p.wrote; files = files })
+module _ (way : Manner) (base : Rulebase) (old new : Outside) (mid : ℕ) (less : old.takes ≤ mid) where
+  whole : (y : Held) (read : List ℕ) → Paused way.rule (beginning base old) y read old.written new.written → Leaves new y → SaysWhole way base old new read
+  whole y read p leaves = record { whole = p.whole; is_whole = p.is_whole; says = record { text = p.text; held = y; said = p.said; wrote = p.wrote; leaves = leaves }; going = p.going }
 
-  front : (y : Held) (read : List ℕ) → Halted conversation (WhereRose n.keep_before n.keep_now Stops) (at_first base old.files) y (input_lines read) old.written new.written → new.files ≡ files_in y → SaysFront base old new n read
-  front y read h files = record { held = y; halted = h; files = files }
+  front : (y : Held) (read : List ℕ) → Halted way.rule (WhereRose old.keeps new.keeps way.stops) (beginning base old) y (input_lines read) old.written new.written → Leaves new y → SaysFront way base old new read
+  front y read h leaves = record { held = y; halted = h; leaves = leaves }
 
-  pub fed : (r : Result (Unit {0}) Halt) → OnOk r (TalksAll base old new) → IfErr r (TalksPart base old new n.keep_before n.keep_now)
-      → IfErr r (IsCause mid n.take_now n.keep_before n.keep_now n.write_before n.write_now n.read_before n.read_now) → Talks base old new n (end_of r)
-  fed (Ok u) (y, c, files) part cause = elim c.ended [
-    | inl end ↦ (c.read, c.took, c.within, (end, record { text = c.text; held = y; said = c.said; wrote = c.wrote; files = files }))
-    | inr over ↦ absurd (cc over.0)
+  pub fed : (r : Result (Unit {0}) Halt) → OnOk r (TalksAll way base old new) → IfErr r (TalksPart way base old new)
+      → IfErr r (IsCause mid new.takes old.keeps new.keeps old.writes new.writes old.reads new.reads) → Talks way base old new (end_of r)
+  fed (Ok u) (y, c, leaves) part cause = elim c.ended [
+    | inl end ↦ (c.read, c.took, c.within, inl (end, record { text = c.text; held = y; said = c.said; wrote = c.wrote; leaves = leaves }))
+    | inr over ↦ (c.read, c.took, c.within, inr (record { text = c.text; held = y; over = over.0; said = over.1; wrote = c.wrote; leaves = leaves }))
   ]
-  fed (Err halt.Input) all (y, (read, took, (few, p)), files) cause = (read, took, few, inl (cause, whole y read p files))
-  fed (Err halt.Output) all (y, (read, took, (few, h)), files) cause = (read, took, few, (inl cause, front y read h files))
-  fed (Err halt.Take) all (y, (read, took, (few, h)), files) cause = (read, took, few, inr (rose_later n.take_before mid n.take_now less cause, front y read h files))
-  fed (Err halt.Keep) all (y, (read, took, (few, h)), files) cause = (read, took, few, (inr cause, front y read h files))
-  fed (Err halt.Memory) all (y, (read, took, (few, h)), files) cause = (read, took, few, front y read h files)
-  fed (Err halt.Limit) all (y, (read, took, (many, p)), files) cause = (read, took, many, whole y _ p files)
+  fed (Err halt.Input) all (y, (read, took, (few, p)), leaves) cause = (read, took, few, inl (cause, whole y read p leaves))
+  fed (Err halt.Output) all (y, (read, took, (few, h)), leaves) cause = (read, took, few, (inl cause, front y read h leaves))
+  fed (Err halt.Take) all (y, (read, took, (few, h)), leaves) cause = (read, took, few, inr (rose_later old.takes mid new.takes less cause, front y read h leaves))
+  fed (Err halt.Keep) all (y, (read, took, (few, h)), leaves) cause = (read, took, few, (inr cause, front y read h leaves))
+  fed (Err halt.Memory) all (y, (read, took, (few, h)), leaves) cause = (read, took, few, front y read h leaves)
+  fed (Err halt.Limit) all (y, (read, took, (many, p)), leaves) cause = (read, took, many, whole y _ p leaves)
+
+-- ---- a run takes each line
+
+never_over : {T : Type 0} (base : Rulebase) (old new : Outside) (read : List ℕ) → SaysOver a_run base old new read → T
+never_over base old new read h = let no : false ≡ true = h.over in absurd (cc no)
+
+done_reads : (base : Rulebase) (old new : Outside) → Talks a_run base old new status.Done → IsAtEnd new.left
+done_reads base old new (read, took, few, inl h) = h.0
+done_reads base old new (read, took, few, inr h) = never_over base old new read h
+
+refused_not_done : {T : Type 0} (text : List ℕ) (old new : Outside) (s : Status) → IsTold status.Refused text old.written new.written old.writes new.writes s → s ≡ status.Done → T
+refused_not_done text old new s (inl h) e = let no : status.Done ≡ status.Refused = sym e ∙ h.0 in absurd (cc no)
+refused_not_done text old new s (inr h) e = let no : status.Done ≡ status.WriteFault = sym e ∙ h.0 in absurd (cc no)
+
+pub run_reads_all : (name : List ℕ) (old new : Outside) (s : Status) → Runs a_run name old new s → s ≡ status.Done → IsAtEnd new.left
+run_reads_all name old new s (Runs.talks base m o t) e = done_reads base old new (subst (λ x. Talks a_run base old new x) e t)
+run_reads_all name old new s (Runs.refuses text o u told) e = refused_not_done text old new s told e
+run_reads_all name old new status.ReadFault (Runs.cannot_take rose u none) e = absurd (cc e)
+run_reads_all name old new status.NoMemory (Runs.cannot_hold u none) e = absurd (cc e)

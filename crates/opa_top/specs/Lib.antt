@@ -1,3 +1,4 @@
 pub mod Checking
 pub mod Running
 pub mod Statuses
+pub mod Promises

@@ -7,7 +7,11 @@ use Rattle.opa_usage.specs.declared.reading.Mode.TheVariants as mode
 use Rattle.opa_usage.specs.Words.{positionals}
 
 abbrev pub mode_named : List ℕ → Option Mode
-mode_named word = if bytes_eq word (codes "run") then Some mode.Run else if bytes_eq word (codes "check") then Some mode.Check else None
+mode_named word =
+    if bytes_eq word (codes "run") then Some mode.Run
+    else if bytes_eq word (codes "interview") then Some mode.Interview
+    else if bytes_eq word (codes "check") then Some mode.Check
+    else None
 
 abbrev pub asked_by : Option (List ℕ) → Option (List ℕ) → Option (List ℕ) → Option (Mode × List ℕ)
 asked_by (Some word) (Some name) None = option_map (λ m. (m, name)) (mode_named word)

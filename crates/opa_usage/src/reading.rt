@@ -10,6 +10,7 @@ use std::alloc::Global;
 #[derive(Clone, Copy, Debug, PartialEq, Eq)]
 pub enum Mode {
     Run,
+    Interview,
     Check,
 }
 
@@ -26,6 +27,7 @@ fn mode_named(word: &str) -> Option<Mode>
 {
     match word {
         "run" => Some(Mode::Run),
+        "interview" => Some(Mode::Interview),
         "check" => Some(Mode::Check),
         _ => None,
     }

@@ -1,5 +1,6 @@
 use Rattle.opa_script.proofs.LawsHold.{refused_or_read_holds}
 use Rattle.opa_decided.proofs.LineFaults.{one_command_fault_holds}
+use Rattle.opa_decided.proofs.ReplyFaults.{one_reply_fault_holds}
 use Rattle.opa_decided.proofs.laws.one_command_fault.Goals as goal
 
 pub returns-clause-fault : goal.returns-clause-fault
@@ -7,3 +8,6 @@ returns-clause-fault c = one_command_fault_holds
 
 pub returns-clause-apart : goal.returns-clause-apart
 returns-clause-apart c = refused_or_read_holds
+
+pub returns-clause-reply : goal.returns-clause-reply
+returns-clause-reply c = one_reply_fault_holds

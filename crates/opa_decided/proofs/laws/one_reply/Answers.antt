@@ -2,7 +2,7 @@ use Rattle.opa_decided.proofs.Replying.{one_reply_holds, same_base_holds, stays_
 use Rattle.opa_decided.proofs.laws.one_reply.Goals as goal
 
 pub returns-clause-reply : goal.returns-clause-reply
-returns-clause-reply c = one_reply_holds
+returns-clause-reply c = one_reply_holds c.told_once.ensures c.one_report_told.ensures
 
 pub returns-clause-base : goal.returns-clause-base
 returns-clause-base c = same_base_holds

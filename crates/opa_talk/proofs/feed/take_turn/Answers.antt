@@ -9,7 +9,7 @@ returns-in_default-clause-err g c = (
   [],
   Consumes-Keeps _ _ _ [] (Consumes-none _) (rw c.in_default.is at c.read_into.ensures.bytes),
   omega arith,
-  record { going = c.requires.going; carried = carries_none g.T.Replier.rule (point_of (g.T.Replier.state c.args.replier.now, g.F.Shelf.files c.args.shelf.now) c.args.pending.now) _ c.requires.part },
+  record { going = c.requires.going; carried = carries_none g.T.Replier.rule (point_of _ c.args.pending.now) _ c.requires.part },
 )
 
 pub returns-then-count-eq0-clause-ok : goal.returns-then-count-eq0-clause-ok
@@ -17,5 +17,5 @@ returns-then-count-eq0-clause-ok g c =
     let room : 0 < length c.read_into.new.buf.items = omega (arith, c.requires.room, c.read_into.ensures.len, c.read_into.new.buf.ok) in (
       rw c.if-count-eq0.true at c.in-Ok.ensures.bytes.0,
       c.in-Ok.ensures.bytes.1 c.if-count-eq0.true room,
-      record { going = c.requires.going; carried = carries_none g.T.Replier.rule (point_of (g.T.Replier.state c.args.replier.now, g.F.Shelf.files c.args.shelf.now) c.args.pending.now) _ c.requires.part },
+      record { going = c.requires.going; carried = carries_none g.T.Replier.rule (point_of _ c.args.pending.now) _ c.requires.part },
     )

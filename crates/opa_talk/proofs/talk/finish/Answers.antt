@@ -9,10 +9,10 @@ use Rattle.opa_talk.proofs.talk.finish.Goals as goal
 pub returns-in_err-carry_out-clause-err : goal.returns-in_err-carry_out-clause-err
 returns-in_err-carry_out-clause-err g c =
     let p = err_from_is_err_and c.from_residual.result c.from_residual.ensures.1 in
-    rw p.1 (breaks_last g.T.Replier.rule (point_of (g.T.Replier.state c.args.replier.now, g.F.Shelf.files c.args.shelf.now) c.args.pending.now) _ _ _ _ c.requires.part c.requires.going
+    rw p.1 (breaks_last g.T.Replier.rule (point_of _ c.args.pending.now) _ _ _ _ c.requires.part c.requires.going
     (c.line_at-line.ensures ∙ ap (line_at c.args.pending.now.fresh) c.deref.ensures.value) (sym c.is_empty.ensures ∙ c.if-is_empty.false) (WhereRose (g.F.Shelf.keep_faults c.args.shelf.now) (g.F.Shelf.keep_faults c.carry_out.new.shelf) g.T.Replier.Stops) c.in_err-carry_out.ensures.err)
 
 pub returns-clause-ok : goal.returns-clause-ok
 returns-clause-ok g c =
-    finishes_line g.T.Replier.rule (point_of (g.T.Replier.state c.args.replier.now, g.F.Shelf.files c.args.shelf.now) c.args.pending.now) _ _ _ _ c.requires.part c.requires.going
+    finishes_line g.T.Replier.rule (point_of _ c.args.pending.now) _ _ _ _ c.requires.part c.requires.going
     (c.line_at-line.ensures ∙ ap (line_at c.args.pending.now.fresh) c.deref.ensures.value) (sym c.is_empty.ensures ∙ c.if-is_empty.false) _ c.in_ok-carry_out.ensures.ok

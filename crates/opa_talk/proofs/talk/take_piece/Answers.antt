@@ -4,13 +4,13 @@ use Rattle.std.proofs.lemmas.Result.{err_from_is_err_and}
 use Rattle.std.proofs.lemmas.List.Elements.{All-append}
 use Rattle.opa_talk.specs.Talk.{WhereRose}
 use Rattle.opa_talk.specs.Points.{point_of}
-use Rattle.opa_talk.proofs.PointsLaws.{joined, joined_whole, carries_none, carries-append, breaks_none, breaks_after, breaks_more, breaks_is}
+use Rattle.opa_talk.proofs.PointsLaws.{joined, joined_whole, carries_none, carries-append, goes_part, breaks_none, breaks_after, breaks_more, breaks_is}
 use Rattle.opa_talk.proofs.RoseLaws.{breaks_later}
 use Rattle.opa_talk.proofs.talk.take_piece.Goals as goal
 
 pub loop-bytes-init : goal.loop-bytes-init
 loop-bytes-init g c = record {
-  done = ([], refl, carries_none g.T.Replier.rule (point_of (g.T.Replier.state c.args.replier.now, g.F.Shelf.files c.args.shelf.now) c.args.pending.now) _ c.requires.part);
+  done = ([], refl, carries_none g.T.Replier.rule (point_of _ c.args.pending.now) _ c.requires.part);
   going = c.requires.going;
   part = c.requires.part;
   later = omega arith;
@@ -28,7 +28,7 @@ loop-bytes-preserved g c =
       done = (
         done.0 ++ (c.in-Some.bytes.now ++ 10 ∷ []),
         joined done.0 _ _ _ _ done.1 c.in-Some.ensures.1,
-        carries-append g.T.Replier.rule _ (point_of (g.T.Replier.state c.loop-bytes.replier, g.F.Shelf.files c.loop-bytes.shelf) c.loop-bytes.pending) _ _ _ _ _ _ done.2 c.in_ok-over.ensures.ok,
+        carries-append g.T.Replier.rule _ (point_of _ c.loop-bytes.pending) _ _ _ _ _ _ done.2 c.in_ok-over.ensures.ok,
       );
       going = sym c.in_ok-over.ensures.over ∙ c.if-over.false;
       part = c.in_ok-over.ensures.ok.part;
@@ -45,7 +45,7 @@ returns-then-over-clause-ok g c =
       rest = c.in-Some.after.now;
       cut = joined done.0 _ _ _ _ done.1 c.in-Some.ensures.1;
       over = sym c.in_ok-over.ensures.over ∙ c.if-over.true;
-      carried = carries-append g.T.Replier.rule _ (point_of (g.T.Replier.state c.loop-bytes.replier, g.F.Shelf.files c.loop-bytes.shelf) c.loop-bytes.pending) _ _ _ _ _ _ done.2 c.in_ok-over.ensures.ok;
+      carried = carries-append g.T.Replier.rule _ (point_of _ c.loop-bytes.pending) _ _ _ _ _ _ done.2 c.in_ok-over.ensures.ok;
     }
 
 pub returns-in_err-over-clause-err : goal.returns-in_err-over-clause-err
@@ -53,7 +53,7 @@ returns-in_err-over-clause-err g c =
     let done = c.loop-bytes.invariant.done in
     let p = err_from_is_err_and c.from_residual.result c.from_residual.ensures.1 in
     rw p.1 (breaks_is g.T.Replier.rule (WhereRose (g.F.Shelf.keep_faults c.args.shelf.now) (g.F.Shelf.keep_faults c.take_line.new.shelf) g.T.Replier.Stops) _ _ _ _ _ _ (joined_whole done.0 _ _ _ _ done.1 c.in-Some.ensures.1)
-    (breaks_after g.T.Replier.rule (WhereRose (g.F.Shelf.keep_faults c.args.shelf.now) (g.F.Shelf.keep_faults c.take_line.new.shelf) g.T.Replier.Stops) _ (point_of (g.T.Replier.state c.loop-bytes.replier, g.F.Shelf.files c.loop-bytes.shelf) c.loop-bytes.pending) _ _ _ _ _ _ done.2
+    (breaks_after g.T.Replier.rule (WhereRose (g.F.Shelf.keep_faults c.args.shelf.now) (g.F.Shelf.keep_faults c.take_line.new.shelf) g.T.Replier.Stops) _ (point_of _ c.loop-bytes.pending) _ _ _ _ _ _ done.2
     (breaks_more g.T.Replier.rule (WhereRose (g.F.Shelf.keep_faults c.args.shelf.now) (g.F.Shelf.keep_faults c.take_line.new.shelf) g.T.Replier.Stops) _ _ c.in-Some.bytes.now c.in-Some.after.now _ _ (breaks_later g.T.Replier.rule g.T.Replier.Stops _ (g.F.Shelf.keep_faults c.loop-bytes.shelf) _ c.loop-bytes.invariant.later_keep _ _ _ _ _ c.in_err-over.ensures.err))))
 
 pub returns-in_err-extend_from_slice-clause-err : goal.returns-in_err-extend_from_slice-clause-err
@@ -61,5 +61,10 @@ returns-in_err-extend_from_slice-clause-err g c =
     let done = c.loop-bytes.invariant.done in
     let p = err_from_is_err_and c.from_residual-in_err-extend_from_slice.result c.from_residual-in_err-extend_from_slice.ensures.1 in
     rw p.1 (breaks_is g.T.Replier.rule (WhereRose (g.F.Shelf.keep_faults c.args.shelf.now) (g.F.Shelf.keep_faults c.loop-bytes.shelf) g.T.Replier.Stops) _ _ _ _ _ _ done.1
-    (breaks_after g.T.Replier.rule (WhereRose (g.F.Shelf.keep_faults c.args.shelf.now) (g.F.Shelf.keep_faults c.loop-bytes.shelf) g.T.Replier.Stops) _ (point_of (g.T.Replier.state c.loop-bytes.replier, g.F.Shelf.files c.loop-bytes.shelf) c.loop-bytes.pending) _ _ _ _ _ _ done.2
-    (breaks_none g.T.Replier.rule (WhereRose (g.F.Shelf.keep_faults c.args.shelf.now) (g.F.Shelf.keep_faults c.loop-bytes.shelf) g.T.Replier.Stops) (point_of (g.T.Replier.state c.loop-bytes.replier, g.F.Shelf.files c.loop-bytes.shelf) c.loop-bytes.pending) c.loop-bytes.rest.now _)))
+    (breaks_after g.T.Replier.rule (WhereRose (g.F.Shelf.keep_faults c.args.shelf.now) (g.F.Shelf.keep_faults c.loop-bytes.shelf) g.T.Replier.Stops) _ (point_of _ c.loop-bytes.pending) _ _ _ _ _ _ done.2
+    (breaks_none g.T.Replier.rule (WhereRose (g.F.Shelf.keep_faults c.args.shelf.now) (g.F.Shelf.keep_faults c.loop-bytes.shelf) g.T.Replier.Stops) (point_of _ c.loop-bytes.pending) c.loop-bytes.rest.now _)))
+
+pub returns-clause-ok : goal.returns-clause-ok
+returns-clause-ok g c =
+    let done = c.loop-bytes.invariant.done in
+    goes_part g.T.Replier.rule _ (point_of _ c.loop-bytes.pending) done.0 c.loop-bytes.rest.now _ _ _ _ done.2 c.loop-bytes.invariant.going c.in_default.ensures c.in_ok-extend_from_slice.ensures.items done.1

@@ -1,23 +1,17 @@
 use Rattle.opa_talk.proofs.TranscriptLaws.{cuts_anywhere}
-use Rattle.opa_reply.specs.Replies.{conversation}
-use Rattle.opa_top.proofs.OnlyLaws.{run_only}
-use Rattle.opa_top.proofs.StatusLaws.{run_wrote, run_left_off, run_cause, run_complete}
+use Rattle.opa_top.specs.Running.{a_run, an_interview}
+use Rattle.opa_top.proofs.PromiseLaws.{answers}
+use Rattle.opa_top.proofs.TalkLaws.{run_reads_all}
 use Rattle.opa_top.proofs.top.run.Goals as goal
 
-pub returns-clause-wrote : goal.returns-clause-wrote
-returns-clause-wrote g c = λ name asks. run_wrote name _ _ _ c.run_words.result (c.run_words.ensures.runs name asks)
-
-pub returns-clause-only : goal.returns-clause-only
-returns-clause-only g c = λ name asks. run_only c.one_opening.ensures c.one_transcript.ensures name _ _ _ c.run_words.result (c.run_words.ensures.runs name asks)
-
-pub returns-clause-left_off : goal.returns-clause-left_off
-returns-clause-left_off g c = λ name asks. run_left_off name _ _ _ c.run_words.result (c.run_words.ensures.runs name asks)
-
-pub returns-clause-cause : goal.returns-clause-cause
-returns-clause-cause g c = λ name asks. run_cause name _ _ _ c.run_words.result (c.run_words.ensures.runs name asks)
-
-pub returns-clause-complete : goal.returns-clause-complete
-returns-clause-complete g c = λ name asks. run_complete name _ _ _ c.run_words.result (c.run_words.ensures.runs name asks)
-
-pub returns-clause-parts : goal.returns-clause-parts
-returns-clause-parts g c = cuts_anywhere conversation
+pub returns : goal.returns
+returns g c = record {
+  usage = c.run_words.ensures.usage;
+  checked = c.run_words.ensures.checked;
+  unused = c.run_words.ensures.unused;
+  run = λ name asks. answers a_run c.one_opening.ensures c.one_transcript.ensures.run name _ _ c.run_words.result (c.run_words.ensures.runs name asks);
+  read_all = λ name asks done. run_reads_all name _ _ c.run_words.result (c.run_words.ensures.runs name asks) done;
+  interview = λ name asks. answers an_interview c.one_opening.ensures c.one_transcript.ensures.interview name _ _ c.run_words.result (c.run_words.ensures.asks name asks);
+  parts = cuts_anywhere a_run.rule;
+  parts_asked = cuts_anywhere an_interview.rule;
+}

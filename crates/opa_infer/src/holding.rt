@@ -1,0 +1,89 @@
+// What is seen of a session.
+ghost use Rattle.std.specs.Prelude.{◌≡◌, ◌↔◌, true, is_some, IfSome};
+ghost use Rattle.opa_date.specs.declared.TheConstants.{DAYS};
+ghost use Rattle.opa_line.specs.Lines.{StandsFor};
+ghost use Rattle.opa_mean.specs.Rulebases.{IsOf, value_at};
+ghost use Rattle.opa_mean.specs.Slots as slots;
+ghost use Rattle.opa_infer.specs.Sessions.{rules_of, held_of, reached_of};
+ghost use Rattle.opa_case.specs.Laws.{IsDeclared};
+ghost use Rattle.opa_case.specs.Shapes.{shape_of};
+ghost use Rattle.opa_goals.specs.Rulebases.{rulebase_of};
+
+use crate::session::Session;
+use opa_case::{Case, ChangeCommand, InstanceId};
+use opa_fresh::told_line;
+use opa_goals::Frees;
+use opa_line::Line;
+use opa_mean::{Held, has_place};
+use opa_model::AttrId;
+use opa_tree::Rulebase;
+use opa_value::Value;
+
+impl Held for Session {
+    ghost use Rattle.opa_infer.specs.Sessions.{rules_of, held_of};
+
+    ghost rules = { rules_of };
+
+    ghost held = { held_of };
+
+    fn base(&self) -> &Rulebase {
+        &self.base
+    }
+
+    fn case(&self) -> &Case {
+        // The count shows the model's form.
+        let _count = self.base.model.entity_count();
+        &self.case
+    }
+
+    fn line(&self, attr: AttrId, inst: &InstanceId) -> Option<&Line<Value>> {
+        let _count = self.base.model.entity_count();
+        told_line(&self.base, &self.case, &self.lines, attr, inst)
+    }
+}
+
+impl Session {
+    /// Which attributes never rest on whether something is known.
+    pub fn frees(&self) -> &Frees
+        ensures { rulebase_of result.now ≡ rules_of self.now }
+    {
+        &self.frees
+    }
+
+    /// How many slots the last accepted change reached; 0 before the first one.
+    pub fn dirty(&self) -> u64
+        ensures { result ≡ reached_of self.now }
+    {
+        self.dirty
+    }
+
+    /// Whether the attribute or relation of a command is declared.
+    pub fn declares(&self, command: &ChangeCommand) -> bool
+        ensures { (result ≡ true) ↔ IsDeclared (shape_of (rules_of self.now).model) command.now }
+    {
+        match command {
+            ChangeCommand::Answer(attr, _, _) => attr.0 < self.base.model.attribute_count(),
+            ChangeCommand::Withdraw(attr, _) => attr.0 < self.base.model.attribute_count(),
+            ChangeCommand::SetList(rel, _, _) => rel.0 < self.base.model.relation_count(),
+            ChangeCommand::Forget(rel, _) => rel.0 < self.base.model.relation_count(),
+        }
+    }
+
+    /// The line that is shown of an attribute for an instance: what its rule concludes, or the answer, and unknown on every day
+    /// where there is neither. None where the instance isn't live or isn't of the attribute's entity. It takes no memory.
+    pub fn value(&self, attr: AttrId, inst: &InstanceId) -> Option<&Line<Value>>
+        ensures line { IfSome result (λ line. StandsFor DAYS (value_at (rules_of self.now) (held_of self.now) attr inst.now) line.now) }
+        ensures none { is_some result ≡ slots.has_place (rules_of self.now) (held_of self.now) attr inst.now }
+    {
+        match self.line(attr, inst) {
+            Some(line) => Some(line),
+            None => {
+                if has_place(&self.base, &self.case, attr, inst) {
+                    Some(&self.unknown)
+                } else {
+                    None
+                }
+            }
+        }
+    }
+}

@@ -1,0 +1,16 @@
+use Rattle.std.proofs.Common.{refl}
+use Rattle.std.proofs.lemmas.Result.{err_from_is_err_and}
+use Rattle.opa_top.specs.Running.{an_interview}
+use Rattle.opa_top.proofs.TalkLaws.{talks_all, talks_part, talks_not}
+use Rattle.opa_top.proofs.talk.ask.Goals as goal
+
+pub returns-in_err-interview-clause-part : goal.returns-in_err-interview-clause-part
+returns-in_err-interview-clause-part g c =
+    let p = err_from_is_err_and c.from_residual.result c.from_residual.ensures.1 in
+    rw (p.1, p.2) (talks_not an_interview c.args.base _)
+
+pub returns-clause-all : goal.returns-clause-all
+returns-clause-all g c = talks_all an_interview c.args.base _ _ _ _ (c.in_ok-interview.ensures _ _) (record { files = refl; hearers = refl }) c.converse.result c.converse.ensures.ok
+
+pub returns-clause-part : goal.returns-clause-part
+returns-clause-part g c = talks_part an_interview c.args.base _ _ _ _ (c.in_ok-interview.ensures _ _) (record { files = refl; hearers = refl }) c.converse.result c.converse.ensures.err
