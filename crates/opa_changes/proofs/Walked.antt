@@ -1,6 +1,6 @@
 -- The slots over the lists of live instances are the slots.
-use Rattle.std.proofs.Common.{◌≡◌, ℕ, ◌<◌, List, [], ◌∷◌, map, filter, flat_map, length, Option, None, Some, Contains, refl, sym, ◌∙◌, ap, subst}
-use Rattle.std.specs.Prelude.{All, slice_get, slice_index_or, unwrap_or, true}
+use Rattle.std.proofs.Common.{◌≡◌, ℕ, ◌<◌, List, [], map, filter, flat_map, length, Option, None, Some, Contains, refl, sym, ◌∙◌, ap, subst}
+use Rattle.std.specs.Prelude.{All, slice_get, slice_index_or, unwrap_or}
 use Rattle.std.proofs.lemmas.List.Elements.{All-get_or}
 use Rattle.std.proofs.lemmas.Option.{slice_get_within, get_or_from_slice_get}
 use Rattle.opa_model.specs.declared.ids.AttrId.{AttrId}
@@ -16,7 +16,6 @@ use Rattle.opa_mean.specs.Changes.{ruled, slots}
 use Rattle.opa_mean.specs.Given.{base_of, facts_of}
 use Rattle.opa_mean.specs.Places.{owner_of, is_of}
 use Rattle.opa_mean.specs.Rulebases.{IsOf}
-use Rattle.opa_mean.specs.Slots.{is_slot}
 use Rattle.opa_mean.proofs.SlotCounts.{owned_are_members}
 use Rattle.opa_mean.proofs.SlotsAre.{slots_are_live}
 use Rattle.opa_changes.specs.Reaching.{AreSlots}

@@ -59,10 +59,7 @@ fn first_from(
     }
 }
 
-fn first_from_unknown(
-    alloc: Global,
-    new: Option<&Line<Value>>,
-) -> Result<Option<u32>, NoMemory>
+fn first_from_unknown(alloc: Global, new: Option<&Line<Value>>) -> Result<Option<u32>, NoMemory>
     ensures { IfOk result (λ day. day ≡ first_difference DAYS (line_value None) (line_value (option_copied new.entry))) }
 {
     match new {
@@ -109,11 +106,7 @@ pub(crate) fn held_on<H: Held>(
 }
 
 /// The value of a line at a day, unknown where there is no line.
-fn value_on(
-    alloc: Global,
-    line: Option<&Line<Value>>,
-    day: u32,
-) -> Result<Value, NoMemory>
+fn value_on(alloc: Global, line: Option<&Line<Value>>, day: u32) -> Result<Value, NoMemory>
     requires { day < DAYS }
     ensures { IfOk result (λ value. value ≡ line_value (option_copied line.entry) day) }
 {

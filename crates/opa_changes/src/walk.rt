@@ -16,10 +16,7 @@ use std::alloc::Global;
 
 /// The live slots of what is held: each attribute with a rule, at each live instance of its entity. They stand by rank, then in
 /// declared order, then in instance order.
-pub fn slots<H: Held>(
-    alloc: Global,
-    held: &H,
-) -> Result<List<(AttrId, InstanceId)>, NoMemory>
+pub fn slots<H: Held>(alloc: Global, held: &H) -> Result<List<(AttrId, InstanceId)>, NoMemory>
     ensures { IfOk result (λ all. all ≡ meant.slots (base_of (H.rules held.now)) (facts_of (H.held held.now))) }
 {
     let base = held.base();

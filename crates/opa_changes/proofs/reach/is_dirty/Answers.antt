@@ -1,4 +1,4 @@
-use Rattle.std.proofs.Common.{◌≡◌, Bool, true, false, sym, ◌∙◌, ap, not, is_some, List, Option, IfSome, subst}
+use Rattle.std.proofs.Common.{◌≡◌, sym, ◌∙◌, ap, not, is_some, List, Option, IfSome, subst}
 use Rattle.std.specs.List.{list_any}
 use Rattle.opa_case.specs.declared.question.Question.{Question}
 use Rattle.opa_mean.specs.Changes.{differs}
