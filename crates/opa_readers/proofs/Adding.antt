@@ -51,13 +51,13 @@ adds_last old new s is x = (
     back (inr e) = Contains-append_right (pairs_of old) (pairs_of (s ∷ [])) x (subst (λ (y : AttrId × InstanceId). Contains (pairs_of (s ∷ [])) y) e (contains_head (s.attr, s.inst) []))
 
 -- the last of several slots
-pub last_there : (slots : List Slot) (n : ℕ) (s : Slot) (a : AttrId) (i : InstanceId) → Some s ≡ slice_get slots n → (s.attr.0 == a.0) ≡ true → is_same s.inst i ≡ true → Contains (pairs_of slots) (a, i)
+pub last_there : (slots : List Slot) (n : ℕ) (s : Slot) (a : AttrId) (i : InstanceId) → Some s ≡ slice_get slots n → s.attr.0 ≡ a.0 → is_same s.inst i ≡ true → Contains (pairs_of slots) (a, i)
 last_there slots n s a i at ea ei =
     subst (λ (x : AttrId × InstanceId). Contains (pairs_of slots) x) same
     (in_map (λ (t : Slot). (t.attr, t.inst)) slots s (n, slice_get_within slots n s (sym at), get_or_from_slice_get slots n s s (sym at)))
   where
     same : SamePair (s.attr, s.inst) (a, i)
-    same = ap (λ (k : ℕ). let b : AttrId = record { 0 = k } in let x : AttrId × InstanceId = (b, s.inst) in x) (eqb-true s.attr.0 a.0 ea) ∙ ap (λ (j : InstanceId). let x : AttrId × InstanceId = (a, j) in x) (same_is s.inst i ei)
+    same = ap (λ (k : ℕ). let b : AttrId = record { 0 = k } in let x : AttrId × InstanceId = (b, s.inst) in x) ea ∙ ap (λ (j : InstanceId). let x : AttrId × InstanceId = (a, j) in x) (same_is s.inst i ei)
 
 -- what is set at a key
 pub adds_at : (m : Table) (k : ℕ × InstanceId) (v : List Slot) (s : AttrId × InstanceId) → AddsSlot (unwrap_or (get m k) []) v s → AddsAt m (insert m k v) k s

@@ -6,6 +6,7 @@ use Rattle.std.proofs.lemmas.List.{take_more}
 use Rattle.std.proofs.lemmas.List.Elements.{Contains-append_left, Contains-append_right, Contains-append_cases}
 use Rattle.opa_model.specs.declared.ids.AttrId.{AttrId}
 use Rattle.opa_model.specs.declared.ids.RelId.{RelId}
+use Rattle.opa_cells.specs.Keys.{cell_cmp}
 use Rattle.opa_cells.specs.declared.instance.InstanceId.{InstanceId}
 use Rattle.opa_case.specs.Cases.{CaseView}
 use Rattle.opa_case.specs.declared.question.Question.{Question}
@@ -25,7 +26,7 @@ use Rattle.opa_readers.specs.Indexes.{Table, slots_at, readers_in, SameKey, Adds
 use Rattle.opa_readers.specs.declared.index.Index.{Index}
 
 nothing : (k : ℕ × InstanceId) → slots_at empty k ≡ []
-nothing k = ap (λ (o : Option (List Slot)). pairs_of (unwrap_or o [])) (get-empty k)
+nothing k = ap (λ (o : Option (List Slot)). pairs_of (unwrap_or o [])) (get-empty cell_cmp k)
 
 pub line_added : (old new : Index) (m : AttrId) (k : InstanceId) (a : AttrId) (i : InstanceId) → AddsAt old.lines new.lines (m.0, k) (a, i) → new.lists ≡ old.lists → AddsReads (question.Attr m k ∷ []) a i old new
 line_added old new m k a i adds same (question.Attr b j) x = (λ h. out ((adds (b.0, j) x).0 h), λ h. into h)

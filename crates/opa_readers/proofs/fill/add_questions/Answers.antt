@@ -9,7 +9,7 @@ loop-question-init c = reads_none c.args.attr c.args.inst.now c.args.index.now
 
 pub loop-question-preserved : goal.loop-question-preserved
 loop-question-preserved c =
-    reads_next c.args.attr c.args.inst.now c.args.questions.now c.loop-question.question-index c.question-item.result.now c.args.index.now c.loop-question.index c.add_question.new.index c.loop-question-test.true c.question-item.is c.loop-question.invariant c.in_ok-add_question.ensures
+    reads_next c.args.attr c.args.inst.now c.args.questions.now c.loop-question.question-index c.question-item.result c.args.index.now c.loop-question.index c.add_question.new.index c.loop-question-test.true c.question-item.is c.loop-question.invariant c.in_ok-add_question.ensures
 
 pub returns : goal.returns
 returns c = subst (λ qs. AddsReads qs c.args.attr c.args.inst.now c.args.index.now c.loop-question.index) (all_taken c.args.questions.now c.loop-question.question-index c.loop-question-test.false) c.loop-question.invariant
