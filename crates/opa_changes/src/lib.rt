@@ -10,6 +10,8 @@ mod tell;
 mod walk;
 
 pub use laws::told_once;
+pub use lines::answer_differs;
+pub use lists::list_differs;
 pub use reach::{dirty_slots, is_fresh};
 pub use tell::changes;
 pub use walk::{live_slots, slot_count, slots};

@@ -70,7 +70,7 @@ pub(crate) fn same_questions(first: &[Question], second: &[Question]) -> bool
 }
 
 /// Whether a list differs: a known one differs from an unknown one.
-pub(crate) fn list_differs(old: &Case, new: &Case, rel: RelId, inst: &InstanceId) -> bool
+pub fn list_differs(old: &Case, new: &Case, rel: RelId, inst: &InstanceId) -> bool
     ensures { result ≡ not (same.same_names (list_of old.now rel inst.now) (list_of new.now rel inst.now)) }
 {
     !same_names(old.list_of(rel, inst), new.list_of(rel, inst))

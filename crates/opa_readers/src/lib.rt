@@ -4,7 +4,11 @@
 mod add;
 mod build;
 mod fill;
+mod fresh;
+mod given;
 mod index;
 mod readers;
 
+pub use fresh::fresh_slots;
+pub use given::given_changes;
 pub use index::Index;
