@@ -1,14 +1,19 @@
 //! What a change of the case reaches and what is told of it, computed from two held states.
 #![tactic(auto)]
 
+mod among;
+mod attrs;
 mod laws;
 mod lines;
 mod lists;
+mod marks;
 mod order;
 mod reach;
 mod tell;
+mod told_attrs;
 mod walk;
 
+pub use among::changes_among;
 pub use laws::told_once;
 pub use lines::answer_differs;
 pub use lists::list_differs;
