@@ -1,8 +1,7 @@
 -- Changes of the slots that may differ are all changes.
-use Rattle.std.proofs.Common.{◌≡◌, ◌⊎◌, inl, inr, ℕ, Bool, true, false, cond, List, [], ◌∷◌, ◌++◌, map, filter, flat_map, length, Option, None, Some, is_some, Contains, refl, sym, ◌∙◌, ap, ap₂, subst}
-use Rattle.std.specs.Prelude.{filter_map, slice_index_or}
+use Rattle.std.proofs.Common.{◌≡◌, ◌⊎◌, inl, inr, Bool, true, false, cond, List, [], ◌∷◌, ◌++◌, map, filter, flat_map, length, Option, None, Some, is_some, Contains, refl, sym, ◌∙◌, ap, ap₂, subst}
+use Rattle.std.specs.Prelude.{filter_map}
 use Rattle.std.specs.List.{cons_option}
-use Rattle.std.proofs.lemmas.Bool.{eq-eqb}
 use Rattle.std.proofs.lemmas.List.Elements.{filter_map-append}
 use Rattle.opa_model.specs.declared.ids.AttrId.{AttrId}
 use Rattle.opa_cells.specs.declared.instance.InstanceId.{InstanceId}
@@ -15,17 +14,13 @@ use Rattle.opa_tree.specs.declared.rulebase.Rulebase.{Rulebase}
 use Rattle.opa_tree.proofs.Members.{none_in, contains_head, contains_tail, contains_cases, flat_in, flat_out}
 use Rattle.opa_mean.specs.Changes.{Changed, change_of, changes, ruled, slots}
 use Rattle.opa_mean.specs.Given.{base_of, facts_of}
-use Rattle.opa_mean.specs.Mean.{Base, Facts}
 use Rattle.opa_mean.specs.Places.{is_of, owner_of}
 use Rattle.opa_mean.specs.Rulebases.{IsOf}
-use Rattle.opa_mean.specs.SlotLaws.{SlotsAreLive}
 use Rattle.opa_mean.specs.Slots.{is_slot}
 use Rattle.opa_mean.proofs.Everywhere.{in_map}
-use Rattle.opa_mean.proofs.Filtered.{Ordered, filter_out, filter_in, map_out, filter_map_none, ordered_filter, ordered_map, ordered_weaker}
+use Rattle.opa_mean.proofs.Filtered.{Ordered, filter_out, map_out, filter_map_none, ordered_filter, ordered_map, ordered_weaker}
 use Rattle.opa_mean.proofs.SlotsAre.{slots_are_live, instances_differ}
 use Rattle.opa_changes.specs.Among.{HaveChanges, ByRank, AreTold, Marks, is_marked, AreMarked, marked_among, AreChosen}
-use Rattle.opa_changes.specs.Reaching.{AreSlots}
-use Rattle.opa_changes.specs.Telling.{changes_among}
 use Rattle.opa_changes.specs.Walking.{with_listed}
 use Rattle.opa_changes.specs.declared.told_attrs.ToldAttrs.{ToldAttrs}
 use Rattle.opa_changes.proofs.Rising.{ruled_rises, never_itself, never_both, in_order}

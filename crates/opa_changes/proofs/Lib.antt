@@ -9,3 +9,4 @@ pub mod Onceness
 pub mod Rising
 pub mod Choosing
 pub mod Taking
+pub mod Unchanged

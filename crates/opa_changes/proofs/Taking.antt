@@ -1,5 +1,5 @@
 -- The attributes of slots, one slot after another.
-use Rattle.std.proofs.Common.{◌≡◌, ◌⊎◌, inl, inr, ℕ, ◌+◌, ◌<◌, Bool, true, false, cond, List, [], ◌∷◌, ◌++◌, length, get_or, take, map, Option, None, Some, is_some, Contains, refl, sym, ◌∙◌, ap, subst}
+use Rattle.std.proofs.Common.{◌≡◌, ◌⊎◌, inl, inr, ℕ, ◌+◌, ◌<◌, Bool, true, false, cond, List, [], ◌∷◌, ◌++◌, length, get_or, take, map, None, Some, is_some, Contains, refl, sym, ◌∙◌, ap, subst}
 use Rattle.std.specs.FinMap.{get, insert, get-insert}
 use Rattle.std.specs.Ordering.{eq_by_cmp}
 use Rattle.std.specs.Cmp.{eq_by_cmp_equiv}
@@ -13,7 +13,7 @@ use Rattle.opa_dirty.specs.declared.slot.Slot.{Slot}
 use Rattle.opa_mean.specs.Mean.{Base}
 use Rattle.opa_mean.proofs.Filtered.{ordered_append}
 use Rattle.opa_tree.proofs.Members.{none_in, contains_head, contains_cases}
-use Rattle.opa_changes.specs.Among.{ByRank, InOrder, Behind, AreTold, Marks, is_marked, AreMarked}
+use Rattle.opa_changes.specs.Among.{ByRank, InOrder, Behind, AreTold, Marks, AreMarked}
 use Rattle.opa_changes.specs.declared.told_attrs.ToldAttrs.{ToldAttrs}
 use Rattle.opa_changes.proofs.Rising.{before_later, in_order, in_order_back}
 
@@ -55,7 +55,7 @@ module _ (b : Base) where
     pub told_more : Behind b old.last a → new.attrs ≡ old.attrs ++ a ∷ [] → new.last ≡ Some a → new.single ≡ old.single → AreTold b (slots ++ s ∷ []) new
     told_more behind attrs last single = record {
       ordered = subst (λ (attrs' : List AttrId). InOrder (ByRank b) attrs') (sym attrs) (in_order_back (ByRank b) (old.attrs ++ a ∷ [])
-      (ordered_append (ByRank b) old.attrs (a ∷ []) (in_order (ByRank b) old.attrs are.ordered) (λ y h. absurd (none_in y h), tt) (λ x y h k. subst (λ z. ByRank b x z) (only_one a y k) (are.top a behind x h))));
+          (ordered_append (ByRank b) old.attrs (a ∷ []) (in_order (ByRank b) old.attrs are.ordered) (λ y h. absurd (none_in y h), tt) (λ x y h k. subst (λ z. ByRank b x z) (only_one a y k) (are.top a behind x h))));
       each = λ t h. subst (λ attrs'. Contains attrs' t.attr) (sym attrs) (each t (Contains-append_cases slots (s ∷ []) t h));
       only = λ x h. only x (Contains-append_cases old.attrs (a ∷ []) x (subst (λ attrs'. Contains attrs' x) attrs h));
       here = λ x e. let at : a ≡ x = cc (sym last ∙ e) in subst (λ attrs'. Contains attrs' x) (sym attrs) (Contains-append_right old.attrs (a ∷ []) x (subst (λ z. Contains (a ∷ []) z) at (contains_head a [])));

@@ -1,6 +1,6 @@
 -- The slots over the lists of live instances are the slots.
-use Rattle.std.proofs.Common.{◌≡◌, ℕ, ◌<◌, List, [], map, filter, flat_map, length, Option, None, Some, Contains, refl, sym, ◌∙◌, ap, subst}
-use Rattle.std.specs.Prelude.{All, slice_get, slice_index_or, unwrap_or}
+use Rattle.std.proofs.Common.{◌≡◌, ℕ, ◌<◌, List, map, filter, flat_map, length, Option, None, Some, Contains, refl, sym, ◌∙◌, ap, subst}
+use Rattle.std.specs.Prelude.{All, slice_get, unwrap_or}
 use Rattle.std.proofs.lemmas.List.Elements.{All-get_or}
 use Rattle.std.proofs.lemmas.Option.{slice_get_within, get_or_from_slice_get}
 use Rattle.opa_model.specs.declared.ids.AttrId.{AttrId}

@@ -1,5 +1,5 @@
 -- Slots that are handed in, and their attributes in the order of slots.
-use Rattle.std.specs.Prelude.{◌≡◌, ◌<◌, ◌⊎◌, ℕ, Bool, true, is_some, List, [], ◌∷◌, map, filter, flat_map, slice_index_or, Option, None, Some, Contains}
+use Rattle.std.specs.Prelude.{◌≡◌, ◌<◌, ◌⊎◌, Bool, true, is_some, List, [], ◌∷◌, map, filter, flat_map, Option, None, Some, Contains}
 use Rattle.std.specs.FinMap.{FinMap, get}
 use Rattle.opa_model.specs.declared.ids.AttrId.{AttrId}
 use Rattle.opa_cells.specs.Keys.{cell_cmp}
@@ -10,10 +10,12 @@ use Rattle.opa_changes.specs.Telling.{changes_among}
 use Rattle.opa_changes.specs.Reaching.{AreSlots}
 use Rattle.opa_changes.specs.Walking.{with_listed}
 use Rattle.opa_changes.specs.declared.told_attrs.ToldAttrs.{ToldAttrs}
+use Rattle.opa_dirty.specs.Dirty.{is_reached}
 use Rattle.opa_dirty.specs.declared.slot.Slot.{Slot}
 use Rattle.opa_mean.specs.Changes.{change_of, changes}
 use Rattle.opa_mean.specs.Given.{base_of, facts_of}
 use Rattle.opa_mean.specs.Mean.{Base}
+use Rattle.opa_mean.specs.Rulebases.{IsOf}
 use Rattle.opa_mean.specs.Slots.{is_slot}
 use Rattle.opa_tree.specs.declared.rulebase.Rulebase.{Rulebase}
 
@@ -21,6 +23,11 @@ use Rattle.opa_tree.specs.declared.rulebase.Rulebase.{Rulebase}
 pub record HaveChanges (r : Rulebase) (c c' : CaseView) (slots : List (AttrId × InstanceId)) : Type 0 where
   pub live : (a : AttrId) (i : InstanceId) → Contains slots (a, i) → is_slot r c' a i ≡ true
   pub all : (a : AttrId) (i : InstanceId) → is_slot r c' a i ≡ true → is_some (change_of (base_of r) (facts_of c) (facts_of c') a i) ≡ true → Contains slots (a, i)
+
+-- Live slots that have all that a change reaches among them have all changes.
+abbrev pub DirtyHaveChanges : Type 0
+DirtyHaveChanges = (r : Rulebase) (c c' : CaseView) → IsOf r c → IsOf r c' → (slots : List (AttrId × InstanceId)) → ((a : AttrId) (i : InstanceId) → Contains slots (a, i) → is_slot r c' a i ≡ true)
+    → ((a : AttrId) (i : InstanceId) → is_slot r c' a i ≡ true → is_reached r c c' a i ≡ true → Contains slots (a, i)) → HaveChanges r c c' slots
 
 -- by rank, and then in declared order
 abbrev pub ByRank : Base → AttrId → AttrId → Type 0

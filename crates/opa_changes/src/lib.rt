@@ -14,7 +14,7 @@ mod told_attrs;
 mod walk;
 
 pub use among::changes_among;
-pub use laws::told_once;
+pub use laws::{dirty_have_changes, told_once};
 pub use lines::answer_differs;
 pub use lists::list_differs;
 pub use reach::{dirty_slots, is_fresh};

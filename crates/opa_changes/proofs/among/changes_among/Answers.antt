@@ -1,10 +1,6 @@
-use Rattle.std.proofs.Common.{List, Option, IfSome, sym, ◌∙◌, ap, subst}
+use Rattle.std.proofs.Common.{List, Option, IfSome, subst}
 use Rattle.std.specs.List.{AllZip}
-use Rattle.opa_model.specs.declared.ids.AttrId.{AttrId}
-use Rattle.opa_cells.specs.declared.instance.InstanceId.{InstanceId}
-use Rattle.opa_case.specs.Cases.{CaseView}
 use Rattle.opa_dirty.specs.Slots.{pairs_of}
-use Rattle.opa_tree.specs.declared.rulebase.Rulebase.{Rulebase}
 use Rattle.opa_mean.specs.Changes.{Changed}
 use Rattle.opa_mean.specs.Given.{base_of}
 use Rattle.opa_changes.specs.Among.{AreTold}
