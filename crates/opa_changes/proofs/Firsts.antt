@@ -1,19 +1,17 @@
 -- The first day at which what is held differs.
-use Rattle.std.proofs.Common.{◌≡◌, ℕ, ◌<◌, Bool, true, false, cond, List, [], ◌∷◌, Option, None, Some, is_some, refl, sym, ◌∙◌, ap, subst, arith}
-use Rattle.std.specs.Prelude.{◌&&◌, ◌||◌, ◌==◌, nat_lt}
+use Rattle.std.proofs.Common.{◌≡◌, ℕ, ◌<◌, Bool, true, false, cond, [], ◌∷◌, Option, None, Some, is_some, refl, sym, ◌∙◌, ap, subst, arith}
+use Rattle.std.specs.Prelude.{◌&&◌, ◌||◌, nat_lt}
 use Rattle.std.specs.FinMap.{get}
 use Rattle.std.proofs.lemmas.Bool.{and_parts, ltb-true}
 use Rattle.opa_date.specs.declared.TheConstants.{DAYS}
 use Rattle.opa_value.specs.declared.value.Value.{Value}
-use Rattle.opa_value.specs.declared.value.Value.TheVariants.{Unknown, Day}
+use Rattle.opa_value.specs.declared.value.Value.TheVariants.{Unknown}
 use Rattle.opa_line.specs.Lines.{IsLine, at}
 use Rattle.opa_line.specs.Differences.{IsFirstDifference}
 use Rattle.opa_model.specs.declared.ids.AttrId.{AttrId}
 use Rattle.opa_model.specs.declared.things.Kind.{Kind}
 use Rattle.opa_cells.specs.declared.instance.InstanceId.{InstanceId}
 use Rattle.opa_case.specs.Cases.{CaseView, Answer}
-use Rattle.opa_case.specs.Live.{is_live}
-use Rattle.opa_case.specs.Shapes.{shape_of}
 use Rattle.opa_case.specs.Steps.{has_kind}
 use Rattle.opa_listen.specs.Days.{IsInCalendar}
 use Rattle.opa_tree.specs.declared.rulebase.Rulebase.{Rulebase}
@@ -22,7 +20,6 @@ use Rattle.opa_kinds.specs.Laws.{ValuesHaveKinds, kind_of}
 use Rattle.opa_mean.specs.Changes.{first_difference}
 use Rattle.opa_mean.specs.Given.{line_value}
 use Rattle.opa_mean.specs.Holding.{has_line, held_value}
-use Rattle.opa_mean.specs.Places.{owner_of}
 use Rattle.opa_mean.specs.Rulebases.{IsOf, value_at}
 use Rattle.opa_mean.specs.Slots.{has_place}
 use Rattle.opa_mean.proofs.ChangesAre.{difference_found, found_difference}

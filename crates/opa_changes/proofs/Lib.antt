@@ -6,3 +6,7 @@ pub mod Firsts
 pub mod Placed
 pub mod Told
 pub mod Onceness
+pub mod Rising
+pub mod Choosing
+pub mod Taking
+pub mod Unchanged

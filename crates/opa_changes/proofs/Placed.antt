@@ -1,30 +1,24 @@
 -- What slots are, and where what they read stands.
-use Rattle.std.proofs.Common.{rules, ◌≡◌, ℕ, ◌<◌, Bool, true, false, List, [], ◌∷◌, length, get_or, Option, None, Some, IsSome, is_some, Contains, map, refl, sym, ◌∙◌, ap, subst}
-use Rattle.std.specs.Prelude.{◌&&◌, ◌||◌, ◌==◌}
-use Rattle.std.specs.List.{list_any, AllByRecursion}
+use Rattle.std.proofs.Common.{rules, ◌≡◌, ℕ, ◌<◌, true, List, length, get_or, Option, None, Some, IsSome, is_some, Contains, sym, ◌∙◌, subst}
+use Rattle.std.specs.Prelude.{◌==◌}
 use Rattle.std.proofs.lemmas.Bool.{and_parts, eqb-true}
 use Rattle.opa_model.specs.declared.ids.AttrId.{AttrId}
-use Rattle.opa_cells.specs.Instances.{is_same, global}
 use Rattle.opa_cells.specs.declared.instance.InstanceId.{InstanceId}
 use Rattle.opa_case.specs.Cases.{CaseView, IsLive}
 use Rattle.opa_case.specs.Live as live
 use Rattle.opa_case.specs.Shapes.{shape_of}
 use Rattle.opa_case.specs.declared.question.Question.{Question}
 use Rattle.opa_case.specs.declared.question.Question.TheVariants as question
-use Rattle.opa_case.proofs.Stands.{any_map}
 use Rattle.opa_tree.specs.declared.rulebase.Rulebase.{Rulebase}
-use Rattle.opa_tree.specs.declared.rules.Rule.{Rule}
 use Rattle.opa_tree.specs.Rules.{rule_of}
 use Rattle.opa_dirty.specs.Dirty.{slot_reads, IsReadBy, ReadsAreLower}
-use Rattle.opa_mean.specs.Changes.{is_live}
-use Rattle.opa_mean.specs.Given.{base_of, facts_of}
 use Rattle.opa_mean.specs.Places.{owner_of}
 use Rattle.opa_mean.specs.Rulebases.{IsOf}
-use Rattle.opa_mean.specs.Sameness.{same_question, same_lists, same_options}
+use Rattle.opa_mean.specs.Sameness.{same_question, same_lists}
 use Rattle.opa_mean.specs.Slots.{is_slot, has_place}
 use Rattle.opa_mean.proofs.Everywhere.{each_of_all}
 use Rattle.opa_mean.proofs.Exact.{lists_exact, question_exact}
-use Rattle.opa_changes.specs.Reaching.{has_stayed, reads_same, AreSlots, ArePlaced, HasPlaceIn}
+use Rattle.opa_changes.specs.Reaching.{AreSlots, ArePlaced, HasPlaceIn}
 
 some_is : {X : Type 0} (o : Option X) → is_some o ≡ true → IsSome o
 some_is None h = absurd (cc h)

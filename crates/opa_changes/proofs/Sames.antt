@@ -1,6 +1,6 @@
 -- Instances that are live, and lists that are one.
-use Rattle.std.proofs.Common.{◌≡◌, ◌↔◌, ℕ, Bool, true, false, IsTrue, List, Some, refl, sym, ◌∙◌, ap}
-use Rattle.std.specs.Prelude.{◌||◌, ◌&&◌}
+use Rattle.std.proofs.Common.{◌≡◌, ◌↔◌, ℕ, Bool, true, false, IsTrue, List, Some, refl, sym, ap}
+use Rattle.std.specs.Prelude.{◌||◌}
 use Rattle.std.proofs.lemmas.Bool.{and_parts}
 use Rattle.opa_cells.specs.Instances.{is_same, global}
 use Rattle.opa_cells.specs.declared.instance.InstanceId.{InstanceId}
@@ -18,8 +18,8 @@ pub live_one : (c : CaseView) (i : InstanceId) → live.is_live c.live i ≡ is_
 live_one c i = ap (λ b. is_same i global || b) (sym (any_map (is_same i) (λ (p : InstanceId × InstanceId). p.0) c.live))
 
 -- what stayed was live
-pub stayed_live : (c c' : CaseView) (i : InstanceId) → has_stayed (facts_of c) (facts_of c') i ≡ true → IsLive c i
-stayed_live c c' i h = live_one c i ∙ (and_parts (is_live (facts_of c) i) _ h).0
+pub stayed_live : (c c' : CaseView) (i : InstanceId) → has_stayed c c' i ≡ true → IsLive c i
+stayed_live c c' i h = (and_parts (live.is_live c.live i) _ h).0
 
 -- a test whether two lists are one
 pub names_tested : (t : Bool) (x y : List (List ℕ)) → IsTrue t ↔ (x ≡ y) → t ≡ same_names (Some x) (Some y)

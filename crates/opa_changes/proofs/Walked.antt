@@ -1,6 +1,6 @@
 -- The slots over the lists of live instances are the slots.
-use Rattle.std.proofs.Common.{◌≡◌, ℕ, ◌<◌, List, [], ◌∷◌, map, filter, flat_map, length, Option, None, Some, Contains, refl, sym, ◌∙◌, ap, subst}
-use Rattle.std.specs.Prelude.{All, slice_get, slice_index_or, unwrap_or, true}
+use Rattle.std.proofs.Common.{◌≡◌, ℕ, ◌<◌, List, map, filter, flat_map, length, Option, None, Some, Contains, refl, sym, ◌∙◌, ap, subst}
+use Rattle.std.specs.Prelude.{All, slice_get, unwrap_or}
 use Rattle.std.proofs.lemmas.List.Elements.{All-get_or}
 use Rattle.std.proofs.lemmas.Option.{slice_get_within, get_or_from_slice_get}
 use Rattle.opa_model.specs.declared.ids.AttrId.{AttrId}
@@ -16,11 +16,10 @@ use Rattle.opa_mean.specs.Changes.{ruled, slots}
 use Rattle.opa_mean.specs.Given.{base_of, facts_of}
 use Rattle.opa_mean.specs.Places.{owner_of, is_of}
 use Rattle.opa_mean.specs.Rulebases.{IsOf}
-use Rattle.opa_mean.specs.Slots.{is_slot}
 use Rattle.opa_mean.proofs.SlotCounts.{owned_are_members}
 use Rattle.opa_mean.proofs.SlotsAre.{slots_are_live}
 use Rattle.opa_changes.specs.Reaching.{AreSlots}
-use Rattle.opa_changes.specs.Walking.{slots_over}
+use Rattle.opa_changes.specs.Walking.{slots_over, with_listed}
 
 of_all : {X : Type 0} (P : X → Type 0) (xs : List X) (n : ℕ) (x : X) → slice_get xs n ≡ Some x → All P xs → P x
 of_all P xs n x at all = subst P (get_or_from_slice_get xs n x x at) (All-get_or P xs n x (slice_get_within xs n x at) all)
@@ -32,11 +31,12 @@ owner_within m is a = go (slice_get m.attributes a.0) refl
     go None e = is.has_global
     go (Some x) e = of_all (λ (y : Attribute). HasEntity m y.entity) m.attributes a.0 x e is.in_range.owners
 
+pub listed_with : (r : Rulebase) (c : CaseView) → IsOf r c → (live : List (List InstanceId)) → AreInstances (length r.model.entities) c live → (a : AttrId)
+    → with_listed (shape_of r.model) live a ≡ map {B = AttrId × InstanceId} (λ i. (a, i)) (filter (is_of (owner_of (shape_of r.model) a)) (facts_of c).instances)
+listed_with r c is live are a = ap (λ (is : List InstanceId). map {B = AttrId × InstanceId} (λ i. (a, i)) is) (are.in_order (owner_of (shape_of r.model) a) (owner_within r.model is.is_model a) ∙ sym (owned_are_members r c is (owner_of (shape_of r.model) a)))
+
 pub slots_are : (r : Rulebase) (c : CaseView) → IsOf r c → (live : List (List InstanceId)) → AreInstances (length r.model.entities) c live → slots_over (shape_of r.model) live (ruled (base_of r)) ≡ slots (base_of r) (facts_of c)
-slots_are r c is live are = ap (λ (f : AttrId → List (AttrId × InstanceId)). flat_map f (ruled (base_of r))) (λ i a. same a i)
-  where
-    same : (a : AttrId) → map {B = AttrId × InstanceId} (λ i. (a, i)) (slice_index_or live (owner_of (shape_of r.model) a) []) ≡ map {B = AttrId × InstanceId} (λ i. (a, i)) (filter (is_of (owner_of (shape_of r.model) a)) (facts_of c).instances)
-    same a = ap (λ (is : List InstanceId). map {B = AttrId × InstanceId} (λ i. (a, i)) is) (are.in_order (owner_of (shape_of r.model) a) (owner_within r.model is.is_model a) ∙ sym (owned_are_members r c is (owner_of (shape_of r.model) a)))
+slots_are r c is live are = ap (λ (f : AttrId → List (AttrId × InstanceId)). flat_map f (ruled (base_of r))) (λ i a. listed_with r c is live are a i)
 
 pub are_slots : (r : Rulebase) (c : CaseView) → IsOf r c → (xs : List (AttrId × InstanceId)) → xs ≡ slots (base_of r) (facts_of c) → AreSlots r c xs
 are_slots r c is xs e = record { each = λ a i h. (slots_are_live r c is a i).0 (subst (λ (ys : List (AttrId × InstanceId)). Contains ys (a, i)) e h) }

@@ -1,3 +1,4 @@
+pub mod Among
 pub mod Reaching
 pub mod Telling
 pub mod Walking

@@ -1,29 +1,24 @@
 -- What of a slot is the same in two cases.
-use Rattle.std.specs.Prelude.{◌≡◌, Bool, true, not, ◌&&◌, ◌||◌, List, Contains}
+use Rattle.std.specs.Prelude.{◌≡◌, Bool, true, ◌&&◌, List, Contains}
 use Rattle.opa_model.specs.declared.ids.AttrId.{AttrId}
 use Rattle.opa_cells.specs.Instances.{is_same}
 use Rattle.opa_cells.specs.declared.instance.InstanceId.{InstanceId}
 use Rattle.opa_case.specs.Cases.{CaseView}
+use Rattle.opa_case.specs.Live.{is_live, container_of}
 use Rattle.opa_case.specs.declared.question.Question.{Question}
 use Rattle.opa_case.specs.declared.question.Question.TheVariants as question
 use Rattle.opa_tree.specs.declared.rulebase.Rulebase.{Rulebase}
-use Rattle.opa_mean.specs.Changes.{is_live}
-use Rattle.opa_mean.specs.Mean.{Base, Facts}
-use Rattle.opa_mean.specs.Reads.{reads_of}
+use Rattle.opa_dirty.specs.Dirty.{slot_reads}
 use Rattle.opa_mean.specs.Sameness.{same_question, same_lists, same_options}
 use Rattle.opa_mean.specs.Slots.{has_place, is_slot}
 
 -- the instance was live in the same container
-abbrev pub has_stayed : Facts → Facts → InstanceId → Bool
-has_stayed c c' i = is_live c i && same_options is_same (c.container i) (c'.container i)
+abbrev pub has_stayed : CaseView → CaseView → InstanceId → Bool
+has_stayed c c' i = is_live c.live i && same_options is_same (container_of c.live i) (container_of c'.live i)
 
 -- what the rule can look at is the same in both cases
-abbrev pub reads_same : Base → Facts → Facts → AttrId → InstanceId → Bool
-reads_same b c c' a i = same_lists same_question (reads_of b c a i) (reads_of b c' a i)
-
--- the instance wasn't live in the same container, or what the rule can look at differs
-abbrev pub is_fresh : Base → Facts → Facts → AttrId → InstanceId → Bool
-is_fresh b c c' a i = not (has_stayed c c' i) || not (reads_same b c c' a i)
+abbrev pub reads_same : Rulebase → CaseView → CaseView → AttrId → InstanceId → Bool
+reads_same r c c' a i = same_lists same_question (slot_reads r c a i) (slot_reads r c' a i)
 
 -- each of these is a live slot
 pub record AreSlots (r : Rulebase) (c : CaseView) (slots : List (AttrId × InstanceId)) : Type 0 where

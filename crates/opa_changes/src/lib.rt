@@ -1,15 +1,22 @@
 //! What a change of the case reaches and what is told of it, computed from two held states.
 #![tactic(auto)]
 
+mod among;
+mod attrs;
 mod laws;
 mod lines;
 mod lists;
+mod marks;
 mod order;
 mod reach;
 mod tell;
+mod told_attrs;
 mod walk;
 
-pub use laws::told_once;
-pub use reach::dirty_slots;
+pub use among::changes_among;
+pub use laws::{dirty_have_changes, told_once};
+pub use lines::answer_differs;
+pub use lists::list_differs;
+pub use reach::{dirty_slots, is_fresh};
 pub use tell::changes;
-pub use walk::{slot_count, slots};
+pub use walk::{live_slots, slot_count, slots};

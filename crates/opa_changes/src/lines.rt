@@ -1,5 +1,6 @@
 // What is held of an attribute for an instance, in two states.
-ghost use Rattle.std.specs.Prelude.{◌≡◌, ◌<◌, None, Some, IfOk};
+ghost use Rattle.std.specs.Prelude.{◌≡◌, ◌<◌, is_some, None, Some, IfOk};
+ghost use Rattle.std.specs.FinMap.{get};
 ghost use Rattle.std.specs.Option.{option_copied};
 ghost use Rattle.opa_date.specs.declared.TheConstants.{DAYS};
 ghost use Rattle.opa_listen.specs.Days.{IsInCalendar};
@@ -7,7 +8,7 @@ ghost use Rattle.opa_mean.specs.Changes.{first_difference};
 ghost use Rattle.opa_mean.specs.Given.{line_value};
 ghost use Rattle.opa_mean.specs.Holding.{held_value};
 
-use opa_case::InstanceId;
+use opa_case::{Case, InstanceId};
 use opa_io::NoMemory;
 use opa_kinds::values_have_kinds;
 use opa_line::Line;
@@ -30,6 +31,22 @@ pub(crate) fn first_day<H: Held, K: Held>(
     let after = new.line(attr, inst);
     let day = first_between(alloc, before, after)?;
     Ok(day)
+}
+
+/// Whether the answers of an attribute for an instance differ on some day, where a missing one is unknown on every day.
+pub fn answer_differs(
+    alloc: Global,
+    old: &Case,
+    new: &Case,
+    attr: AttrId,
+    inst: &InstanceId,
+) -> Result<bool, NoMemory>
+    ensures { IfOk result (λ differs. differs ≡ is_some (first_difference DAYS (line_value (get old.now.answers (attr.0, inst.now))) (line_value (get new.now.answers (attr.0, inst.now))))) }
+{
+    let before = old.answer_of(attr, inst);
+    let after = new.answer_of(attr, inst);
+    let day = first_between(alloc, before, after)?;
+    Ok(day.is_some())
 }
 
 /// The first day at which two lines differ, where a missing one is unknown on every day.
@@ -59,10 +76,7 @@ fn first_from(
     }
 }
 
-fn first_from_unknown(
-    alloc: Global,
-    new: Option<&Line<Value>>,
-) -> Result<Option<u32>, NoMemory>
+fn first_from_unknown(alloc: Global, new: Option<&Line<Value>>) -> Result<Option<u32>, NoMemory>
     ensures { IfOk result (λ day. day ≡ first_difference DAYS (line_value None) (line_value (option_copied new.entry))) }
 {
     match new {
@@ -109,11 +123,7 @@ pub(crate) fn held_on<H: Held>(
 }
 
 /// The value of a line at a day, unknown where there is no line.
-fn value_on(
-    alloc: Global,
-    line: Option<&Line<Value>>,
-    day: u32,
-) -> Result<Value, NoMemory>
+fn value_on(alloc: Global, line: Option<&Line<Value>>, day: u32) -> Result<Value, NoMemory>
     requires { day < DAYS }
     ensures { IfOk result (λ value. value ≡ line_value (option_copied line.entry) day) }
 {

@@ -4,7 +4,6 @@ ghost use Rattle.std.specs.Option.{option_copied};
 ghost use Rattle.opa_case.specs.Cases.{list_of};
 ghost use Rattle.opa_cells.specs.Instances.{is_same};
 ghost use Rattle.opa_changes.specs.Reaching.{has_stayed};
-ghost use Rattle.opa_mean.specs.Given.{facts_of};
 ghost use Rattle.opa_mean.specs.Sameness as same;
 
 use opa_case::{Case, InstanceId, Question};
@@ -13,7 +12,7 @@ use opa_model::RelId;
 
 /// Whether the instance was live in the same container.
 pub(crate) fn has_stayed(old: &Case, new: &Case, inst: &InstanceId) -> bool
-    ensures { result ≡ has_stayed (facts_of old.now) (facts_of new.now) inst.now }
+    ensures { result ≡ has_stayed old.now new.now inst.now }
 {
     old.live(inst) && are_one(old.container_of(inst), new.container_of(inst))
 }
@@ -71,7 +70,7 @@ pub(crate) fn same_questions(first: &[Question], second: &[Question]) -> bool
 }
 
 /// Whether a list differs: a known one differs from an unknown one.
-pub(crate) fn list_differs(old: &Case, new: &Case, rel: RelId, inst: &InstanceId) -> bool
+pub fn list_differs(old: &Case, new: &Case, rel: RelId, inst: &InstanceId) -> bool
     ensures { result ≡ not (same.same_names (list_of old.now rel inst.now) (list_of new.now rel inst.now)) }
 {
     !same_names(old.list_of(rel, inst), new.list_of(rel, inst))

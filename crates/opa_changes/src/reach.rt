@@ -2,10 +2,11 @@
 ghost use Rattle.std.specs.Prelude.{◌≡◌, ◌<◌, ◌+◌, ◌^◌, true, cond, not, filter, is_some, length, IfOk, IfSome};
 ghost use Rattle.std.specs.List.{list_any};
 ghost use Rattle.opa_case.specs.Cases.{IsLive};
-ghost use Rattle.opa_changes.specs.Reaching.{is_fresh, reads_same, AreSlots, ArePlaced, HasPlaceIn};
+ghost use Rattle.opa_changes.specs.Reaching.{reads_same, AreSlots, ArePlaced, HasPlaceIn};
+ghost use Rattle.opa_dirty.specs.Dirty as law;
+ghost use Rattle.opa_dirty.specs.Dirty.{slot_reads};
 ghost use Rattle.opa_mean.specs.Changes as meant;
 ghost use Rattle.opa_mean.specs.Given.{base_of, facts_of};
-ghost use Rattle.opa_mean.specs.Reads.{reads_of};
 ghost use Rattle.opa_date.specs.declared.TheConstants.{DAYS};
 ghost use Rattle.opa_mean.specs.Rulebases.{IsOf, value_at};
 ghost use Rattle.opa_mean.specs.Slots as place;
@@ -14,7 +15,7 @@ use crate::lines::first_day;
 use crate::lists::{has_stayed, list_differs, same_questions};
 use crate::walk::slots;
 use opa_case::{Case, InstanceId, Question};
-use opa_dirty::reads_are_lower;
+use opa_dirty::{fresh_or_reads, reads_are_lower};
 use opa_io::{List, NoMemory};
 use opa_mean::{Held, reads};
 use opa_model::AttrId;
@@ -71,6 +72,7 @@ fn is_dirty<H: Held, K: Held>(
     requires slot { place.is_slot (K.rules new.now) (K.held new.now) attr inst.now ≡ true }
     ensures { IfOk result (λ reached. reached ≡ meant.is_dirty (base_of (K.rules new.now)) (facts_of (H.held old.now)) (facts_of (K.held new.now)) attr inst.now) }
 {
+    fresh_or_reads();
     let base = new.base();
     let before = old.case();
     let after = new.case();
@@ -83,6 +85,24 @@ fn is_dirty<H: Held, K: Held>(
             Ok(reached)
         }
     }
+}
+
+/// Whether a slot's instance wasn't live in the same container before, or its rule can look at something else.
+pub fn is_fresh(
+    alloc: Global,
+    base: &Rulebase,
+    old: &Case,
+    new: &Case,
+    attr: AttrId,
+    inst: &InstanceId,
+) -> Result<bool, NoMemory>
+    requires before { IsOf base.now old.now }
+    requires after { IsOf base.now new.now }
+    requires slot { place.is_slot base.now new.now attr inst.now ≡ true }
+    ensures { IfOk result (λ fresh. fresh ≡ law.is_fresh base.now old.now new.now attr inst.now) }
+{
+    let kept = kept_reads(alloc, base, old, new, attr, inst)?;
+    Ok(!kept.is_some())
 }
 
 /// What the rule of a slot can look at, where its instance stayed in its container and the rule can look at the same in both
@@ -98,8 +118,8 @@ fn kept_reads(
     requires before { IsOf base.now old.now }
     requires after { IsOf base.now new.now }
     requires slot { place.is_slot base.now new.now attr inst.now ≡ true }
-    ensures fresh { IfOk result (λ o. not (is_some o) ≡ is_fresh (base_of base.now) (facts_of old.now) (facts_of new.now) attr inst.now) }
-    ensures reads { IfOk result (λ o. IfSome o (λ found. found ≡ reads_of (base_of base.now) (facts_of new.now) attr inst.now)) }
+    ensures fresh { IfOk result (λ o. not (is_some o) ≡ law.is_fresh base.now old.now new.now attr inst.now) }
+    ensures reads { IfOk result (λ o. IfSome o (λ found. found ≡ slot_reads base.now new.now attr inst.now)) }
     ensures placed { IfOk result (λ o. IfSome o (ArePlaced base.now old.now new.now)) }
 {
     if has_stayed(old, new, inst) {
@@ -123,8 +143,8 @@ fn same_reads(
     requires after { IsOf base.now new.now }
     requires live { IsLive old.now inst.now }
     requires slot { place.is_slot base.now new.now attr inst.now ≡ true }
-    ensures alike { IfOk result (λ o. is_some o ≡ reads_same (base_of base.now) (facts_of old.now) (facts_of new.now) attr inst.now) }
-    ensures reads { IfOk result (λ o. IfSome o (λ found. found ≡ reads_of (base_of base.now) (facts_of new.now) attr inst.now)) }
+    ensures alike { IfOk result (λ o. is_some o ≡ reads_same base.now old.now new.now attr inst.now) }
+    ensures reads { IfOk result (λ o. IfSome o (λ found. found ≡ slot_reads base.now new.now attr inst.now)) }
     ensures placed { IfOk result (λ o. IfSome o (ArePlaced base.now old.now new.now)) }
 {
     reads_are_lower();

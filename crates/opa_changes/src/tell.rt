@@ -23,11 +23,7 @@ use std::alloc::Global;
 
 /// The changes of live slots: each slot whose line differs, with the first day of difference and both values there. They stand
 /// by rank, then in declared order, then in instance order. What wasn't live before was unknown on every day.
-pub fn changes<H: Held, K: Held>(
-    alloc: Global,
-    old: &H,
-    new: &K,
-) -> Result<Vec<Change>, NoMemory>
+pub fn changes<H: Held, K: Held>(alloc: Global, old: &H, new: &K) -> Result<Vec<Change>, NoMemory>
     requires same { H.rules old.now ≡ K.rules new.now }
     ensures { IfOk result (λ told. AllZip (TellsOf (K.rules new.now).model) (meant.changes (base_of (K.rules new.now)) (facts_of (H.held old.now)) (facts_of (K.held new.now))) told.items) }
 {

@@ -16,15 +16,12 @@ use std::alloc::Global;
 
 /// The live slots of what is held: each attribute with a rule, at each live instance of its entity. They stand by rank, then in
 /// declared order, then in instance order.
-pub fn slots<H: Held>(
-    alloc: Global,
-    held: &H,
-) -> Result<List<(AttrId, InstanceId)>, NoMemory>
+pub fn slots<H: Held>(alloc: Global, held: &H) -> Result<List<(AttrId, InstanceId)>, NoMemory>
     ensures { IfOk result (λ all. all ≡ meant.slots (base_of (H.rules held.now)) (facts_of (H.held held.now))) }
 {
     let base = held.base();
     let case = held.case();
-    let all = slots_of(alloc, base, case)?;
+    let all = live_slots(alloc, base, case)?;
     Ok(all)
 }
 
@@ -36,8 +33,8 @@ pub fn slot_count<H: Held>(alloc: Global, held: &H) -> Result<u64, NoMemory>
     Ok(all.len() as u64)
 }
 
-/// The live slots of a case.
-pub(crate) fn slots_of(
+/// The same of a case that fits a rulebase.
+pub fn live_slots(
     alloc: Global,
     base: &Rulebase,
     case: &Case,

@@ -1,4 +1,4 @@
-use Rattle.std.proofs.Common.{ap, arith, ◌∙◌, filter, length}
+use Rattle.std.proofs.Common.{ap, ◌∙◌, filter, length}
 use Rattle.opa_model.specs.declared.ids.AttrId.{AttrId}
 use Rattle.opa_cells.specs.declared.instance.InstanceId.{InstanceId}
 use Rattle.opa_mean.specs.Changes.{is_dirty}

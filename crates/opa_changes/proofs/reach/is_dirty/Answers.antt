@@ -1,9 +1,9 @@
-use Rattle.std.proofs.Common.{◌≡◌, Bool, true, false, sym, ◌∙◌, ap, not, is_some, List, Option, IfSome, subst}
+use Rattle.std.proofs.Common.{◌≡◌, sym, ◌∙◌, ap, not, is_some, List, Option, IfSome, subst}
 use Rattle.std.specs.List.{list_any}
 use Rattle.opa_case.specs.declared.question.Question.{Question}
 use Rattle.opa_mean.specs.Changes.{differs}
 use Rattle.opa_mean.specs.Given.{base_of, facts_of}
-use Rattle.opa_mean.specs.Reads.{reads_of}
+use Rattle.opa_dirty.specs.Dirty.{slot_reads}
 use Rattle.opa_changes.specs.Reaching.{ArePlaced}
 use Rattle.opa_changes.proofs.Reached.{is_of_same, slot_same, fresh_same, reads_here, placed_same, fresh_dirty, kept_dirty}
 use Rattle.opa_changes.proofs.reach.is_dirty.Goals as goal
@@ -27,7 +27,7 @@ any_differs-requires-clause-placed g c =
 pub returns-in-None : goal.returns-in-None
 returns-in-None g c =
     let r = g.K.Held.rules c.args.new.now in let o = g.H.Held.held c.args.old.now in let n = g.K.Held.held c.args.new.now in
-    fresh_dirty (base_of r) (facts_of o) (facts_of n) c.args.attr c.args.inst.now
+    fresh_dirty c.fresh_or_reads.ensures r o n c.args.attr c.args.inst.now
     (sym (ap (λ (x : Option (List Question)). not (is_some x)) c.in-None.is) ∙ c.in_ok-kept.ensures.fresh
     ∙ fresh_same r c.base-base.result.now o c.case-before.result.now n c.case-after.result.now c.args.attr c.args.inst.now c.base-base.ensures c.case-before.ensures.case c.case-after.ensures.case)
 
@@ -35,9 +35,9 @@ pub returns-in_ok-reached-in-Some : goal.returns-in_ok-reached-in-Some
 returns-in_ok-reached-in-Some g c =
     let r = g.K.Held.rules c.args.new.now in let o = g.H.Held.held c.args.old.now in let n = g.K.Held.held c.args.new.now in
     let a = c.args.attr in let i = c.args.inst.now in
-    kept_dirty (base_of r) (facts_of o) (facts_of n) a i c.in_ok-reached-in-Some.reached c.in-Some.found
+    kept_dirty c.fresh_or_reads.ensures r o n a i c.in_ok-reached-in-Some.reached c.in-Some.found
     (sym (ap (λ (x : Option (List Question)). not (is_some x)) c.in-Some.is) ∙ c.in_ok-kept.ensures.fresh
     ∙ fresh_same r c.base-base.result.now o c.case-before.result.now n c.case-after.result.now a i c.base-base.ensures c.case-before.ensures.case c.case-after.ensures.case)
-    (subst (λ (x : Option (List Question)). IfSome x (λ found. found ≡ reads_of (base_of c.base-base.result.now) (facts_of c.case-after.result.now) a i)) c.in-Some.is c.in_ok-kept.ensures.reads
+    (subst (λ (x : Option (List Question)). IfSome x (λ found. found ≡ slot_reads c.base-base.result.now c.case-after.result.now a i)) c.in-Some.is c.in_ok-kept.ensures.reads
     ∙ reads_here r c.base-base.result.now n c.case-after.result.now a i c.base-base.ensures c.case-after.ensures.case)
     (c.in_ok-reached-in-Some.ensures ∙ ap (list_any (differs (base_of r) (facts_of o) (facts_of n))) c.as_slice-questions.ensures)

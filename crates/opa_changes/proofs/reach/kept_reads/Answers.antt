@@ -1,7 +1,5 @@
 use Rattle.std.proofs.Common.{sym, ◌∙◌}
-use Rattle.opa_mean.specs.Given.{base_of, facts_of}
 use Rattle.opa_changes.proofs.Sames.{stayed_live}
-use Rattle.opa_changes.proofs.Reached.{fresh_moved, fresh_stayed}
 use Rattle.opa_changes.proofs.reach.kept_reads.Goals as goal
 
 pub same_reads-requires-clause-live : goal.same_reads-requires-clause-live

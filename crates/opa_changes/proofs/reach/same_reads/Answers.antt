@@ -1,4 +1,4 @@
-use Rattle.std.proofs.Common.{◌≡◌, true, sym, ◌∙◌, ap, List}
+use Rattle.std.proofs.Common.{sym, ◌∙◌, ap, List}
 use Rattle.opa_case.specs.declared.question.Question.{Question}
 use Rattle.opa_mean.specs.Sameness.{same_lists, same_question}
 use Rattle.opa_changes.proofs.Placed.{placed_reads}

@@ -1,4 +1,4 @@
-use Rattle.std.proofs.Common.{List, ◌∙◌, sym, subst}
+use Rattle.std.proofs.Common.{List, ◌∙◌, subst}
 use Rattle.std.specs.List.{AllZip}
 use Rattle.opa_model.specs.declared.ids.AttrId.{AttrId}
 use Rattle.opa_cells.specs.declared.instance.InstanceId.{InstanceId}

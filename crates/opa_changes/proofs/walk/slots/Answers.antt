@@ -1,4 +1,4 @@
-use Rattle.std.proofs.Common.{sym, ◌∙◌, ap, subst}
+use Rattle.std.proofs.Common.{◌∙◌, ap}
 use Rattle.opa_case.specs.Cases.{CaseView}
 use Rattle.opa_tree.specs.declared.rulebase.Rulebase.{Rulebase}
 use Rattle.opa_mean.specs.Changes.{slots}
@@ -6,8 +6,8 @@ use Rattle.opa_mean.specs.Given.{base_of, facts_of}
 use Rattle.opa_changes.proofs.Reached.{is_of_same}
 use Rattle.opa_changes.proofs.walk.slots.Goals as goal
 
-pub slots_of-requires : goal.slots_of-requires
-slots_of-requires g c = is_of_same _ _ _ _ c.base-base.ensures c.case-case.ensures.case c.case-case.ensures.fits
+pub live_slots-requires : goal.live_slots-requires
+live_slots-requires g c = is_of_same _ _ _ _ c.base-base.ensures c.case-case.ensures.case c.case-case.ensures.fits
 
 pub returns : goal.returns
 returns g c =

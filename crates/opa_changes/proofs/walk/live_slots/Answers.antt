@@ -4,7 +4,7 @@ use Rattle.opa_case.specs.Instances.{AreInstances}
 use Rattle.opa_case.specs.Shapes.{shape_of}
 use Rattle.opa_changes.specs.Walking.{slots_over}
 use Rattle.opa_changes.proofs.Walked.{slots_are}
-use Rattle.opa_changes.proofs.walk.slots_of.Goals as goal
+use Rattle.opa_changes.proofs.walk.live_slots.Goals as goal
 
 pub returns : goal.returns
 returns c =

@@ -1,0 +1,15 @@
+use Rattle.std.proofs.Common.{subst}
+use Rattle.opa_readers.specs.Indexes.{AddsReads}
+use Rattle.opa_changes.proofs.Reached.{all_taken}
+use Rattle.opa_readers.proofs.Indexed.{reads_none, reads_next}
+use Rattle.opa_readers.proofs.fill.add_questions.Goals as goal
+
+pub loop-question-init : goal.loop-question-init
+loop-question-init c = reads_none c.args.attr c.args.inst.now c.args.index.now
+
+pub loop-question-preserved : goal.loop-question-preserved
+loop-question-preserved c =
+    reads_next c.args.attr c.args.inst.now c.args.questions.now c.loop-question.question-index c.question-item.result c.args.index.now c.loop-question.index c.add_question.new.index c.loop-question-test.true c.question-item.is c.loop-question.invariant c.in_ok-add_question.ensures
+
+pub returns : goal.returns
+returns c = subst (λ qs. AddsReads qs c.args.attr c.args.inst.now c.args.index.now c.loop-question.index) (all_taken c.args.questions.now c.loop-question.question-index c.loop-question-test.false) c.loop-question.invariant

@@ -1,0 +1,47 @@
+-- Which slots read a line or a list.
+use Rattle.std.specs.Prelude.{◌≡◌, ◌⊎◌, ◌↔◌, ℕ, unwrap_or, List, [], Contains}
+use Rattle.std.specs.FinMap.{FinMap, get}
+use Rattle.opa_model.specs.declared.ids.AttrId.{AttrId}
+use Rattle.opa_cells.specs.Keys.{cell_cmp}
+use Rattle.opa_cells.specs.declared.instance.InstanceId.{InstanceId}
+use Rattle.opa_case.specs.Cases.{CaseView}
+use Rattle.opa_case.specs.declared.question.Question.{Question}
+use Rattle.opa_case.specs.declared.question.Question.TheVariants as question
+use Rattle.opa_dirty.specs.Dirty.{slot_reads}
+use Rattle.opa_dirty.specs.Settling.{SamePair, Waiting}
+use Rattle.opa_dirty.specs.Slots.{pairs_of}
+use Rattle.opa_dirty.specs.declared.slot.Slot.{Slot}
+use Rattle.opa_tree.specs.declared.rulebase.Rulebase.{Rulebase}
+use Rattle.opa_readers.specs.declared.index.Index.{Index}
+
+-- the slots at each key
+abbrev pub Table : Type 0
+Table = FinMap cell_cmp (List Slot)
+
+abbrev pub slots_at : Table → ℕ × InstanceId → Waiting
+slots_at m k = pairs_of (unwrap_or (get m k) [])
+
+-- the slots that read a question, by an index
+abbrev pub readers_in : Index → Question → Waiting
+readers_in x (question.Attr a i) = slots_at x.lines (a.0, i)
+readers_in x (question.Members q i) = slots_at x.lists (q.0, i)
+
+-- two keys are one
+abbrev pub SameKey : ℕ × InstanceId → ℕ × InstanceId → Type 0
+SameKey x y = x ≡ y
+
+-- a slot is among them besides
+abbrev pub AddsSlot : List Slot → List Slot → AttrId × InstanceId → Type 0
+AddsSlot old new s = (x : AttrId × InstanceId) → Contains (pairs_of new) x ↔ (Contains (pairs_of old) x ⊎ SamePair s x)
+
+-- at one key, and none at another
+abbrev pub AddsAt : Table → Table → ℕ × InstanceId → AttrId × InstanceId → Type 0
+AddsAt old new k s = (j : ℕ × InstanceId) (x : AttrId × InstanceId) → Contains (slots_at new j) x ↔ (Contains (slots_at old j) x ⊎ (SameKey k j × SamePair s x))
+
+-- at each of these questions, and none at another
+abbrev pub AddsReads : List Question → AttrId → InstanceId → Index → Index → Type 0
+AddsReads reads a i old new = (q : Question) (x : AttrId × InstanceId) → Contains (readers_in new q) x ↔ (Contains (readers_in old q) x ⊎ (SamePair (a, i) x × Contains reads q))
+
+-- of these slots exactly those that read a question
+abbrev pub AreReadersAmong : Rulebase → CaseView → List (AttrId × InstanceId) → (Question → Waiting) → Type 0
+AreReadersAmong r c slots readers = (q : Question) (x : AttrId × InstanceId) → Contains (readers q) x ↔ (Contains slots x × Contains (slot_reads r c x.0 x.1) q)

@@ -1,0 +1,114 @@
+// The lists and answers that differ in another case, of those that are read.
+ghost use Rattle.std.specs.Prelude.{◌≡◌, ◌++◌, flat_map, IfOk, OnOk};
+ghost use Rattle.opa_mean.specs.Rulebases.{IsOf};
+ghost use Rattle.opa_readers.specs.Indexes.{readers_in};
+ghost use Rattle.opa_readers.specs.Renewing.{answer_told, list_told, AreGiven};
+
+use crate::index::Index;
+use opa_case::{Case, InstanceId, Question};
+use opa_changes::{answer_differs, list_differs};
+use opa_dirty::{Slot, answers_differ};
+use opa_io::{List, NoMemory};
+use opa_model::{AttrId, RelId};
+use opa_tree::Rulebase;
+use std::alloc::Global;
+
+/// The questions of the index that no rule gives and that differ in the two cases: lists, and answers of attributes without a
+/// rule. None that differs and that a slot of the index reads is missing.
+pub fn given_changes(
+    alloc: Global,
+    base: &Rulebase,
+    old: &Case,
+    new: &Case,
+    index: &Index,
+) -> Result<List<Question>, NoMemory>
+    requires before { IsOf base.now old.now }
+    requires after { IsOf base.now new.now }
+    ensures { IfOk result (AreGiven base.now old.now new.now (readers_in index.now)) }
+{
+    answers_differ();
+    let mut told = List::new(alloc);
+    let lines = index.lines.each(alloc)?;
+    add_answers(alloc, base, old, new, lines.as_slice(), &mut told)?;
+    let lists = index.lists.each(alloc)?;
+    add_lists(alloc, old, new, lists.as_slice(), &mut told)?;
+    Ok(told)
+}
+
+/// Adds the answers that differ.
+fn add_answers(
+    alloc: Global,
+    base: &Rulebase,
+    old: &Case,
+    new: &Case,
+    cells: &[(u32, &InstanceId, &List<Slot>)],
+    told: &mut List<Question>,
+) -> Result<(), NoMemory>
+    ensures { OnOk result (told.new ≡ told.old ++ flat_map (λ x. answer_told base.now old.now new.now (x.0, x.1.now)) cells.now) }
+{
+    for (number, inst, _) in cells {
+        add_answer(alloc, base, old, new, AttrId(*number), inst, told)?;
+    }
+    Ok(())
+}
+
+/// Adds the answer of an attribute, where it has no rule and the answer differs.
+fn add_answer(
+    alloc: Global,
+    base: &Rulebase,
+    old: &Case,
+    new: &Case,
+    attr: AttrId,
+    inst: &InstanceId,
+    told: &mut List<Question>,
+) -> Result<(), NoMemory>
+    ensures { OnOk result (told.new ≡ told.old ++ answer_told base.now old.now new.now (attr.0, inst.now)) }
+{
+    if base.rules.of(attr).is_some() {
+        return Ok(());
+    }
+    let differs = answer_differs(alloc, old, new, attr, inst)?;
+    if differs {
+        let inst = inst.copy(alloc)?;
+        told.push(Question::Attr(attr, inst))?;
+        Ok(())
+    } else {
+        Ok(())
+    }
+}
+
+/// Adds the lists that differ.
+fn add_lists(
+    alloc: Global,
+    old: &Case,
+    new: &Case,
+    cells: &[(u32, &InstanceId, &List<Slot>)],
+    told: &mut List<Question>,
+) -> Result<(), NoMemory>
+    ensures { OnOk result (told.new ≡ told.old ++ flat_map (λ x. list_told old.now new.now (x.0, x.1.now)) cells.now) }
+{
+    for (number, inst, _) in cells {
+        add_list(alloc, old, new, RelId(*number), inst, told)?;
+    }
+    Ok(())
+}
+
+/// Adds a list, where it differs.
+fn add_list(
+    alloc: Global,
+    old: &Case,
+    new: &Case,
+    rel: RelId,
+    inst: &InstanceId,
+    told: &mut List<Question>,
+) -> Result<(), NoMemory>
+    ensures { OnOk result (told.new ≡ told.old ++ list_told old.now new.now (rel.0, inst.now)) }
+{
+    if list_differs(old, new, rel, inst) {
+        let inst = inst.copy(alloc)?;
+        told.push(Question::Members(rel, inst))?;
+        Ok(())
+    } else {
+        Ok(())
+    }
+}

@@ -1,0 +1,14 @@
+//! Which slots of a case read each line and each list, and which slots and questions another case makes new.
+#![tactic(auto)]
+
+mod add;
+mod build;
+mod fill;
+mod fresh;
+mod given;
+mod index;
+mod readers;
+
+pub use fresh::fresh_slots;
+pub use given::given_changes;
+pub use index::Index;
