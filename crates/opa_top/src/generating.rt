@@ -61,7 +61,7 @@ struct Example {
 }
 
 /// The generated rulebase, and the input of so many people.
-fn example(alloc: Global, size: u32) -> Result<Example, NoMemory>
+fn make_example(alloc: Global, size: u32) -> Result<Example, NoMemory>
     requires least { 1 ≤ size }
     requires most { size ≤ 1000 }
     ensures files { IfOk result (λ m. ⟦<MemShelf as Shelf>⟧.files m.shelf ≡ Some generated_files) }
@@ -89,7 +89,7 @@ fn talk_over<S: Source, F: Shelf, K: Sink>(
         (outside F.files F.take_faults F.keep_faults S.left S.faults K.written K.faults shelf.now (map (λ l. hearer (state l)) listeners.old.items) input.now out.old)
         (outside F.files F.take_faults F.keep_faults S.left S.faults K.written K.faults shelf.now (map (λ l. hearer (state l)) listeners.new.items) input.now out.new) result }
 {
-    let Ok(found) = example(alloc, size) else {
+    let Ok(found) = make_example(alloc, size) else {
         return Status::NoMemory;
     };
     let mut rules = found.shelf;
