@@ -1,5 +1,6 @@
 -- One task is carried out.
-use Rattle.std.proofs.Common.{◌≡◌, ◌⊎◌, inl, inr, ℕ, ◌+◌, ◌<◌, ◌≤◌, Bool, true, false, List, [], ◌∷◌, ◌++◌, Some, is_some, All, Contains, refl, sym, ◌∙◌, ap, subst, get_or, arith}
+use Rattle.std.proofs.Common.{length, ◌≡◌, ◌⊎◌, inl, inr, ℕ, ◌+◌, ◌<◌, ◌≤◌, Bool, true, false, List, [], ◌∷◌, ◌++◌, Some, is_some, All, Contains, refl, sym, ◌∙◌, ap, subst, get_or, arith}
+use Rattle.std.proofs.lemmas.List.{length-append}
 use Rattle.std.proofs.lemmas.List.Elements.{All-push, All-get_or, All-nil}
 use Rattle.std.proofs.lemmas.List.Quantifiers.{all_pairs_push}
 use Rattle.opa_date.specs.declared.TheConstants.{DAYS}
@@ -117,6 +118,9 @@ module _ (s : Shift) (kept : Lines) (readers : Question → Waiting) (can : CanS
       pub counted : (old new : ℕ) → new ≡ old + 1 → new + left s staged' ≡ old + left s staged
       counted old new e = let c = counts in omega (arith, c, e)
 
+      pub listed_counted : (listed listed' : List Slot) (slot : Slot) → listed' ≡ listed ++ slot ∷ [] → length listed' + left s staged' ≡ length listed + left s staged
+      listed_counted listed listed' slot more = let c = counts in let l = ap length more ∙ length-append listed (slot ∷ []) in omega (arith, c, l)
+
       pub after_same : (flag : Bool) → flag ≡ is_line_changed kept task.attr task.inst line → flag ≡ false → IsSettling s staged' (slots_of tasks)
       after_same flag is off = step_same s can.is kept can.current readers can.exact staged task.attr task.inst (slots_of tasks) h first_pair once_pair line right staged' stages (sym is ∙ off)
 
@@ -183,3 +187,10 @@ some_counted new left_new old left_old reached e all = omega (arith, e, all)
 
 pub some_left : (new left_new mid left_mid old reached : ℕ) → new + left_new ≡ mid + left_mid → mid + left_mid ≡ old + reached → new ≤ old + reached
 some_left new left_new mid left_mid old reached e f = omega (arith, e, f)
+
+-- where no slot is listed, all are left; where none is left, all are listed
+pub first_listed : (slots : List Slot) → slots ≡ [] → (left reached : ℕ) → left ≡ reached → length slots + left ≡ reached
+first_listed slots none left reached all = let l = ap length none in omega (arith, l, all)
+
+pub all_listed : (listed left reached : ℕ) → listed + left ≡ reached → left ≡ 0 → listed ≡ reached
+all_listed listed left reached e none = omega (arith, e, none)

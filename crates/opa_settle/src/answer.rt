@@ -1,5 +1,5 @@
 // One answer is set or taken away: only what it reaches is derived.
-ghost use Rattle.std.specs.Prelude.{◌≡◌, ◌+◌, ◌≤◌, false, [], is_some, OnOk};
+ghost use Rattle.std.specs.Prelude.{◌≡◌, ◌+◌, ◌≤◌, false, [], length, is_some, OnOk};
 ghost use Rattle.opa_dirty.specs.Settling.{AreCurrent, AreReaders, AreSettled, HaveKinds, SameLines, laid, reached, shift};
 ghost use Rattle.opa_mean.specs.Rulebases.{IsOf};
 ghost use Rattle.opa_settle.specs.Tasks.{AreInOrder};
@@ -40,6 +40,7 @@ pub fn settle_answer<D: Derive, R: Readers, L: Ledger>(
     ensures readers { AreReaders base.now (case_with next.now) (R.readers readers.now) }
     ensures order { AreInOrder base.now store.new.slots }
     ensures kept { SameLines (kept_of store.old) (kept_of store.new) }
+    ensures dirty { OnOk result (length store.new.slots ≡ reached (shift base.now next.now.case.now (case_with next.now))) }
     ensures counted { OnOk result (steps.new ≡ steps.old + reached (shift base.now next.now.case.now (case_with next.now))) }
     ensures bound { steps.new ≤ steps.old + reached (shift base.now next.now.case.now (case_with next.now)) }
 {

@@ -1,5 +1,5 @@
 // A change is settled: what it reaches is derived, in the order of ranks.
-ghost use Rattle.std.specs.Prelude.{◌≡◌, ◌+◌, ◌<◌, ◌≤◌, [], ◌∷◌, OnOk, OnErr, Contains};
+ghost use Rattle.std.specs.Prelude.{◌≡◌, ◌+◌, ◌<◌, ◌≤◌, [], ◌∷◌, length, OnOk, OnErr, Contains};
 ghost use Rattle.opa_dirty.specs.Settling.{AreCurrent, AreSettled, CanSettle, IsBegun, IsSettling, NoLines, SameLines, laid_over, left, reached, shift};
 ghost use Rattle.opa_settle.specs.Tasks.{AreInOrder, AreRanked, ComesFirst, slots_of};
 ghost use Rattle.opa_settle.specs.Orders.{StandBefore};
@@ -40,6 +40,7 @@ pub fn settle<D: Derive, N: Next, R: Readers, L: Ledger>(
     ensures current { OnOk result (AreCurrent base.now (N.next next.now) (laid_over (N.next next.now) (kept_of store.new) (staged_of store.new))) }
     ensures order { AreInOrder base.now store.new.slots }
     ensures kept { SameLines (kept_of store.old) (kept_of store.new) }
+    ensures dirty { OnOk result (length store.new.slots ≡ reached (shift base.now held.now (N.next next.now))) }
     ensures counted { OnOk result (steps.new ≡ steps.old + reached (shift base.now held.now (N.next next.now))) }
     ensures bound { steps.new ≤ steps.old + reached (shift base.now held.now (N.next next.now)) }
 {
@@ -87,6 +88,7 @@ fn settle_one<D: Derive, N: Next, R: Readers, L: Ledger>(
     ensures order { AreInOrder base.now store.new.slots }
     ensures kept { SameLines (kept_of store.old) (kept_of store.new) }
     ensures fewer { OnOk result (left (shift base.now held.now (N.next next.now)) (staged_of store.new) < left (shift base.now held.now (N.next next.now)) (staged_of store.old)) }
+    ensures listed { length store.new.slots + left (shift base.now held.now (N.next next.now)) (staged_of store.new) ≡ length store.old.slots + left (shift base.now held.now (N.next next.now)) (staged_of store.old) }
     ensures counted { steps.new + left (shift base.now held.now (N.next next.now)) (staged_of store.new) ≡ steps.old + left (shift base.now held.now (N.next next.now)) (staged_of store.old) }
 {
     let slot = Slot {

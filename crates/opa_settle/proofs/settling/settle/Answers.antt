@@ -1,10 +1,10 @@
-use Rattle.std.proofs.Common.{refl, ap, ◌+◌, ℕ}
+use Rattle.std.proofs.Common.{length, refl, ap, ◌+◌, ℕ}
 use Rattle.opa_dirty.specs.Settling.{shift, left, reached}
 use Rattle.opa_dirty.proofs.Beginning.{begins}
 use Rattle.opa_dirty.proofs.Counting.{all_left}
 use Rattle.opa_dirty.proofs.Ending.{laid_are_current}
 use Rattle.opa_settle.specs.Tasks.{slots_of}
-use Rattle.opa_settle.proofs.Settles.{all_settled, current_still, stand_first, all_counted, some_counted, some_left}
+use Rattle.opa_settle.proofs.Settles.{all_settled, current_still, stand_first, all_counted, some_counted, some_left, first_listed, all_listed}
 use Rattle.opa_store.specs.Stores.{kept_of, staged_of}
 use Rattle.opa_settle.proofs.settling.settle.Goals as goal
 
@@ -16,6 +16,7 @@ loop-task-init g c =
       ranked = c.requires.ranked;
       settling = begins s (slots_of c.args.tasks) c.requires.begun (staged_of c.args.store.now) c.nothing_staged.ensures;
       before = stand_first c.args.base.now c.args.store.now.slots c.requires.empty (slots_of c.args.tasks);
+      listed = first_listed c.args.store.now.slots c.requires.empty (left s (staged_of c.args.store.now)) (reached s) (all_left s (staged_of c.args.store.now) c.nothing_staged.ensures);
       counted = ap (λ (n : ℕ). c.args.steps.now + n) (all_left s (staged_of c.args.store.now) c.nothing_staged.ensures);
     }
 
@@ -46,3 +47,9 @@ pub returns-clause-bound : goal.returns-clause-bound
 returns-clause-bound g c =
     let s = shift c.args.base.now c.args.held.now (g.N.Next.next c.args.next.now) in
     some_counted c.loop-task.steps (left s (staged_of c.loop-task.store)) c.args.steps.now (reached s) (reached s) c.loop-task.invariant.counted refl
+
+pub returns-clause-dirty : goal.returns-clause-dirty
+returns-clause-dirty g c =
+    let s = shift c.args.base.now c.args.held.now (g.N.Next.next c.args.next.now) in
+    all_listed (length c.loop-task.store.slots) (left s (staged_of c.loop-task.store)) (reached s) c.loop-task.invariant.listed
+    (all_settled s (kept_of c.args.store.now) (g.R.Readers.readers c.args.readers.now) c.requires.can (staged_of c.loop-task.store) c.loop-task.tasks c.in_default.ensures.taken.0 c.loop-task.invariant.settling).1

@@ -1,4 +1,4 @@
-use Rattle.std.proofs.Common.{◌≡◌, ◌+◌}
+use Rattle.std.proofs.Common.{◌≡◌, ◌+◌, length}
 use Rattle.opa_dirty.specs.Settling.{IsSettling, SameLines, left, reached, shift}
 use Rattle.opa_settle.specs.Orders.{StandBefore}
 use Rattle.opa_settle.specs.Tasks.{AreRanked, slots_of}
@@ -11,6 +11,7 @@ invariant-loop-task g l = record {
   ranked : AreRanked l.base l.tasks;
   settling : IsSettling (shift l.base l.held (g.N.Next.next l.next)) (staged_of l.store) (slots_of l.tasks);
   before : StandBefore l.base l.store.slots (slots_of l.tasks);
+  listed : length l.store.slots + left (shift l.base l.held (g.N.Next.next l.next)) (staged_of l.store) ≡ reached (shift l.base l.held (g.N.Next.next l.next));
   counted : l.steps + left (shift l.base l.held (g.N.Next.next l.next)) (staged_of l.store) ≡ l.fn.steps + reached (shift l.base l.held (g.N.Next.next l.next));
 }
 

@@ -1,7 +1,7 @@
 use Rattle.std.proofs.Common.{refl, sym, subst}
 use Rattle.opa_dirty.specs.Settling.{shift}
 use Rattle.opa_settle.specs.Tasks.{AreInOrder}
-use Rattle.opa_settle.proofs.Settles.{may_code, fewer, counted, after_same, after_changed, ranked_rest, in_order, stand_same, stand_changed}
+use Rattle.opa_settle.proofs.Settles.{may_code, fewer, counted, listed_counted, after_same, after_changed, ranked_rest, in_order, stand_same, stand_changed}
 use Rattle.opa_store.specs.Stores.{StoreView, kept_of, staged_of}
 use Rattle.opa_settle.proofs.settling.settle_one.Goals as goal
 
@@ -68,3 +68,15 @@ returns-else-differs-clause-fewer g c =
 pub returns-else-differs-clause-counted : goal.returns-else-differs-clause-counted
 returns-else-differs-clause-counted g c =
     let d = c.in_ok-differs.ensures.derived in counted (shift c.args.base.now c.args.held.now (g.N.Next.next c.args.next.now)) (kept_of c.args.store.now) (g.R.Readers.readers c.args.readers.now) c.requires.can (staged_of c.args.store.now) c.args.task c.args.tasks.now c.requires.ranked c.requires.first c.requires.once c.requires.settling (g.D.Derive.stands_for c.args.code.now) c.requires.code d.0 d.1 (staged_of c.derive.new.self) d.2 c.args.steps.now c.derive.new.steps c.in_ok-differs.ensures.counted
+
+pub returns-in_err-mark-clause-listed : goal.returns-in_err-mark-clause-listed
+returns-in_err-mark-clause-listed g c =
+    let d = c.in_ok-differs.ensures.derived in listed_counted (shift c.args.base.now c.args.held.now (g.N.Next.next c.args.next.now)) (kept_of c.args.store.now) (g.R.Readers.readers c.args.readers.now) c.requires.can (staged_of c.args.store.now) c.args.task c.args.tasks.now c.requires.ranked c.requires.first c.requires.once c.requires.settling (g.D.Derive.stands_for c.args.code.now) c.requires.code d.0 d.1 (staged_of c.derive.new.self) d.2 c.args.store.now.slots c.derive.new.self.slots (record { attr = c.args.task.attr; inst = c.args.task.inst }) c.in_ok-differs.ensures.slots
+
+pub returns-in_ok-mark-clause-listed : goal.returns-in_ok-mark-clause-listed
+returns-in_ok-mark-clause-listed g c =
+    let d = c.in_ok-differs.ensures.derived in listed_counted (shift c.args.base.now c.args.held.now (g.N.Next.next c.args.next.now)) (kept_of c.args.store.now) (g.R.Readers.readers c.args.readers.now) c.requires.can (staged_of c.args.store.now) c.args.task c.args.tasks.now c.requires.ranked c.requires.first c.requires.once c.requires.settling (g.D.Derive.stands_for c.args.code.now) c.requires.code d.0 d.1 (staged_of c.derive.new.self) d.2 c.args.store.now.slots c.derive.new.self.slots (record { attr = c.args.task.attr; inst = c.args.task.inst }) c.in_ok-differs.ensures.slots
+
+pub returns-else-differs-clause-listed : goal.returns-else-differs-clause-listed
+returns-else-differs-clause-listed g c =
+    let d = c.in_ok-differs.ensures.derived in listed_counted (shift c.args.base.now c.args.held.now (g.N.Next.next c.args.next.now)) (kept_of c.args.store.now) (g.R.Readers.readers c.args.readers.now) c.requires.can (staged_of c.args.store.now) c.args.task c.args.tasks.now c.requires.ranked c.requires.first c.requires.once c.requires.settling (g.D.Derive.stands_for c.args.code.now) c.requires.code d.0 d.1 (staged_of c.derive.new.self) d.2 c.args.store.now.slots c.derive.new.self.slots (record { attr = c.args.task.attr; inst = c.args.task.inst }) c.in_ok-differs.ensures.slots
