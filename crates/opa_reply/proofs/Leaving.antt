@@ -18,7 +18,8 @@ module _ {X : Type 0} (view : X → ListenerView) where
   get_hear (x ∷ xs) (suc n) = get_hear xs n
 
   remove_hear : (xs : List X) (n : ℕ) → map hear (remove xs n) ≡ remove (map hear xs) n
-  remove_hear [] n = refl
+  remove_hear [] zero = refl
+  remove_hear [] (suc n) = refl
   remove_hear (x ∷ xs) zero = refl
   remove_hear (x ∷ xs) (suc n) = ap (λ ys. hear x ∷ ys) (remove_hear xs n)
 

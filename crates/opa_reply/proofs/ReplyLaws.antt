@@ -1,6 +1,6 @@
 -- A line that was read is carried out, or refused.
 use Rattle.std.proofs.Common.{◌≡◌, ◌≢◌, inl, inr, List, ℕ, Ok, Err, refl, subst}
-use Rattle.std.specs.Prelude.{Option, Result}
+use Rattle.std.specs.Prelude.{Option, Result, IfOk, IfErr}
 use Rattle.opa_io.specs.Outside.{Files}
 use Rattle.opa_case.specs.Cases.{CaseView}
 use Rattle.opa_listen.specs.Hearing.{Hearer}
@@ -29,7 +29,15 @@ module _ (keep keep' : ℕ) where
       → HaltsAt keep keep' k (held r c n hs files) (held r' c' n' hs' files)
   quiet r r' c c' n n' hs hs' files k er ec en eh = inl (same_held r r' c c' n n' hs hs' files files er ec en eh refl)
 
-pub ruleset carrying = (dismisses, stays, quiet)
+-- what holds beside any hearers holds beside these
+module _ (r : Rulebase) (c : CaseView) (n : ℕ) (old new : Option Files) (hs : List Hearer) (k : Command) where
+  pub kept_beside : (text : List ℕ) → ((hearers : List Hearer) → CarriesOut k (held r c n hearers old) text (held r c n hearers new)) → CarriesOut k (held r c n hs old) text (held r c n hs new)
+  kept_beside text h = h hs
+
+  pub halts_beside : (keep keep' : ℕ) → ((hearers : List Hearer) → HaltsAt keep keep' k (held r c n hearers old) (held r c n hearers new)) → HaltsAt keep keep' k (held r c n hs old) (held r c n hs new)
+  halts_beside keep keep' h = h hs
+
+pub ruleset carrying = (dismisses, stays, quiet, kept_beside, halts_beside)
 
 -- ---- lines
 
@@ -52,3 +60,13 @@ module _ (Says : Held → List ℕ → Command → Type 0) (SaysNothing : Held �
   stopped keep keep' x y line (Err f) is same = inl same
 
 pub ruleset replying = (answered, stopped)
+
+module _ {T E : Type 0} (P Q : T → Type 0) where
+  pub said_ok : (r : Result T E) → ((t : T) → P t → Q t) → IfOk r P → IfOk r Q
+  said_ok (Ok t) f h = f t h
+  said_ok (Err e) f h = tt
+
+module _ (Says : Held → List ℕ → Command → Type 0) (SaysNothing : Held → List ℕ → CmdFault → Type 0) where
+  pub read_as : (x : Held) (line : List ℕ) (read : Result Command CmdFault) → IfOk read (Says x line) → IfErr read (SaysNothing x line) → IsReadAs Says SaysNothing x line read
+  read_as x line (Ok c) says nothing = says
+  read_as x line (Err f) says nothing = λ some. nothing

@@ -49,7 +49,10 @@ fn carry_out<F: Shelf>(
         Command::Next => Ok(next_told(alloc, session)?),
         Command::Screen => Ok(screen_told(alloc, session, session.frees())?),
         Command::Report(attr, inst, day) => Ok(report_told(alloc, session, attr, &inst, day)?),
-        Command::Save(name) => save(alloc, session, shelf, &name),
+        Command::Save(name) => match save(alloc, session, shelf, &name) {
+            Ok(text) => Ok(text),
+            Err(halt) => Err(halt),
+        },
         Command::Load(name) => load_file(alloc, session, shelf, listeners, &name),
         Command::Stats => Ok(stats_told(alloc, session, session.dirty())?),
         Command::Dismiss(number) => Ok(dismissed(alloc, listeners, number)?),

@@ -62,9 +62,13 @@ fn told(
         None => Ok(Command::Nothing),
         Some(question) => {
             replies_are_in_range();
-            let command = read_reply(alloc, model, question, text_of(line))?;
-            is_well_formed(&command);
-            Ok(command)
+            match read_reply(alloc, model, question, text_of(line)) {
+                Err(fault) => Err(fault),
+                Ok(command) => {
+                    is_well_formed(&command);
+                    Ok(command)
+                }
+            }
         }
     }
 }

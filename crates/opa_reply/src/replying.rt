@@ -54,7 +54,11 @@ pub(crate) fn asked(alloc: Global, model: &Model, line: &[u8]) -> Result<Command
         return Err(CmdFault::NotACommand);
     }
     commands_are_in_range();
-    let command = read_command(alloc, model, text_of(line))?;
-    is_well_formed(&command);
-    Ok(command)
+    match read_command(alloc, model, text_of(line)) {
+        Err(fault) => Err(fault),
+        Ok(command) => {
+            is_well_formed(&command);
+            Ok(command)
+        }
+    }
 }
