@@ -3,7 +3,10 @@ use Rattle.std.proofs.Common.{◌≡◌, ◌≢◌, inl, inr, List, ℕ, Ok, Err
 use Rattle.std.specs.Prelude.{Option, Result, IfOk, IfErr}
 use Rattle.opa_io.specs.Outside.{Files}
 use Rattle.opa_case.specs.Cases.{CaseView}
+use Rattle.opa_case.specs.declared.question.Question.{Question}
 use Rattle.opa_listen.specs.Hearing.{Hearer}
+use Rattle.opa_model.specs.declared.lists.Lists.{Lists}
+use Rattle.opa_need.specs.Goals.{next_of}
 use Rattle.opa_script.specs.declared.command.Command.{Command}
 use Rattle.opa_script.specs.declared.command.Command.TheVariants as command
 use Rattle.opa_script.specs.declared.fault.CmdFault.{CmdFault}
@@ -13,7 +16,8 @@ use Rattle.opa_tree.specs.declared.rulebase.Rulebase.{Rulebase}
 use Rattle.opa_reply.specs.Held.{Held, held, with_hearers}
 use Rattle.opa_reply.specs.Dismissals.{IsDismissed}
 use Rattle.opa_reply.specs.Refused.{refused_command}
-use Rattle.opa_reply.specs.Replies.{Answers, CarriesOut, Dismisses, HaltsAt, HaltsFrom, IsReadAs, Responds, StopsAt}
+use Rattle.opa_reply.specs.Interviews.{IsTold, IsNotTold, Tells, TellsNothing}
+use Rattle.opa_reply.specs.Replies.{Answers, Asks, AsksNothing, CarriesOut, Dismisses, HaltsAt, HaltsFrom, IsAsked, IsNotAsked, IsReadAs, Responds, StopsAt}
 use Rattle.opa_reply.proofs.Same.{same_held}
 
 -- ---- single commands
@@ -70,3 +74,16 @@ module _ (Says : Held → List ℕ → Command → Type 0) (SaysNothing : Held �
   pub read_as : (x : Held) (line : List ℕ) (read : Result Command CmdFault) → IfOk read (Says x line) → IfErr read (SaysNothing x line) → IsReadAs Says SaysNothing x line read
   read_as x line (Ok c) says nothing = says
   read_as x line (Err f) says nothing = λ some. nothing
+
+-- a line was read as a command of what is declared
+pub asked_as : (x : Held) (m : Lists) (line : List ℕ) (read : Result Command CmdFault) → m ≡ x.rules.model → IfOk read (IsAsked m line) → IfErr read (IsNotAsked m line) → IsReadAs Asks AsksNothing x line read
+asked_as x m line read same says nothing =
+    read_as Asks AsksNothing x line read (subst (λ l. IfOk read (IsAsked l line)) same says) (subst (λ l. IfErr read (IsNotAsked l line)) same nothing)
+
+-- a line was read as a reply to what is asked next
+pub told_as : (x : Held) (m : Lists) (q : Option Question) (line : List ℕ) (read : Result Command CmdFault) → m ≡ x.rules.model → q ≡ next_of x.rules x.case
+    → IfOk read (IsTold m q line) → IfErr read (IsNotTold m q line) → IsReadAs Tells TellsNothing x line read
+told_as x m q line read same next says nothing =
+    read_as Tells TellsNothing x line read
+        (subst (λ o. IfOk read (IsTold x.rules.model o line)) next (subst (λ l. IfOk read (IsTold l q line)) same says))
+        (subst (λ o. IfErr read (IsNotTold x.rules.model o line)) next (subst (λ l. IfErr read (IsNotTold l q line)) same nothing))
