@@ -12,32 +12,30 @@ ghost use Rattle.opa_infer.specs.Sessions.{rules_of, held_of, reached_of, change
 use crate::session::Session;
 use crate::stepping::stepped;
 use crate::telling::readied;
-use opa_case::{Case, ChangeCommand, Refusal, step_fits};
+use opa_case::{Case, ChangeCommand, Refusal, models_are_shapes, step_fits};
 use opa_changes::{changes, dirty_slots};
 use opa_fresh::{Fresh, Lines, determine};
 use opa_io::NoMemory;
 use opa_listen::{Change, Listener, tell};
+use opa_mean::Held;
 use opa_tree::Rulebase;
 use std::alloc::Global;
 
 /// What another case reaches, and what is told of it.
+#[derive(Drop)]
 struct Reached {
     dirty: u64,
     changes: Vec<Change>,
 }
 
 /// What another case with its lines reaches, and what is told of it.
-fn reached_by(
-    alloc: Global,
-    old: Fresh<'_>,
-    new: Fresh<'_>,
-) -> Result<Reached, NoMemory>
-    requires same { old.base.now ≡ new.base.now }
-    ensures dirty { IfOk result (λ r. r.dirty ≡ reached old.base.now old.case.now new.case.now) }
-    ensures changes { IfOk result (λ r. AreChanges old.base.now old.case.now new.case.now r.changes.items) }
+fn reached_by<H: Held, K: Held>(alloc: Global, held: &H, coming: &K) -> Result<Reached, NoMemory>
+    requires same { H.rules held.now ≡ K.rules coming.now }
+    ensures dirty { IfOk result (λ r. r.dirty ≡ reached (K.rules coming.now) (H.held held.now) (K.held coming.now)) }
+    ensures changes { IfOk result (λ r. AreChanges (K.rules coming.now) (H.held held.now) (K.held coming.now) r.changes.items) }
 {
-    let dirty = dirty_slots(alloc, &old, &new)?;
-    let changes = changes(alloc, &old, &new)?;
+    let dirty = dirty_slots(alloc, held, coming)?;
+    let changes = changes(alloc, held, coming)?;
     Ok(Reached { dirty, changes })
 }
 
@@ -72,6 +70,7 @@ impl Session {
         ensures base { rules_of self.new ≡ rules_of self.old }
     {
         let _count = self.base.model.attribute_count();
+        models_are_shapes();
         step_fits();
         let next = stepped(alloc, &self.base, &self.case, command)?;
         let count = self.replace_case(alloc, next, listeners)?;
@@ -100,7 +99,7 @@ impl Session {
         let lines = determine(alloc, &self.base, &self.code, &case)?;
         let held = Fresh::new(&self.base, &self.case, &self.lines);
         let coming = Fresh::new(&self.base, &case, &lines);
-        let reached = reached_by(alloc, held, coming)?;
+        let reached = reached_by(alloc, &held, &coming)?;
         let count = count_of(reached.changes.as_slice())?;
         let lists = readied(alloc, listeners, reached.changes.as_slice())?;
         self.put(case, lines, reached.dirty);

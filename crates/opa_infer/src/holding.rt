@@ -57,6 +57,13 @@ impl Session {
         self.dirty
     }
 
+    /// Whether the instance is live and of the attribute's entity.
+    pub fn has_place(&self, attr: AttrId, inst: &InstanceId) -> bool
+        ensures { result ≡ slots.has_place (rules_of self.now) (held_of self.now) attr inst.now }
+    {
+        has_place(&self.base, &self.case, attr, inst)
+    }
+
     /// Whether the attribute or relation of a command is declared.
     pub fn declares(&self, command: &ChangeCommand) -> bool
         ensures { (result ≡ true) ↔ IsDeclared (shape_of (rules_of self.now).model) command.now }
@@ -75,6 +82,7 @@ impl Session {
         ensures line { IfSome result (λ line. StandsFor DAYS (value_at (rules_of self.now) (held_of self.now) attr inst.now) line.now) }
         ensures none { is_some result ≡ slots.has_place (rules_of self.now) (held_of self.now) attr inst.now }
     {
+        let _case = self.case();
         match self.line(attr, inst) {
             Some(line) => Some(line),
             None => {

@@ -1,5 +1,5 @@
 mod Changing
-mod Dismissing
+mod Leaving
 mod LoadLaws
 mod ReadLaws
 mod ReplyLaws

@@ -8,7 +8,7 @@ use opa_listen::{Listener, dismiss};
 use std::alloc::Global;
 
 /// A listener says its last words and goes; where no listener has the number, that is refused.
-#[tactic(auto, using(crate::proofs::Dismissing::dismissing))]
+#[tactic(auto, using(crate::proofs::Leaving::dismissing))]
 pub(crate) fn dismissed(
     alloc: Global,
     listeners: &mut Vec<Box<dyn Listener>>,

@@ -18,10 +18,11 @@ use opa_io::{NoMemory, Shelf};
 use opa_listen::Listener;
 use opa_mean::Held;
 use opa_model::Model;
+use opa_goals::next_is_declared;
 use opa_need::next;
 use opa_script::{CmdFault, Command, read_reply, replies_are_in_range};
 use opa_talk::{Halt, Prompt, Replier};
-use opa_told::{next_is_declared, prompt_told};
+use opa_told::prompt_told;
 use opa_tree::Rulebase;
 use std::alloc::Global;
 

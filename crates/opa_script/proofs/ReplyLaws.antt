@@ -29,7 +29,7 @@ says_one (question.Attr a i) ps x y hx hy (l, h, e) (k, g, f) =
 says_one (question.Members r i) ps x y hx hy (ns, h, e) (ms, g, f) = e ∙ ap (λ z. change.SetList r i z) (names_one ns ms ps h g) ∙ sym f
 
 are_one : (q : Question) (ps : List Piece) (c d : Command) → IsWellFormed c → IsWellFormed d → AreReply q ps c → AreReply q ps d → c ≡ d
-are_one q ps c d wc wd (short, x, h, e) (brief, y, k, f) =
+are_one q ps c d wc wd (short, (x, h, e)) (brief, (y, k, f)) =
     e ∙ ap (λ z. command.Change z) (says_one q ps x y (subst IsWellFormed e wc) (subst IsWellFormed f wd) h k) ∙ sym f
 
 plain_one : (q : Question) (bytes : List ℕ) (c d : Command) → IsWellFormed c → IsWellFormed d → IsPlainReply q bytes c → IsPlainReply q bytes d → c ≡ d
@@ -81,7 +81,7 @@ says_in_range m (question.Members r i) ps x c asked (ns, h, e) f = same_range m 
 
 plain_in_range : (m : Lists) (q : Question) (bytes : List ℕ) (c : Command) → HasAsked m q → IsPlainReply q bytes c → IsInRange m c
 plain_in_range m q bytes c asked (inl h) = same_range m c command.Nothing h.1 tt
-plain_in_range m q bytes c asked (inr (busy, ps, tokens, short, x, says, e)) = says_in_range m q ps x c asked says e
+plain_in_range m q bytes c asked (inr (busy, (ps, tokens, (short, (x, says, e))))) = says_in_range m q ps x c asked says e
 
 range_by : (m : Lists) (q : Question) (bytes : List ℕ) (c : Command) → HasAsked m q → (o : Option (List ℕ))
     → MatchOption o (IsPlainReply q bytes c) (λ rest. IsCommand m rest c × IsNotLong bytes rest) → IsInRange m c

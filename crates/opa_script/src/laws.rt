@@ -17,19 +17,16 @@ pub fn commands_are_in_range()
     ensures { CommandsAreInRange }
 {}
 /// A line is at most one reply to a question.
-#[tactic(auto, using(crate::proofs::ReplyLaws::one_reply_holds))]
 pub fn one_reply()
     ensures { OneReply }
 {}
 
 /// A line that is a reply has no fault.
-#[tactic(auto, using(crate::proofs::ReplyLaws::refused_or_replied_holds))]
 pub fn refused_or_replied()
     ensures { RefusedOrReplied }
 {}
 
 /// What a reply to a declared question names is declared.
-#[tactic(auto, using(crate::proofs::ReplyLaws::reply_in_range))]
 pub fn replies_are_in_range()
     ensures { RepliesAreInRange }
 {}

@@ -1,6 +1,8 @@
 // Plays a story: the public call over a shelf, a source and a sink in memory.
 use crate::story::{Fault, Story, StoryFile};
-use opa_io::{MemShelf, MemSink, MemSource};
+use opa_io::{List, MemShelf, MemSink, MemSource, NoMemory};
+use opa_listen::{Journal, Listener, Watch};
+use opa_model::AttrId;
 use opa_top::run;
 use std::alloc::Global;
 
@@ -41,6 +43,16 @@ fn other_file(alloc: Global, story: &Story, shelf: &MemShelf) -> Result<Option<D
     Ok(None)
 }
 
+/// A journal of all changes, and a watch on one attribute.
+fn listeners(alloc: Global, watched: u32) -> Result<Vec<Box<dyn Listener>>, NoMemory> {
+    let mut attrs = List::new(alloc);
+    attrs.push(AttrId(watched))?;
+    let mut listeners: Vec<Box<dyn Listener>> = Vec::new(alloc);
+    listeners.push(Box::new(alloc, Journal::new(alloc))?)?;
+    listeners.push(Box::new(alloc, Watch::new(alloc, attrs))?)?;
+    Ok(listeners)
+}
+
 /// Runs what the story asks for. Answers what differs, where something does.
 pub fn play(alloc: Global, story: &Story) -> Result<Option<Difference>, Fault> {
     let failing = &story.failing;
@@ -52,7 +64,16 @@ pub fn play(alloc: Global, story: &Story) -> Result<Option<Difference>, Fault> {
     let mut source = MemSource::new(input, reads, story.read.max(1));
     let writes = failing.writes.as_slice().to_vec(alloc)?;
     let mut sink = MemSink::new(alloc, writes, story.written.max(1));
-    let status = run(alloc, &story.words, &mut shelf, &mut source, &mut sink).number();
+    let mut listeners = listeners(alloc, story.watched)?;
+    let status = run(
+        alloc,
+        &story.words,
+        &mut shelf,
+        &mut source,
+        &mut sink,
+        &mut listeners,
+    )
+    .number();
     if u64::from(status) != story.status {
         return Ok(Some(Difference::Status(status)));
     }

@@ -1,4 +1,5 @@
 // What a story says.
+use opa_io::NoMemory;
 use std::alloc::{AllocError, AllocFailed, Global};
 
 /// A file of a story.
@@ -27,6 +28,8 @@ pub struct Story {
     pub after: Vec<StoryFile>,
     pub gone: Vec<String>,
     pub status: u64,
+    /// The number of the attribute that the second listener watches.
+    pub watched: u32,
     /// The most bytes that a read or a write moves.
     pub read: usize,
     pub written: usize,
@@ -44,6 +47,7 @@ impl Story {
             after: Vec::new(alloc),
             gone: Vec::new(alloc),
             status: 0,
+            watched: 0,
             read: 4_096,
             written: 4_096,
             failing: Failing {
@@ -64,6 +68,12 @@ pub enum Fault {
     /// This line of it, from 1, has no meaning; 0 where it doesn't say what is printed.
     Line(u64),
     NoMemory,
+}
+
+impl From<NoMemory> for Fault {
+    fn from(_error: NoMemory) -> Fault {
+        Fault::NoMemory
+    }
 }
 
 impl From<AllocError> for Fault {

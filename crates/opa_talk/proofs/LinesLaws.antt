@@ -3,10 +3,10 @@ use Rattle.std.proofs.Common.{◌+◌, ◌<◌, ◌≤◌, slice_index_or, subst
 use Rattle.std.specs.Prelude.{if◌then◌else◌, ◌==◌}
 use Rattle.std.specs.Str.{bytes_eq}
 use Rattle.std.specs.List.{onto_first}
-use Rattle.std.proofs.lemmas.List.Elements.{All-drop, All-push, All-head, All-tail}
+use Rattle.std.proofs.lemmas.List.Elements.{All-cons, All-drop, All-push, All-head, All-tail}
 use Rattle.std.proofs.lemmas.Bool.Decides.{eqb_tells}
 use Rattle.std.proofs.lemmas.List.{take_more, take_all}
-use Rattle.opa_talk.specs.Lines.{lines, without_mark, line_at, lines_from, IsPart, EndsLine}
+use Rattle.opa_talk.specs.Lines.{lines, without_mark, line_at, lines_from, IsPart, EndsLine, IsWhole}
 use Rattle.opa_talk.specs.Points.{is_empty}
 
 -- a list of lines has a first
@@ -161,3 +161,20 @@ part_all bytes i over part = let P : List ℕ → Type 0 = IsPart in subst P (ta
 -- no bytes have no line feed
 pub part_none : IsPart []
 part_none = λ k d h. absurd (omega arith)
+
+whole_cons : (b : ℕ) (bytes whole : List ℕ) → IsWhole whole bytes → (more : List ℕ) × IsWhole more (b ∷ bytes)
+whole_cons b bytes whole is = elim is.ends [
+  | inr feed ↦ (b ∷ whole, record { rest = is.rest; cut = ap (λ s. b ∷ s) is.cut; ends = inr (b ∷ feed.0, ap (λ s. b ∷ s) feed.1); part = is.part })
+  | inl none ↦
+      let P : List ℕ → Type 0 = IsPart in
+      let part : IsPart bytes = subst P (ap (λ s. s ++ is.rest) (sym none) ∙ is.cut) is.part in
+      elim (eqb_tells b 10) [
+        | inl same ↦ (b ∷ [], record { rest = bytes; cut = refl; ends = inr ([], ap (λ x. x ∷ []) same.1); part = part })
+        | inr other ↦ ([], record { rest = b ∷ bytes; cut = refl; ends = inl refl; part = All-cons (λ x. (x == 10) ≡ false) b bytes other.0 part })
+      ]
+]
+
+-- the bytes up to the last line feed
+pub whole_of : (bytes : List ℕ) → (whole : List ℕ) × IsWhole whole bytes
+whole_of [] = ([], record { rest = []; cut = refl; ends = inl refl; part = part_none })
+whole_of (b ∷ bytes) = let w = whole_of bytes in whole_cons b bytes w.0 w.1

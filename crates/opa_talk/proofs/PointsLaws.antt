@@ -9,8 +9,8 @@ use Rattle.opa_io.proofs.Appended.{Appends-append, Appends-none}
 use Rattle.opa_talk.specs.Lines.{lines, line_at, lines_from, IsPart, EndsLine}
 use Rattle.opa_talk.specs.Transcript.{Rule, IsGoing, Prints}
 use Rattle.opa_talk.specs.Talk.{LeftBy, LeftAt}
-use Rattle.opa_talk.specs.Points.{Point, is_empty, CarriesOut, GoesOn, Breaks, CarriesLine, StopsAt, Finishes}
-use Rattle.opa_talk.proofs.LinesLaws.{lines_last, line_at_part, lines_from_line, lines_from-append, lines_from-cut, fresh_feed, fresh-append, EndsLine-append, part_none}
+use Rattle.opa_talk.specs.Points.{Point, is_empty, CarriesOut, GoesOn, Breaks, BreaksWithin, CarriesLine, StopsAt, Finishes}
+use Rattle.opa_talk.proofs.LinesLaws.{lines_last, line_at_part, lines_from_line, lines_from-append, fresh_feed, fresh-append, EndsLine-append, part_none}
 use Rattle.opa_talk.proofs.TranscriptLaws.{prints-append, prints_one}
 
 -- a front, and a front of what comes after appended bytes
@@ -127,48 +127,70 @@ module _ {X : Type 0} (rule : Rule X) where
 
   module _ (Stops : X → List ℕ → X → Type 0) where
     -- the talk halts before any line
-    pub breaks_none : (at : Point X) (bytes : List ℕ) (w : Option (List ℕ)) → Breaks rule Stops at at.state bytes w w
-    breaks_none at bytes w = record { done = []; more = lines_from at.fresh (at.pending ++ bytes); cut = refl; text = []; held = at.state; said = (refl, refl); left = inl refl; wrote = front_none w [] }
-
-    pub breaks_is : (at : Point X) (x' : X) (xs ys : List ℕ) (before now : Option (List ℕ)) → xs ≡ ys → Breaks rule Stops at x' xs before now → Breaks rule Stops at x' ys before now
-    breaks_is at x' xs ys before now e b = let P : List ℕ → Type 0 = λ s. Breaks rule Stops at x' s before now in subst P e b
-
-    left_more : (x x' : X) (more rest : List (List ℕ)) → LeftAt Stops x more x' → LeftAt Stops x (more ++ rest) x'
-    left_more x x' more rest left = elim left [ inl e ↦ inl e | inr s ↦ inr (s.0, s.1 ++ rest, ap (λ m. m ++ rest) s.2, s.3) ]
-
-    left_by : (x x' : X) (line : List ℕ) → LeftBy Stops x line x' → LeftAt Stops x (line ∷ []) x'
-    left_by x x' line left = elim left [ inl e ↦ inl e | inr s ↦ inr (line, [], refl, s) ]
-
-    -- the talk halts at a line, and more bytes follow it
-    pub breaks_more : (at : Point X) (x' : X) (bytes rest : List ℕ) (before now : Option (List ℕ)) → Breaks rule Stops at x' (bytes ++ 10 ∷ []) before now → Breaks rule Stops at x' ((bytes ++ 10 ∷ []) ++ rest) before now
-    breaks_more at x' bytes rest before now b = record {
-      done = b.done;
-      more = b.more ++ lines_rest;
-      cut = sym (append_assoc b.done b.more lines_rest) ∙ ap (λ s. s ++ lines_rest) (b.cut ∙ ap (lines_from at.fresh) (sym (append_assoc at.pending bytes (10 ∷ []))))
-          ∙ sym (lines_from-cut at.fresh (at.pending ++ bytes) rest)
-          ∙ ap (lines_from at.fresh) (append_assoc at.pending bytes (10 ∷ rest) ∙ ap (λ s. at.pending ++ s) (sym (append_assoc bytes (10 ∷ []) rest)));
-      text = b.text;
-      held = b.held;
-      said = b.said;
-      left = left_more b.held x' b.more lines_rest b.left;
-      wrote = b.wrote;
+    pub breaks_none : (at : Point X) (bytes : List ℕ) (w : Option (List ℕ)) → BreaksWithin rule Stops at at.state bytes w w
+    breaks_none at bytes w = record {
+      whole = [];
+      rest = at.pending ++ bytes;
+      cut = refl;
+      ends = inl refl;
+      breaks = record { done = []; more = lines_from at.fresh []; cut = refl; text = []; held = at.state; said = (refl, refl); left = inl refl; wrote = front_none w [] };
     }
-      where
-        lines_rest : List (List ℕ)
-        lines_rest = lines_from false rest
 
-    -- the talk halts after bytes were carried out
-    pub breaks_after : (a b : Point X) (x' : X) (xs ys : List ℕ) (before mid now : Option (List ℕ)) → CarriesOut rule a b xs before mid → Breaks rule Stops b x' ys mid now → Breaks rule Stops a x' (xs ++ ys) before now
-    breaks_after a b x' xs ys before mid now f g = record {
+    pub breaks_is : (at : Point X) (x' : X) (xs ys : List ℕ) (before now : Option (List ℕ)) → xs ≡ ys → BreaksWithin rule Stops at x' xs before now → BreaksWithin rule Stops at x' ys before now
+    breaks_is at x' xs ys before now e b = let P : List ℕ → Type 0 = λ s. BreaksWithin rule Stops at x' s before now in subst P e b
+
+    -- more bytes follow
+    pub breaks_more : (at : Point X) (x' : X) (bytes more : List ℕ) (before now : Option (List ℕ)) → BreaksWithin rule Stops at x' bytes before now → BreaksWithin rule Stops at x' (bytes ++ more) before now
+    breaks_more at x' bytes more before now b = record {
+      whole = b.whole;
+      rest = b.rest ++ more;
+      cut = sym (append_assoc b.whole b.rest more) ∙ ap (λ s. s ++ more) b.cut ∙ append_assoc at.pending bytes more;
+      ends = b.ends;
+      breaks = b.breaks;
+    }
+
+    -- the talk halts among the lines of bytes, after others were carried out
+    pub breaks_behind : (a b : Point X) (x' : X) (xs bytes : List ℕ) (before mid now : Option (List ℕ)) (f : CarriesOut rule a b xs before mid) → Breaks rule Stops b x' bytes mid now → Breaks rule Stops a x' (f.whole ++ bytes) before now
+    breaks_behind a b x' xs bytes before mid now f g = record {
       done = lines_from a.fresh f.whole ++ g.done;
       more = g.more;
-      cut = append_assoc (lines_from a.fresh f.whole) g.done g.more ∙ ap (λ s. lines_from a.fresh f.whole ++ s) g.cut ∙ sym (lines_two a b xs ys f.whole f.cut f.ends f.fresh);
+      cut = append_assoc (lines_from a.fresh f.whole) g.done g.more ∙ ap (λ s. lines_from a.fresh f.whole ++ s) g.cut
+          ∙ ap (λ t. lines_from a.fresh f.whole ++ lines_from t bytes) f.fresh ∙ sym (lines_from-append a.fresh f.whole bytes f.ends);
       text = f.text ++ g.text;
       held = g.held;
       said = prints-append rule a.state b.state g.held (lines_from a.fresh f.whole) g.done f.text g.text f.said g.said;
       left = g.left;
       wrote = front_after before mid now f.text g.text f.wrote g.wrote;
     }
+
+    pub breaks_after : (a b : Point X) (x' : X) (xs ys : List ℕ) (before mid now : Option (List ℕ)) → CarriesOut rule a b xs before mid → BreaksWithin rule Stops b x' ys mid now → BreaksWithin rule Stops a x' (xs ++ ys) before now
+    breaks_after a b x' xs ys before mid now f g = record {
+      whole = f.whole ++ g.whole;
+      rest = g.rest;
+      cut = append_assoc f.whole g.whole g.rest ∙ ap (λ s. f.whole ++ s) g.cut ∙ sym (append_assoc f.whole b.pending ys) ∙ ap (λ s. s ++ ys) f.cut ∙ append_assoc a.pending xs ys;
+      ends = EndsLine-append f.whole g.whole f.ends g.ends;
+      breaks = breaks_behind a b x' xs g.whole before mid now f g.breaks;
+    }
+
+    left_by : (x x' : X) (line : List ℕ) → LeftBy Stops x line x' → LeftAt Stops x (line ∷ []) x'
+    left_by x x' line left = elim left [ inl e ↦ inl e | inr s ↦ inr (line, [], refl, s) ]
+
+    -- the talk halts at the one line of bytes
+    pub breaks_one : (at : Point X) (x' : X) (bytes line : List ℕ) (before now : Option (List ℕ)) → IsGoing rule at.state → line ∷ [] ≡ lines_from at.fresh bytes → StopsAt rule Stops at.state x' line before now
+        → Breaks rule Stops at x' bytes before now
+    breaks_one at x' bytes line before now going one stop = elim stop [
+      | inl s ↦ record { done = []; more = line ∷ []; cut = one; text = []; held = at.state; said = (refl, refl); left = left_by at.state x' line s.0; wrote = front_all before now [] s.1 }
+      | inr s ↦ record {
+        done = line ∷ [];
+        more = [];
+        cut = one;
+        text = s.0 ++ rule.prompt x';
+        held = x';
+        said = prints_one rule at.state x' line s.0 going s.1;
+        left = inl refl;
+        wrote = s.2;
+      }
+    ]
 
     -- writing what a line prints halts
     pub stops_text : (x x' : X) (line text said : List ℕ) (before now : Option (List ℕ)) → rule.Replies x line text x' → said ≡ text → AppendsFront before now said → StopsAt rule Stops x x' line before now
@@ -183,23 +205,17 @@ module _ {X : Type 0} (rule : Rule X) where
 
     -- the talk halts at a line
     pub breaks_line : (at : Point X) (x' : X) (bytes line : List ℕ) (before now : Option (List ℕ)) → IsPart (at.pending ++ bytes) → IsGoing rule at.state
-        → line ≡ line_at at.fresh ((at.pending ++ bytes) ++ 10 ∷ []) → StopsAt rule Stops at.state x' line before now → Breaks rule Stops at x' (bytes ++ 10 ∷ []) before now
+        → line ≡ line_at at.fresh ((at.pending ++ bytes) ++ 10 ∷ []) → StopsAt rule Stops at.state x' line before now → BreaksWithin rule Stops at x' (bytes ++ 10 ∷ []) before now
     breaks_line at x' bytes line before now part going is stop =
-        let one : line ∷ [] ≡ lines_from at.fresh (at.pending ++ (bytes ++ 10 ∷ [])) =
-        ap (λ l. l ∷ []) is ∙ sym (lines_from_line at.fresh (at.pending ++ bytes) part) ∙ ap (lines_from at.fresh) (append_assoc at.pending bytes (10 ∷ [])) in
-        elim stop [
-          | inl s ↦ record { done = []; more = line ∷ []; cut = one; text = []; held = at.state; said = (refl, refl); left = left_by at.state x' line s.0; wrote = front_all before now [] s.1 }
-          | inr s ↦ record {
-            done = line ∷ [];
-            more = [];
-            cut = one;
-            text = s.0 ++ rule.prompt x';
-            held = x';
-            said = prints_one rule at.state x' line s.0 going s.1;
-            left = inl refl;
-            wrote = s.2;
-          }
-        ]
+        let whole : List ℕ = (at.pending ++ bytes) ++ 10 ∷ [] in
+        let one : line ∷ [] ≡ lines_from at.fresh whole = ap (λ l. l ∷ []) is ∙ sym (lines_from_line at.fresh (at.pending ++ bytes) part) in
+        record {
+          whole = whole;
+          rest = [];
+          cut = append-nil whole ∙ append_assoc at.pending bytes (10 ∷ []);
+          ends = inr (at.pending ++ bytes, refl);
+          breaks = breaks_one at x' whole line before now going one stop;
+        }
 
   module _ (at : Point X) (x' : X) (line : List ℕ) (before now : Option (List ℕ)) (part : IsPart at.pending) (going : IsGoing rule at.state)
       (is : line ≡ line_at at.fresh at.pending) (full : (length line == 0) ≡ false) where
@@ -217,22 +233,8 @@ module _ {X : Type 0} (rule : Rule X) where
     }
 
     -- the talk halts at the last line
-    pub breaks_last : (Stops : X → List ℕ → X → Type 0) → StopsAt rule Stops at.state x' line before now → Breaks rule Stops at x' [] before now
-    breaks_last Stops stop =
-        let one : line ∷ [] ≡ lines_from at.fresh (at.pending ++ []) = sym last_one ∙ ap (lines_from at.fresh) (sym (append-nil at.pending)) in
-        elim stop [
-          | inl s ↦ record { done = []; more = line ∷ []; cut = one; text = []; held = at.state; said = (refl, refl); left = left_by Stops at.state x' line s.0; wrote = front_all before now [] s.1 }
-          | inr s ↦ record {
-            done = line ∷ [];
-            more = [];
-            cut = one;
-            text = s.0 ++ rule.prompt x';
-            held = x';
-            said = prints_one rule at.state x' line s.0 going s.1;
-            left = inl refl;
-            wrote = s.2;
-          }
-        ]
+    pub breaks_last : (Stops : X → List ℕ → X → Type 0) → StopsAt rule Stops at.state x' line before now → Breaks rule Stops at x' at.pending before now
+    breaks_last Stops stop = breaks_one Stops at x' at.pending line before now going (sym last_one) stop
 
 -- a line and what follows it make the rest of a piece
 pub joined : (front bytes after rest piece : List ℕ) → front ++ rest ≡ piece → rest ≡ bytes ++ 10 ∷ after → (front ++ (bytes ++ 10 ∷ [])) ++ after ≡ piece

@@ -38,16 +38,24 @@ pub record CarriesOut {X : Type 0} (rule : Rule X) (old new : Point X) (bytes : 
   pub said : Prints rule old.state (lines_from old.fresh whole) text new.state
   pub wrote : Appends before now text
 
--- The talk halts among the lines of the bytes.
+-- The talk halts among the lines of these bytes, the pending ones among them.
 pub record Breaks {X : Type 0} (rule : Rule X) (Stops : X → List ℕ → X → Type 0) (old : Point X) (x' : X) (bytes : List ℕ) (before now : Option (List ℕ)) : Type 0 where
   pub done : List (List ℕ)
   pub more : List (List ℕ)
-  pub cut : done ++ more ≡ lines_from old.fresh (old.pending ++ bytes)
+  pub cut : done ++ more ≡ lines_from old.fresh bytes
   pub text : List ℕ
   pub held : X
   pub said : Prints rule old.state done text held
   pub left : LeftAt Stops held more x'
   pub wrote : AppendsFront before now text
+
+-- The talk halts among those lines whose line feed is among the bytes.
+pub record BreaksWithin {X : Type 0} (rule : Rule X) (Stops : X → List ℕ → X → Type 0) (old : Point X) (x' : X) (bytes : List ℕ) (before now : Option (List ℕ)) : Type 0 where
+  pub whole : List ℕ
+  pub rest : List ℕ
+  pub cut : whole ++ rest ≡ old.pending ++ bytes
+  pub ends : EndsLine whole
+  pub breaks : Breaks rule Stops old x' whole before now
 
 -- the prompt was written
 pub record Asks {X : Type 0} (rule : Rule X) (x : X) (over : Bool) (before now : Option (List ℕ)) : Type 0 where
@@ -97,10 +105,10 @@ TakesLines rule old new most left left' before now ending.Over = (read : List �
 -- where reading pieces halts
 abbrev pub BreaksAt : {X : Type 0} → Rule X → (X → List ℕ → X → Type 0) → Point X → Point X → List ℕ → Option (List ℕ) → Option (List ℕ) → Halt → Type 0
 BreaksAt rule Stops old new read before now halt.Input = GoesOn rule old new read before now
-BreaksAt rule Stops old new read before now halt.Output = Breaks rule Stops old new.state read before now
-BreaksAt rule Stops old new read before now halt.Take = Breaks rule Stops old new.state read before now
-BreaksAt rule Stops old new read before now halt.Keep = Breaks rule Stops old new.state read before now
-BreaksAt rule Stops old new read before now halt.Memory = Breaks rule Stops old new.state read before now
+BreaksAt rule Stops old new read before now halt.Output = BreaksWithin rule Stops old new.state read before now
+BreaksAt rule Stops old new read before now halt.Take = BreaksWithin rule Stops old new.state read before now
+BreaksAt rule Stops old new read before now halt.Keep = BreaksWithin rule Stops old new.state read before now
+BreaksAt rule Stops old new read before now halt.Memory = BreaksWithin rule Stops old new.state read before now
 BreaksAt rule Stops old new read before now halt.Limit = ⊥
 
 abbrev pub BreaksPart : {X : Type 0} → Rule X → (X → List ℕ → X → Type 0) → Point X → Point X → ℕ → Option (List ℕ) → Option (List ℕ) → Option (List ℕ) → Option (List ℕ) → Halt → Type 0
@@ -131,14 +139,18 @@ pub record Feeds {X : Type 0} (rule : Rule X) (at : Point X) (x' : X) (most : �
   pub wrote : Appends before now text
   pub ended : IsAtEnd left' ⊎ (IsOver rule x' × ((more : List ℕ) → Prints rule at.state (lines_from at.fresh (at.pending ++ (read ++ more))) text x'))
 
+-- the talk halts among the lines whose line feed was read, or among all at the end of the input
+abbrev pub BreaksAmong : {X : Type 0} → Rule X → (X → List ℕ → X → Type 0) → Point X → X → List ℕ → Option (List ℕ) → Option (List ℕ) → Option (List ℕ) → Type 0
+BreaksAmong rule Stops old x' read left before now = BreaksWithin rule Stops old x' read before now ⊎ (IsAtEnd left × Breaks rule Stops old x' (old.pending ++ read) before now)
+
 -- where the talk halts from a point on
-abbrev pub FeedBreaksAt : {X : Type 0} → Rule X → (X → List ℕ → X → Type 0) → Point X → Point X → ℕ → List ℕ → Option (List ℕ) → Option (List ℕ) → Halt → Type 0
-FeedBreaksAt rule Stops old new most read before now halt.Input = (length read ≤ most) × GoesOn rule old new read before now
-FeedBreaksAt rule Stops old new most read before now halt.Output = (length read ≤ most) × Breaks rule Stops old new.state read before now
-FeedBreaksAt rule Stops old new most read before now halt.Take = (length read ≤ most) × Breaks rule Stops old new.state read before now
-FeedBreaksAt rule Stops old new most read before now halt.Keep = (length read ≤ most) × Breaks rule Stops old new.state read before now
-FeedBreaksAt rule Stops old new most read before now halt.Memory = (length read ≤ most) × Breaks rule Stops old new.state read before now
-FeedBreaksAt rule Stops old new most read before now halt.Limit = (length read ≡ most + 1) × GoesOn rule old new (take most read) before now
+abbrev pub FeedBreaksAt : {X : Type 0} → Rule X → (X → List ℕ → X → Type 0) → Point X → Point X → ℕ → List ℕ → Option (List ℕ) → Option (List ℕ) → Option (List ℕ) → Halt → Type 0
+FeedBreaksAt rule Stops old new most read left before now halt.Input = (length read ≤ most) × GoesOn rule old new read before now
+FeedBreaksAt rule Stops old new most read left before now halt.Output = (length read ≤ most) × BreaksAmong rule Stops old new.state read left before now
+FeedBreaksAt rule Stops old new most read left before now halt.Take = (length read ≤ most) × BreaksAmong rule Stops old new.state read left before now
+FeedBreaksAt rule Stops old new most read left before now halt.Keep = (length read ≤ most) × BreaksAmong rule Stops old new.state read left before now
+FeedBreaksAt rule Stops old new most read left before now halt.Memory = (length read ≤ most) × BreaksAmong rule Stops old new.state read left before now
+FeedBreaksAt rule Stops old new most read left before now halt.Limit = (length read ≡ most + 1) × GoesOn rule old new (take most read) before now
 
 abbrev pub FeedBreaks : {X : Type 0} → Rule X → (X → List ℕ → X → Type 0) → Point X → Point X → ℕ → Option (List ℕ) → Option (List ℕ) → Option (List ℕ) → Option (List ℕ) → Halt → Type 0
-FeedBreaks rule Stops old new most left left' before now halt = (read : List ℕ) × Consumes left left' read × FeedBreaksAt rule Stops old new most read before now halt
+FeedBreaks rule Stops old new most left left' before now halt = (read : List ℕ) × Consumes left left' read × FeedBreaksAt rule Stops old new most read left' before now halt

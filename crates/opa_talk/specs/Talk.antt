@@ -25,6 +25,11 @@ LeftBy Stops x line x' = (x' ≡ x) ⊎ Stops x line x'
 abbrev pub LeftAt : {X : Type 0} → (X → List ℕ → X → Type 0) → X → List (List ℕ) → X → Type 0
 LeftAt Stops x more x' = (x' ≡ x) ⊎ ((line : List ℕ) × (rest : List (List ℕ)) × (more ≡ line ∷ rest) × Stops x line x')
 
+-- Of the bytes that were read the lines of these are carried out: of those up to the last line feed, and of all at the end of
+-- the input.
+abbrev pub IsTaken : List ℕ → List ℕ → Option (List ℕ) → Type 0
+IsTaken taken read left = IsWhole taken read ⊎ (IsAtEnd left × (taken ≡ read))
+
 -- Some of the lines were carried out, what is held is what they leave, and a front of their transcript was written.
 pub record Halted {X : Type 0} (rule : Rule X) (Stops : X → List ℕ → X → Type 0) (x x' : X) (lines : List (List ℕ)) (before now : Option (List ℕ)) : Type 0 where
   pub done : List (List ℕ)
@@ -59,16 +64,20 @@ pub record Converses {X : Type 0} (rule : Rule X) (x x' : X) (most : ℕ) (left 
   pub wrote : Appends before now text
   pub ended : IsEnded rule x x' read text left'
 
+-- the talk halts among the lines that are carried out of what was read
+abbrev pub HaltedAmong : {X : Type 0} → Rule X → (X → List ℕ → X → Type 0) → X → X → List ℕ → Option (List ℕ) → Option (List ℕ) → Option (List ℕ) → Type 0
+HaltedAmong rule Stops x x' read left before now = (taken : List ℕ) × IsTaken taken read left × Halted rule Stops x x' (input_lines taken) before now
+
 -- What was read, written and left where a talk halts: a source that fails, and an input that is too long, leave the lines
 -- carried out whose line feed was read, of a too long input among the most bytes that are read.
-abbrev pub HaltsAt : {X : Type 0} → Rule X → (X → List ℕ → X → Type 0) → X → X → ℕ → List ℕ → Option (List ℕ) → Option (List ℕ) → Halt → Type 0
-HaltsAt rule Stops x x' most read before now halt.Input = (length read ≤ most) × Paused rule x x' read before now
-HaltsAt rule Stops x x' most read before now halt.Output = (length read ≤ most) × Halted rule Stops x x' (input_lines read) before now
-HaltsAt rule Stops x x' most read before now halt.Take = (length read ≤ most) × Halted rule Stops x x' (input_lines read) before now
-HaltsAt rule Stops x x' most read before now halt.Keep = (length read ≤ most) × Halted rule Stops x x' (input_lines read) before now
-HaltsAt rule Stops x x' most read before now halt.Memory = (length read ≤ most) × Halted rule Stops x x' (input_lines read) before now
-HaltsAt rule Stops x x' most read before now halt.Limit = (length read ≡ most + 1) × Paused rule x x' (take most read) before now
+abbrev pub HaltsAt : {X : Type 0} → Rule X → (X → List ℕ → X → Type 0) → X → X → ℕ → List ℕ → Option (List ℕ) → Option (List ℕ) → Option (List ℕ) → Halt → Type 0
+HaltsAt rule Stops x x' most read left before now halt.Input = (length read ≤ most) × Paused rule x x' read before now
+HaltsAt rule Stops x x' most read left before now halt.Output = (length read ≤ most) × HaltedAmong rule Stops x x' read left before now
+HaltsAt rule Stops x x' most read left before now halt.Take = (length read ≤ most) × HaltedAmong rule Stops x x' read left before now
+HaltsAt rule Stops x x' most read left before now halt.Keep = (length read ≤ most) × HaltedAmong rule Stops x x' read left before now
+HaltsAt rule Stops x x' most read left before now halt.Memory = (length read ≤ most) × HaltedAmong rule Stops x x' read left before now
+HaltsAt rule Stops x x' most read left before now halt.Limit = (length read ≡ most + 1) × Paused rule x x' (take most read) before now
 
 -- some of the input was read, and the talk halts there
 abbrev pub Halts : {X : Type 0} → Rule X → (X → List ℕ → X → Type 0) → X → X → ℕ → Option (List ℕ) → Option (List ℕ) → Option (List ℕ) → Option (List ℕ) → Halt → Type 0
-Halts rule Stops x x' most left left' before now halt = (read : List ℕ) × Consumes left left' read × HaltsAt rule Stops x x' most read before now halt
+Halts rule Stops x x' most left left' before now halt = (read : List ℕ) × Consumes left left' read × HaltsAt rule Stops x x' most read left' before now halt

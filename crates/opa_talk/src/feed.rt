@@ -183,7 +183,8 @@ fn go_on<T: Replier, F: Shelf, S: Source, K: Sink>(
     }
 }
 
-/// Reads the input to where the talk ends, and writes its transcript.
+/// Reads the input to where the talk ends, and writes its transcript. `fewer` holds of each vector, and tells callers that
+/// no listener is made.
 pub fn converse<T: Replier, F: Shelf, S: Source, K: Sink>(
     alloc: Global,
     replier: &mut T,

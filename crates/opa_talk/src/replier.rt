@@ -36,7 +36,8 @@ pub trait Replier {
     fn prompt(&self, alloc: Global) -> Result<Prompt, NoMemory>
         ensures { IfOk result (λ prompt. (hearers : List Hearer) (files : Option Files) → IsPrompt rule (held self.now hearers files) prompt.text.items prompt.is_over) };
 
-    /// Carries out a line, which a line feed ends unless it is the last, and answers what it prints.
+    /// Carries out a line, which a line feed ends unless it is the last, and answers what it prints. `fewer` holds of each
+    /// vector, and tells callers that no listener is made.
     fn reply<F: Shelf>(
         &mut self,
         alloc: Global,

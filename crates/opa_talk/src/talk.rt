@@ -6,7 +6,7 @@ ghost use Rattle.opa_talk.specs.Halt.{IsLineCause};
 ghost use Rattle.opa_talk.specs.Lines.{line_at, IsPart};
 ghost use Rattle.opa_talk.specs.Transcript.{IsGoing};
 ghost use Rattle.opa_talk.specs.Talk.{WhereRose};
-ghost use Rattle.opa_talk.specs.Points.{point_of, Asks, CarriesLine, CarriesOut, StopsAt, Breaks, TakesPiece, Finishes};
+ghost use Rattle.opa_talk.specs.Points.{point_of, Asks, CarriesLine, CarriesOut, StopsAt, Breaks, BreaksWithin, TakesPiece, Finishes};
 
 use crate::halt::Halt;
 use crate::line::without_mark;
@@ -107,7 +107,7 @@ fn take_line<T: Replier, F: Shelf, K: Sink>(
     requires part { IsPart (pending.old.bytes.items ++ bytes.now) }
     ensures over { IfOk result (λ over. over ≡ T.rule.is_over (T.held replier.new (map (λ l. hearer (state l)) listeners.new.items) (F.files shelf.new))) }
     ensures ok { OnOk result (CarriesOut T.rule (point_of (T.held replier.old (map (λ l. hearer (state l)) listeners.old.items) (F.files shelf.old)) pending.old) (point_of (T.held replier.new (map (λ l. hearer (state l)) listeners.new.items) (F.files shelf.new)) pending.new) (bytes.now ++ 10 ∷ []) (K.written out.old) (K.written out.new)) }
-    ensures err { OnErr result (Breaks T.rule (WhereRose (F.keep_faults shelf.old) (F.keep_faults shelf.new) T.Stops) (point_of (T.held replier.old (map (λ l. hearer (state l)) listeners.old.items) (F.files shelf.old)) pending.old) (T.held replier.new (map (λ l. hearer (state l)) listeners.new.items) (F.files shelf.new)) (bytes.now ++ 10 ∷ []) (K.written out.old) (K.written out.new)) }
+    ensures err { OnErr result (BreaksWithin T.rule (WhereRose (F.keep_faults shelf.old) (F.keep_faults shelf.new) T.Stops) (point_of (T.held replier.old (map (λ l. hearer (state l)) listeners.old.items) (F.files shelf.old)) pending.old) (T.held replier.new (map (λ l. hearer (state l)) listeners.new.items) (F.files shelf.new)) (bytes.now ++ 10 ∷ []) (K.written out.old) (K.written out.new)) }
     ensures cause { IfErr result (IsLineCause (F.take_faults shelf.old) (F.take_faults shelf.new) (F.keep_faults shelf.old) (F.keep_faults shelf.new) (K.faults out.old) (K.faults out.new)) }
     ensures later { K.faults out.old ≤ K.faults out.new }
     ensures later_take { F.take_faults shelf.old ≤ F.take_faults shelf.new }
@@ -135,7 +135,7 @@ pub fn take_piece<T: Replier, F: Shelf, K: Sink>(
     requires going { IsGoing T.rule (T.held replier.old (map (λ l. hearer (state l)) listeners.old.items) (F.files shelf.old)) }
     requires part { IsPart pending.old.bytes.items }
     ensures ok { IfOk result (TakesPiece T.rule (point_of (T.held replier.old (map (λ l. hearer (state l)) listeners.old.items) (F.files shelf.old)) pending.old) (point_of (T.held replier.new (map (λ l. hearer (state l)) listeners.new.items) (F.files shelf.new)) pending.new) piece.now (K.written out.old) (K.written out.new)) }
-    ensures err { OnErr result (Breaks T.rule (WhereRose (F.keep_faults shelf.old) (F.keep_faults shelf.new) T.Stops) (point_of (T.held replier.old (map (λ l. hearer (state l)) listeners.old.items) (F.files shelf.old)) pending.old) (T.held replier.new (map (λ l. hearer (state l)) listeners.new.items) (F.files shelf.new)) piece.now (K.written out.old) (K.written out.new)) }
+    ensures err { OnErr result (BreaksWithin T.rule (WhereRose (F.keep_faults shelf.old) (F.keep_faults shelf.new) T.Stops) (point_of (T.held replier.old (map (λ l. hearer (state l)) listeners.old.items) (F.files shelf.old)) pending.old) (T.held replier.new (map (λ l. hearer (state l)) listeners.new.items) (F.files shelf.new)) piece.now (K.written out.old) (K.written out.new)) }
     ensures cause { IfErr result (IsLineCause (F.take_faults shelf.old) (F.take_faults shelf.new) (F.keep_faults shelf.old) (F.keep_faults shelf.new) (K.faults out.old) (K.faults out.new)) }
     ensures later { K.faults out.old ≤ K.faults out.new }
     ensures later_take { F.take_faults shelf.old ≤ F.take_faults shelf.new }
@@ -165,7 +165,7 @@ pub fn finish<T: Replier, F: Shelf, K: Sink>(
     requires going { IsGoing T.rule (T.held replier.old (map (λ l. hearer (state l)) listeners.old.items) (F.files shelf.old)) }
     requires part { IsPart pending.now.bytes.items }
     ensures ok { OnOk result (Finishes T.rule (point_of (T.held replier.old (map (λ l. hearer (state l)) listeners.old.items) (F.files shelf.old)) pending.now) (T.held replier.new (map (λ l. hearer (state l)) listeners.new.items) (F.files shelf.new)) (K.written out.old) (K.written out.new)) }
-    ensures err { OnErr result (Breaks T.rule (WhereRose (F.keep_faults shelf.old) (F.keep_faults shelf.new) T.Stops) (point_of (T.held replier.old (map (λ l. hearer (state l)) listeners.old.items) (F.files shelf.old)) pending.now) (T.held replier.new (map (λ l. hearer (state l)) listeners.new.items) (F.files shelf.new)) [] (K.written out.old) (K.written out.new)) }
+    ensures err { OnErr result (Breaks T.rule (WhereRose (F.keep_faults shelf.old) (F.keep_faults shelf.new) T.Stops) (point_of (T.held replier.old (map (λ l. hearer (state l)) listeners.old.items) (F.files shelf.old)) pending.now) (T.held replier.new (map (λ l. hearer (state l)) listeners.new.items) (F.files shelf.new)) pending.now.bytes.items (K.written out.old) (K.written out.new)) }
     ensures cause { IfErr result (IsLineCause (F.take_faults shelf.old) (F.take_faults shelf.new) (F.keep_faults shelf.old) (F.keep_faults shelf.new) (K.faults out.old) (K.faults out.new)) }
     ensures later { K.faults out.old ≤ K.faults out.new }
     ensures later_take { F.take_faults shelf.old ≤ F.take_faults shelf.new }

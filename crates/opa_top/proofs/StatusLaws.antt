@@ -7,9 +7,9 @@ use Rattle.opa_io.proofs.Appended.{Consumes-none}
 use Rattle.opa_io.specs.declared.fault.Status.{Status}
 use Rattle.opa_io.specs.declared.fault.Status.TheVariants as status
 use Rattle.opa_rulebase.specs.Loading.{Opens}
-use Rattle.opa_talk.specs.Lines.{EndsLine, input_lines, lines_from}
-use Rattle.opa_talk.specs.Points.{is_empty}
-use Rattle.opa_talk.proofs.LinesLaws.{lines_from-append}
+use Rattle.opa_talk.specs.Lines.{EndsLine, input_lines}
+use Rattle.opa_talk.specs.Talk.{WhereRose}
+use Rattle.opa_talk.proofs.EndLaws.{among_whole}
 use Rattle.opa_tree.specs.declared.rulebase.Rulebase.{Rulebase}
 use Rattle.opa_top.specs.Checking.{IsOpened, IsTold, verdict_status}
 use Rattle.opa_top.specs.Running.{MOST, Manner, Outside, SaysAll, SaysOver, SaysFront, SaysWhole, Talks, IsUnused, Runs}
@@ -87,23 +87,19 @@ module _ (way : Manner) (name : List ℕ) (old new : Outside) where
   wrote_nothing : IsUnused old new → Appends old.written new.written [] → WroteFront way name old new
   wrote_nothing u none = ([], unread u, nothing_told old.files u none)
 
-  -- the lines of a front of what was read
-  front_lines : (whole rest read : List ℕ) → whole ++ rest ≡ read → EndsLine whole → input_lines read ≡ input_lines whole ++ lines_from (is_empty whole) rest
-  front_lines whole rest read cut ends = ap input_lines (sym cut) ∙ lines_from-append true whole rest ends
-
   whole_front : (base : Rulebase) (whole rest read : List ℕ) → whole ++ rest ≡ read → EndsLine whole → SaysAll way base old new whole → SaysFront way base old new read
   whole_front base whole rest read cut ends s = record {
     held = s.held;
-    halted = record {
+    halted = among_whole way.rule (WhereRose old.keeps new.keeps way.stops) _ _ whole rest read _ _ _ cut ends (record {
       done = input_lines whole;
-      more = lines_from (is_empty whole) rest;
-      cut = sym (front_lines whole rest read cut ends);
+      more = [];
+      cut = append-nil _;
       text = s.text;
       held = s.held;
       said = s.said;
       left = inl refl;
       wrote = front_all old.written new.written s.text s.wrote;
-    };
+    });
     leaves = s.leaves;
   }
 

@@ -8,8 +8,7 @@ use Rattle.opa_model.specs.Models.{IsModel}
 use Rattle.opa_talk.specs.declared.halt.Halt.{Halt}
 use Rattle.opa_talk.specs.declared.halt.Halt.TheVariants as halt
 use Rattle.opa_talk.specs.Halt.{IsCause}
-use Rattle.opa_talk.specs.Lines.{input_lines}
-use Rattle.opa_talk.specs.Talk.{Converses, Halts, Halted, Paused, WhereRose}
+use Rattle.opa_talk.specs.Talk.{Converses, Halts, HaltedAmong, Paused, WhereRose}
 use Rattle.opa_talk.proofs.EndLaws.{halts_memory}
 use Rattle.opa_tree.specs.declared.rulebase.Rulebase.{Rulebase}
 use Rattle.opa_reply.specs.Held.{Held}
@@ -39,7 +38,7 @@ module _ (way : Manner) (base : Rulebase) (old new : Outside) (mid : ℕ) (less 
   whole : (y : Held) (read : List ℕ) → Paused way.rule (beginning base old) y read old.written new.written → Leaves new y → SaysWhole way base old new read
   whole y read p leaves = record { whole = p.whole; is_whole = p.is_whole; says = record { text = p.text; held = y; said = p.said; wrote = p.wrote; leaves = leaves }; going = p.going }
 
-  front : (y : Held) (read : List ℕ) → Halted way.rule (WhereRose old.keeps new.keeps way.stops) (beginning base old) y (input_lines read) old.written new.written → Leaves new y → SaysFront way base old new read
+  front : (y : Held) (read : List ℕ) → HaltedAmong way.rule (WhereRose old.keeps new.keeps way.stops) (beginning base old) y read new.left old.written new.written → Leaves new y → SaysFront way base old new read
   front y read h leaves = record { held = y; halted = h; leaves = leaves }
 
   pub fed : (r : Result (Unit {0}) Halt) → OnOk r (TalksAll way base old new) → IfErr r (TalksPart way base old new)

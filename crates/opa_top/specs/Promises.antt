@@ -10,6 +10,7 @@ use Rattle.opa_usage.specs.declared.reading.Mode.{Mode}
 use Rattle.opa_usage.specs.declared.reading.Mode.TheVariants as mode
 use Rattle.opa_usage.specs.Asked.{asked_of}
 use Rattle.opa_top.specs.Checking.{Checks}
+use Rattle.opa_top.specs.Generating.{IsGenerated}
 use Rattle.opa_top.specs.Running.{Manner, Outside, Runs, IsUnused, a_run, an_interview}
 use Rattle.opa_top.specs.Statuses.{SaysUsage, Wrote, IsOnly, LeftOff, HasCause, Completes}
 
@@ -48,6 +49,8 @@ pub record Promises (words : List (String Global)) (old new : Outside) (result :
   pub read_all : (name : List ℕ) → Asks words mode.Run name → result ≡ status.Done → IsAtEnd new.left
   -- In the mode `interview` each line replies to what is asked, until every goal is known at every day.
   pub interview : (name : List ℕ) → Asks words mode.Interview name → Answers an_interview name old new result
+  -- The mode `generate` has the transcript of a generated rulebase and its input; the files and the input are as they were.
+  pub generated : (number : List ℕ) → Asks words mode.Generate number → IsGenerated number old new result
   -- An input may be cut at any line feed: the replies to the rest go on from what the first part leaves.
   pub parts : CutsAnywhere a_run.rule
   pub parts_asked : CutsAnywhere an_interview.rule

@@ -9,7 +9,7 @@ use Rattle.opa_talk.specs.declared.halt.Halt.{Halt}
 use Rattle.opa_talk.specs.declared.halt.Halt.TheVariants as halt
 use Rattle.opa_talk.specs.Lines.{input_lines, IsWhole}
 use Rattle.opa_talk.specs.Transcript.{Rule, IsGoing, IsOver, IsTranscript}
-use Rattle.opa_talk.specs.Talk.{Halted, Converses, Halts, WhereRose}
+use Rattle.opa_talk.specs.Talk.{HaltedAmong, Converses, Halts, WhereRose}
 use Rattle.opa_model.specs.Models.{IsModel}
 use Rattle.opa_tree.specs.declared.rulebase.Rulebase.{Rulebase}
 use Rattle.opa_reply.specs.Held.{Held, at_first}
@@ -84,11 +84,11 @@ module _ (way : Manner) (base : Rulebase) (old new : Outside) where
     pub wrote : Appends old.written new.written text
     pub leaves : Leaves new held
 
-  -- Some of the bytes' lines were carried out, a front of their transcript was written, and the files and the listeners are those
-  -- that these lines leave; but where keeping a file failed, for the name under which the next line couldn't keep its text.
+  -- Some of the bytes' lines were carried out, whole ones alone, a front of their transcript was written, and the files and the
+  -- listeners are those that these lines leave; but where keeping a file failed, for the name under which the next line couldn't keep its text.
   pub record SaysFront (bytes : List ℕ) : Type 0 where
     pub held : Held
-    pub halted : Halted way.rule (WhereRose old.keeps new.keeps way.stops) (beginning base old) held (input_lines bytes) old.written new.written
+    pub halted : HaltedAmong way.rule (WhereRose old.keeps new.keeps way.stops) (beginning base old) held bytes new.left old.written new.written
     pub leaves : Leaves new held
 
   -- The lines whose line feed is among the bytes were carried out, and a further line would be taken.

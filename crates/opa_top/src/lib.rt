@@ -1,7 +1,9 @@
 //! The top call: from the words of the command line, the files of a shelf and one input to the transcript.
 #![tactic(auto)]
 
+mod asking;
 mod check;
+mod generating;
 mod talk;
 mod top;
 

@@ -1,14 +1,14 @@
-// The modes `run` and `interview`.
+// The mode `run`.
 ghost use Rattle.std.specs.Prelude.{◌≡◌, ◌<◌, ◌^◌, length, map, IfErr, OnOk};
 ghost use Rattle.opa_listen.specs.Hearing.{hearer};
 ghost use Rattle.opa_model.specs.Models.{IsModel};
 ghost use Rattle.opa_talk.specs.Halt.{IsCause};
-ghost use Rattle.opa_top.specs.Running.{outside, Runs, TalksAll, TalksPart, a_run, an_interview, end_of};
+ghost use Rattle.opa_top.specs.Running.{outside, Runs, TalksAll, TalksPart, a_run, end_of};
 
 use crate::check::tell;
 use opa_io::{Shelf, Sink, Source, Status};
 use opa_listen::Listener;
-use opa_reply::{Conversation, Interview};
+use opa_reply::Conversation;
 use opa_rulebase::{LoadError, load_rulebase};
 use opa_talk::{Halt, converse};
 use opa_tree::Rulebase;
@@ -36,37 +36,15 @@ fn talk<S: Source, F: Shelf, K: Sink>(
     converse(alloc, &mut conversation, shelf, listeners, input, out)
 }
 
-/// Asks over a rulebase, and takes the replies of the input.
-fn ask<S: Source, F: Shelf, K: Sink>(
-    alloc: Global,
-    base: Rulebase,
-    shelf: &mut F,
-    listeners: &mut Vec<Box<dyn Listener>>,
-    input: &mut S,
-    out: &mut K,
-) -> Result<(), Halt>
-    requires fewer { length listeners.old.items < 2 ^ 64 }
-    ensures all { OnOk result (TalksAll an_interview base
-        (outside F.files F.take_faults F.keep_faults S.left S.faults K.written K.faults shelf.old (map (λ l. hearer (state l)) listeners.old.items) input.old out.old)
-        (outside F.files F.take_faults F.keep_faults S.left S.faults K.written K.faults shelf.new (map (λ l. hearer (state l)) listeners.new.items) input.new out.new)) }
-    ensures part { IfErr result (TalksPart an_interview base
-        (outside F.files F.take_faults F.keep_faults S.left S.faults K.written K.faults shelf.old (map (λ l. hearer (state l)) listeners.old.items) input.old out.old)
-        (outside F.files F.take_faults F.keep_faults S.left S.faults K.written K.faults shelf.new (map (λ l. hearer (state l)) listeners.new.items) input.new out.new)) }
-    ensures cause { IfErr result (IsCause (F.take_faults shelf.old) (F.take_faults shelf.new) (F.keep_faults shelf.old) (F.keep_faults shelf.new) (K.faults out.old) (K.faults out.new) (S.faults input.old) (S.faults input.new)) }
-{
-    let mut interview = Interview::start(alloc, base)?;
-    converse(alloc, &mut interview, shelf, listeners, input, out)
-}
-
 /// What a rulebase declares is a model.
-fn declares_a_model(base: &Rulebase)
+pub(crate) fn declares_a_model(base: &Rulebase)
     ensures { IsModel base.now.model }
 {
     let _count = base.model.entity_count();
 }
 
 /// How a run ends that was fed.
-fn end_of(fed: Result<(), Halt>) -> Status
+pub(crate) fn end_of(fed: Result<(), Halt>) -> Status
     ensures { result ≡ end_of fed }
 {
     match fed {
@@ -98,33 +76,6 @@ pub(crate) fn open_and_talk<S: Source, F: Shelf, K: Sink>(
         Ok(base) => {
             declares_a_model(&base);
             end_of(talk(alloc, base, shelf, listeners, input, out))
-        }
-        Err(error) => match error {
-            LoadError::Refused { text, .. } => tell(Status::Refused, out, text.as_str()),
-            LoadError::ReadFault => Status::ReadFault,
-            LoadError::NoMemory => Status::NoMemory,
-        },
-    }
-}
-
-/// Loads a rulebase, and asks over it.
-pub(crate) fn open_and_ask<S: Source, F: Shelf, K: Sink>(
-    alloc: Global,
-    name: &str,
-    shelf: &mut F,
-    listeners: &mut Vec<Box<dyn Listener>>,
-    input: &mut S,
-    out: &mut K,
-) -> Status
-    requires fewer { length listeners.old.items < 2 ^ 64 }
-    ensures { Runs an_interview name.now
-        (outside F.files F.take_faults F.keep_faults S.left S.faults K.written K.faults shelf.old (map (λ l. hearer (state l)) listeners.old.items) input.old out.old)
-        (outside F.files F.take_faults F.keep_faults S.left S.faults K.written K.faults shelf.new (map (λ l. hearer (state l)) listeners.new.items) input.new out.new) result }
-{
-    match load_rulebase(alloc, shelf, name) {
-        Ok(base) => {
-            declares_a_model(&base);
-            end_of(ask(alloc, base, shelf, listeners, input, out))
         }
         Err(error) => match error {
             LoadError::Refused { text, .. } => tell(Status::Refused, out, text.as_str()),

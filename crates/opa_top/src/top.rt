@@ -4,12 +4,15 @@ ghost use Rattle.opa_listen.specs.Hearing.{hearer};
 ghost use Rattle.opa_usage.specs.Asked.{asked_of};
 ghost use Rattle.opa_usage.specs.declared.reading.Mode.TheVariants as modes;
 ghost use Rattle.opa_top.specs.Checking.{Checks};
+ghost use Rattle.opa_top.specs.Generating.{IsGenerated};
 ghost use Rattle.opa_top.specs.Promises.{Asks, Promises, words_of};
 ghost use Rattle.opa_top.specs.Running.{outside, IsUnused, Runs, a_run, an_interview};
 ghost use Rattle.opa_top.specs.Statuses.{SaysUsage};
 
+use crate::asking::open_and_ask;
 use crate::check::{check, tell};
-use crate::talk::{open_and_ask, open_and_talk};
+use crate::generating::generated;
+use crate::talk::open_and_talk;
 use opa_decided::{one_opening, one_transcript};
 use opa_io::{Shelf, Sink, Source, Status};
 use opa_listen::Listener;
@@ -41,12 +44,16 @@ fn run_words<S: Source, F: Shelf, K: Sink>(
     ensures asks { (name : List ℕ) → Asks words.now modes.Interview name → Runs an_interview name
         (outside F.files F.take_faults F.keep_faults S.left S.faults K.written K.faults shelf.old (map (λ l. hearer (state l)) listeners.old.items) input.old out.old)
         (outside F.files F.take_faults F.keep_faults S.left S.faults K.written K.faults shelf.new (map (λ l. hearer (state l)) listeners.new.items) input.new out.new) result }
+    ensures generated { (number : List ℕ) → Asks words.now modes.Generate number → IsGenerated number
+        (outside F.files F.take_faults F.keep_faults S.left S.faults K.written K.faults shelf.old (map (λ l. hearer (state l)) listeners.old.items) input.old out.old)
+        (outside F.files F.take_faults F.keep_faults S.left S.faults K.written K.faults shelf.new (map (λ l. hearer (state l)) listeners.new.items) input.new out.new) result }
 {
     match read_words(alloc, words) {
         Ok(asked) => match asked.mode {
             Mode::Run => open_and_talk(alloc, asked.name, shelf, listeners, input, out),
             Mode::Interview => open_and_ask(alloc, asked.name, shelf, listeners, input, out),
             Mode::Check => check(alloc, asked.name, shelf, out),
+            Mode::Generate => generated(alloc, asked.name, shelf, input, out, listeners),
         },
         Err(WordsFault::Usage) => tell(Status::Usage, out, USAGE),
         Err(WordsFault::NoMemory) => Status::NoMemory,

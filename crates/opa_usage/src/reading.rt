@@ -1,6 +1,9 @@
 // The mode that words ask for.
 ghost use Rattle.std.specs.Prelude.{◌≡◌, map, Option, None, Some, List, ℕ, IfOk, IsErrOf, string_bytes};
 ghost use Rattle.std.specs.Option.{option_map};
+ghost use Rattle.std.specs.Char.{is_ascii_digit};
+ghost use Rattle.std.specs.List.{list_all};
+ghost use Rattle.opa_usage.specs.Asked as meant;
 ghost use Rattle.opa_usage.specs.Asked.{mode_named as named, asked_of, asked_by};
 
 use crate::clapped::{Positionals, WordsFault, read_positionals};
@@ -12,6 +15,7 @@ pub enum Mode {
     Run,
     Interview,
     Check,
+    Generate,
 }
 
 /// A mode, and the name of its rulebase.
@@ -29,7 +33,45 @@ fn mode_named(word: &str) -> Option<Mode>
         "run" => Some(Mode::Run),
         "interview" => Some(Mode::Interview),
         "check" => Some(Mode::Check),
+        "generate" => Some(Mode::Generate),
         _ => None,
+    }
+}
+
+fn are_digits(bytes: &[u8]) -> bool
+    ensures { result ≡ list_all is_ascii_digit bytes.now }
+{
+    let mut rest = bytes;
+    while let [first, later @ ..] = rest {
+        if !first.is_ascii_digit() {
+            return false;
+        }
+        rest = later;
+    }
+    true
+}
+
+/// One to nine digits.
+fn is_number(word: &str) -> bool
+    ensures { result ≡ meant.is_number word.now }
+{
+    let bytes = word.as_bytes();
+    1 <= bytes.len() && bytes.len() <= 9 && are_digits(bytes)
+}
+
+/// A mode over a name, or over a number where the mode asks for one.
+fn taken(mode: Mode, name: &str) -> Option<Asked<'_>>
+    ensures { option_map (λ a. (a.mode, a.name.now)) result ≡ meant.taken_by name.now mode }
+{
+    match mode {
+        Mode::Run | Mode::Interview | Mode::Check => Some(Asked { mode, name }),
+        Mode::Generate => {
+            if is_number(name) {
+                Some(Asked { mode, name })
+            } else {
+                None
+            }
+        }
     }
 }
 
@@ -40,7 +82,7 @@ fn positional<'a>(words: &Positionals<'a>) -> Option<Asked<'a>>
     match (words.mode, words.rulebase, words.name) {
         (Some(mode), Some(name), None) => {
             let mode = mode_named(mode)?;
-            Some(Asked { mode, name })
+            taken(mode, name)
         }
         _ => None,
     }

@@ -2,7 +2,7 @@
 ghost use Rattle.std.specs.Prelude.{◌≡◌};
 ghost use Rattle.opa_fresh.specs.Slots.{IsSlot, is_slot};
 ghost use Rattle.opa_mean.specs.Rulebases.{IsOf};
-ghost use Rattle.opa_session.specs.Sessions.{rules_of, held_of};
+ghost use Rattle.opa_infer.specs.Sessions.{rules_of, held_of};
 
 use crate::points::{attribute, instance};
 use crate::printed::line_words;
@@ -11,9 +11,9 @@ use opa_case::{Case, InstanceId};
 use opa_code::compile;
 use opa_io::NoMemory;
 use opa_line::Line;
-use opa_mean::{Derive, Plain};
+use opa_mean::{Derive, Held, Plain};
 use opa_model::{AttrId, Kind};
-use opa_session::Session;
+use opa_infer::Session;
 use opa_tree::Rulebase;
 use opa_value::Value;
 use std::alloc::Global;

@@ -5,7 +5,8 @@ use opa_case::{ChangeCommand, InstanceId, Refusal};
 use opa_io::{List, NoMemory, Txt};
 use opa_line::Line;
 use opa_model::{AttrId, EntityId, Model, RelId};
-use opa_session::Session;
+use opa_infer::Session;
+use opa_mean::Held;
 use opa_value::Value;
 use std::alloc::Global;
 use std::test::Fail;
@@ -22,9 +23,11 @@ fn alternating(alloc: Global, count: u32) -> Result<Line<Value>, Fail> {
 }
 
 /// Makes a change of something that is declared.
-fn made(session: &mut Session, change: ChangeCommand) -> Result<(), Refusal> {
+fn made(alloc: Global, session: &mut Session, change: ChangeCommand) -> Result<(), Refusal> {
     if session.declares(&change) {
-        session.apply(change)
+        let mut nobody = Vec::new(alloc);
+        session.apply(alloc, change, &mut nobody)?;
+        Ok(())
     } else {
         Err(Refusal::Name)
     }
@@ -42,7 +45,7 @@ fn long_answer(alloc: Global, model: &Model, count: u32) -> Result<ChangeCommand
 fn refusal_of(alloc: Global, count: u32) -> Result<Option<Refusal>, Fail> {
     let mut session = after(alloc, &[("main", texts::CLAIMANT)], &[])?;
     let change = long_answer(alloc, &session.base().model, count)?;
-    Ok(made(&mut session, change).err())
+    Ok(made(alloc, &mut session, change).err())
 }
 
 #[test]

@@ -9,11 +9,10 @@ use crate::printed::value_words;
 use crate::told::after;
 use opa_case::InstanceId;
 use opa_date::DAYS;
-use opa_fresh::{Fresh, determine};
 use opa_io::{List, NoMemory};
 use opa_mean::{Held, tree_value, value_on};
 use opa_model::{AttrId, Kind};
-use opa_session::Session;
+use opa_infer::Session;
 use opa_tree::Expr;
 use opa_value::Value;
 use std::alloc::Global;
@@ -138,26 +137,12 @@ fn rule_parts<H: Held>(
     }
 }
 
-/// The same over the lines of a session's conclusions.
-fn held_parts(
-    alloc: Global,
-    session: &Session,
-    attr: AttrId,
-    day: u32,
-) -> Result<List<Value>, NoMemory>
-    requires { day < DAYS }
-{
-    let lines = determine(alloc, session.base(), session.code(), session.case())?;
-    let fresh = Fresh::new(session.base(), session.case(), &lines);
-    rule_parts(alloc, &fresh, attr, day)
-}
-
 /// What the rule of being entitled gives, and what its parts give.
 fn told_parts(alloc: Global, session: &Session, day: u32) -> Result<String, Fail>
     requires { day < DAYS }
 {
     let attr = attribute(&session.base().model, "the claimant is entitled")?;
-    let values = held_parts(alloc, session, attr, day)?;
+    let values = rule_parts(alloc, session, attr, day)?;
     let mut out = String::new(alloc);
     for value in values.as_slice() {
         out.push_str(" ")?;

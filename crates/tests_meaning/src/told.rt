@@ -1,10 +1,11 @@
 // What a session answers to lines of input.
 use crate::printed::line_words;
 use opa_case::{ChangeCommand, InstanceId};
+use opa_infer::Session;
 use opa_line::Line;
+use opa_mean::Held;
 use opa_model::{AttrId, Model, RelId};
 use opa_script::{CmdFault, Command, read_command};
-use opa_session::Session;
 use opa_text::{names_text, point_text};
 use opa_value::Value;
 use std::alloc::Global;
@@ -60,8 +61,9 @@ fn changed(alloc: Global, session: &mut Session, change: ChangeCommand) -> Resul
     if !session.declares(&change) {
         return Ok(String::from_str(alloc, "undeclared")?);
     }
-    match session.apply(change) {
-        Ok(()) => Ok(String::new(alloc)),
+    let mut nobody = Vec::new(alloc);
+    match session.apply(alloc, change, &mut nobody) {
+        Ok(_) => Ok(String::new(alloc)),
         Err(refusal) => {
             let number = refusal.number();
             Ok(format!(in alloc; "refused: change {number}")?)
@@ -76,9 +78,9 @@ fn shown(
     attr: AttrId,
     inst: &InstanceId,
 ) -> Result<String, Fail> {
-    match session.value(alloc, attr, inst)? {
+    match session.value(attr, inst) {
         None => Ok(String::from_str(alloc, "refused: point")?),
-        Some(line) => point_line(alloc, &session.base().model, attr, inst, &line),
+        Some(line) => point_line(alloc, &session.base().model, attr, inst, line),
     }
 }
 

@@ -5,7 +5,7 @@ use Rattle.std.proofs.lemmas.List.Elements.{All-append}
 use Rattle.opa_talk.specs.Talk.{WhereRose}
 use Rattle.opa_talk.specs.Points.{point_of}
 use Rattle.opa_talk.proofs.PointsLaws.{joined, joined_whole, carries_none, carries-append, goes_part, breaks_none, breaks_after, breaks_more, breaks_is}
-use Rattle.opa_talk.proofs.RoseLaws.{breaks_later}
+use Rattle.opa_talk.proofs.RoseLaws.{within_later}
 use Rattle.opa_talk.proofs.talk.take_piece.Goals as goal
 
 pub loop-bytes-init : goal.loop-bytes-init
@@ -54,7 +54,7 @@ returns-in_err-over-clause-err g c =
     let p = err_from_is_err_and c.from_residual.result c.from_residual.ensures.1 in
     rw p.1 (breaks_is g.T.Replier.rule (WhereRose (g.F.Shelf.keep_faults c.args.shelf.now) (g.F.Shelf.keep_faults c.take_line.new.shelf) g.T.Replier.Stops) _ _ _ _ _ _ (joined_whole done.0 _ _ _ _ done.1 c.in-Some.ensures.1)
     (breaks_after g.T.Replier.rule (WhereRose (g.F.Shelf.keep_faults c.args.shelf.now) (g.F.Shelf.keep_faults c.take_line.new.shelf) g.T.Replier.Stops) _ (point_of _ c.loop-bytes.pending) _ _ _ _ _ _ done.2
-    (breaks_more g.T.Replier.rule (WhereRose (g.F.Shelf.keep_faults c.args.shelf.now) (g.F.Shelf.keep_faults c.take_line.new.shelf) g.T.Replier.Stops) _ _ c.in-Some.bytes.now c.in-Some.after.now _ _ (breaks_later g.T.Replier.rule g.T.Replier.Stops _ (g.F.Shelf.keep_faults c.loop-bytes.shelf) _ c.loop-bytes.invariant.later_keep _ _ _ _ _ c.in_err-over.ensures.err))))
+    (breaks_more g.T.Replier.rule (WhereRose (g.F.Shelf.keep_faults c.args.shelf.now) (g.F.Shelf.keep_faults c.take_line.new.shelf) g.T.Replier.Stops) _ _ _ c.in-Some.after.now _ _ (within_later g.T.Replier.rule g.T.Replier.Stops _ (g.F.Shelf.keep_faults c.loop-bytes.shelf) _ c.loop-bytes.invariant.later_keep _ _ _ _ _ c.in_err-over.ensures.err))))
 
 pub returns-in_err-extend_from_slice-clause-err : goal.returns-in_err-extend_from_slice-clause-err
 returns-in_err-extend_from_slice-clause-err g c =

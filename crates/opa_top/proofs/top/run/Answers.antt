@@ -12,6 +12,7 @@ returns g c = record {
   run = λ name asks. answers a_run c.one_opening.ensures c.one_transcript.ensures.run name _ _ c.run_words.result (c.run_words.ensures.runs name asks);
   read_all = λ name asks done. run_reads_all name _ _ c.run_words.result (c.run_words.ensures.runs name asks) done;
   interview = λ name asks. answers an_interview c.one_opening.ensures c.one_transcript.ensures.interview name _ _ c.run_words.result (c.run_words.ensures.asks name asks);
+  generated = c.run_words.ensures.generated;
   parts = cuts_anywhere a_run.rule;
   parts_asked = cuts_anywhere an_interview.rule;
 }

@@ -2,7 +2,7 @@ use Rattle.std.proofs.Common.{refl}
 use Rattle.std.proofs.lemmas.Result.{err_from_is_err_and}
 use Rattle.opa_top.specs.Running.{an_interview}
 use Rattle.opa_top.proofs.TalkLaws.{talks_all, talks_part, talks_not}
-use Rattle.opa_top.proofs.talk.ask.Goals as goal
+use Rattle.opa_top.proofs.asking.ask.Goals as goal
 
 pub returns-in_err-interview-clause-part : goal.returns-in_err-interview-clause-part
 returns-in_err-interview-clause-part g c =

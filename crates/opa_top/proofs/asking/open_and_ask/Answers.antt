@@ -4,7 +4,7 @@ use Rattle.opa_rulebase.specs.Loading.{HasLoadError}
 use Rattle.opa_top.specs.Running.{Runs, an_interview}
 use Rattle.opa_top.proofs.CheckLaws.{refusal_opened}
 use Rattle.opa_top.proofs.TalkLaws.{fed}
-use Rattle.opa_top.proofs.talk.open_and_ask.Goals as goal
+use Rattle.opa_top.proofs.asking.open_and_ask.Goals as goal
 
 pub returns-in-Ok : goal.returns-in-Ok
 returns-in-Ok g c =

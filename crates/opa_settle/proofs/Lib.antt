@@ -1,0 +1,6 @@
+pub mod Adding
+pub mod Marking
+pub mod Tasking
+pub mod Answered
+pub mod Changed
+pub mod Settles

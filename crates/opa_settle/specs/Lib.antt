@@ -1,0 +1,4 @@
+pub mod Orders
+pub mod Sames
+pub mod Starts
+pub mod Tasks

@@ -1,0 +1,18 @@
+//! Only what a change reaches is derived again.
+#![tactic(auto)]
+
+mod answer;
+mod changing;
+mod laws;
+mod settling;
+mod starting;
+mod task;
+mod tasks;
+
+pub use answer::settle_answer;
+pub use changing::{Reading, start_change};
+pub use laws::same_are_current;
+pub use settling::settle;
+pub use starting::{mark, start_answer};
+pub use task::Task;
+pub use tasks::Tasks;

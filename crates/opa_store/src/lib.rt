@@ -1,0 +1,13 @@
+//! Kept and staged lines of conclusions.
+#![tactic(auto)]
+
+mod differ;
+mod entry;
+mod gone;
+mod next;
+mod store;
+
+pub use differ::lines_differ;
+pub use next::{Answered, Next};
+pub use opa_dirty::Slot;
+pub use store::Store;

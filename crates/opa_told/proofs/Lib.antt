@@ -1,0 +1,5 @@
+pub mod Days
+pub mod Goals
+pub mod Questions
+pub mod ReportLaws
+pub mod Slots

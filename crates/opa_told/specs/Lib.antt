@@ -1,0 +1,6 @@
+pub mod Asking
+pub mod Goals
+pub mod Laws
+pub mod Reports
+pub mod Shown
+pub mod Stats

@@ -1,0 +1,23 @@
+-- What is told of a point's report.
+use Rattle.std.specs.Prelude.{◌≡◌, ℕ, List, true, false}
+use Rattle.opa_model.specs.declared.ids.AttrId.{AttrId}
+use Rattle.opa_cells.specs.declared.instance.InstanceId.{InstanceId}
+use Rattle.opa_case.specs.Cases.{CaseView}
+use Rattle.opa_tree.specs.declared.rulebase.Rulebase.{Rulebase}
+use Rattle.opa_mean.specs.Slots.{has_place}
+use Rattle.opa_report.specs.declared.lines.Report.{Report}
+use Rattle.opa_report.specs.Promises.{IsAbout, IsExact}
+use Rattle.opa_report_text.specs.Texts.{report_text}
+use Rattle.opa_told.specs.Shown.{refused_point}
+
+-- the text of the point's report
+pub record IsReported (r : Rulebase) (c : CaseView) (a : AttrId) (i : InstanceId) (d : ℕ) (text : List ℕ) : Type 0 where
+  pub report : Report
+  pub about : IsAbout a i d report
+  pub exact : IsExact r c report
+  pub says : text ≡ report_text r report
+
+-- The text of the report of a declared attribute, where the instance has the attribute.
+pub record IsReportTold (r : Rulebase) (c : CaseView) (a : AttrId) (i : InstanceId) (d : ℕ) (text : List ℕ) : Type 0 where
+  pub here : has_place r c a i ≡ true → IsReported r c a i d text
+  pub nowhere : has_place r c a i ≡ false → text ≡ refused_point
