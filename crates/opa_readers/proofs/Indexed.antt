@@ -1,5 +1,5 @@
 -- An index, as slots are added.
-use Rattle.std.proofs.Common.{◌≡◌, ◌⊎◌, ◌↔◌, inl, inr, ℕ, ◌+◌, ◌<◌, true, List, [], ◌∷◌, ◌++◌, length, get_or, take, Option, Contains, refl, sym, ◌∙◌, ap, subst}
+use Rattle.std.proofs.Common.{◌≡◌, ◌⊎◌, inl, inr, ℕ, ◌+◌, ◌<◌, List, [], ◌∷◌, ◌++◌, length, get_or, take, Option, Contains, sym, ◌∙◌, ap, subst}
 use Rattle.std.specs.Prelude.{unwrap_or}
 use Rattle.std.specs.FinMap.{empty, get-empty}
 use Rattle.std.proofs.lemmas.List.{take_more}
@@ -19,7 +19,6 @@ use Rattle.opa_mean.specs.Changes.{slots}
 use Rattle.opa_mean.specs.Given.{base_of, facts_of}
 use Rattle.opa_mean.specs.Rulebases.{IsOf}
 use Rattle.opa_mean.specs.SlotLaws.{SlotsAreLive}
-use Rattle.opa_mean.specs.Slots.{is_slot}
 use Rattle.opa_tree.specs.declared.rulebase.Rulebase.{Rulebase}
 use Rattle.opa_tree.proofs.Members.{none_in, contains_head, contains_cases}
 use Rattle.opa_readers.specs.Indexes.{Table, slots_at, readers_in, SameKey, AddsAt, AddsReads, AreReadersAmong}

@@ -1,5 +1,5 @@
 -- What another case makes new: slots, and questions that no rule gives.
-use Rattle.std.specs.Prelude.{◌≡◌, ℕ, Bool, true, not, ◌&&◌, cond, is_some, List, [], ◌∷◌, filter, Contains}
+use Rattle.std.specs.Prelude.{◌≡◌, ℕ, true, not, ◌&&◌, cond, is_some, List, [], ◌∷◌, filter, Contains}
 use Rattle.std.specs.FinMap.{get}
 use Rattle.opa_date.specs.declared.TheConstants.{DAYS}
 use Rattle.opa_model.specs.declared.ids.AttrId.{AttrId}

@@ -2,6 +2,7 @@
 #![tactic(auto)]
 
 mod add;
+mod beginning;
 mod build;
 mod fill;
 mod fresh;
@@ -9,6 +10,7 @@ mod given;
 mod index;
 mod readers;
 
+pub use beginning::begin;
 pub use fresh::fresh_slots;
 pub use given::given_changes;
 pub use index::Index;

@@ -6,11 +6,12 @@ ghost use Rattle.opa_dirty.specs.Slots.{pairs_of};
 ghost use Rattle.opa_readers.specs.Indexes.{readers_in};
 
 use crate::index::Index;
-use opa_case::InstanceId;
+use opa_case::{InstanceId, Question};
 use opa_cells::Cells;
 use opa_dirty::{Readers, Slot};
 use opa_io::List;
 use opa_model::{AttrId, RelId};
+use opa_settle::Reading;
 
 impl Readers for Index {
     ghost use Rattle.opa_readers.specs.Indexes.{readers_in};
@@ -19,6 +20,19 @@ impl Readers for Index {
 
     fn of_line(&self, attr: AttrId, inst: &InstanceId) -> &[Slot] {
         slots_at(&self.lines, attr.0, inst)
+    }
+}
+
+impl Reading for Index {
+    ghost use Rattle.opa_readers.specs.Indexes.{readers_in};
+
+    ghost reading = { readers_in };
+
+    fn of(&self, question: &Question) -> &[Slot] {
+        match question {
+            Question::Attr(attr, inst) => self.of_line(*attr, inst),
+            Question::Members(rel, inst) => self.of_list(*rel, inst),
+        }
     }
 }
 

@@ -1,4 +1,4 @@
-use Rattle.std.proofs.Common.{List, map, ◌∙◌, ap}
+use Rattle.std.proofs.Common.{map, ◌∙◌, ap}
 use Rattle.opa_cells.specs.Rows.{seen}
 use Rattle.opa_readers.proofs.Renewed.{are_given}
 use Rattle.opa_readers.proofs.given.given_changes.Goals as goal

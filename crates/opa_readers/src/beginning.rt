@@ -1,0 +1,38 @@
+// What waits before anything is derived, by the index of the coming case.
+ghost use Rattle.std.specs.Prelude.{IfOk};
+ghost use Rattle.opa_dirty.specs.Settling.{AreReaders, IsBegun, shift};
+ghost use Rattle.opa_mean.specs.Rulebases.{IsOf};
+ghost use Rattle.opa_readers.specs.Indexes.{readers_in};
+ghost use Rattle.opa_settle.specs.Tasks.{AreRanked, slots_of};
+
+use crate::fresh::fresh_slots;
+use crate::given::given_changes;
+use crate::index::Index;
+use opa_case::Case;
+use opa_io::NoMemory;
+use opa_settle::{Tasks, start_change};
+use opa_tree::Rulebase;
+use std::alloc::Global;
+
+/// What any change reaches at first: the fresh slots of the coming case, and by its index the readers of the lists and answers
+/// that differ.
+pub fn begin(
+    alloc: Global,
+    base: &Rulebase,
+    held: &Case,
+    next: &Case,
+    index: &Index,
+) -> Result<Tasks, NoMemory>
+    requires before { IsOf base.now held.now }
+    requires after { IsOf base.now next.now }
+    requires readers { AreReaders base.now next.now (readers_in index.now) }
+    ensures begun { IfOk result (λ tasks. IsBegun (shift base.now held.now next.now) (slots_of tasks)) }
+    ensures ranked { IfOk result (AreRanked base.now) }
+{
+    let fresh = fresh_slots(alloc, base, held, next)?;
+    let told = given_changes(alloc, base, held, next, index)?;
+    let slots = fresh.as_slice();
+    let questions = told.as_slice();
+    let tasks = start_change(alloc, base, held, next, index, slots, questions)?;
+    Ok(tasks)
+}
