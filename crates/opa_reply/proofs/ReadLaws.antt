@@ -1,5 +1,5 @@
 -- What a line asks for, and what it says in reply.
-use Rattle.std.proofs.Common.{◌≡◌, ◌≢◌, inl, inr, List, ℕ, true, false, refl}
+use Rattle.std.proofs.Common.{◌≡◌, ◌∙◌, inl, inr, Bool, List, ℕ, true, false, refl, subst, sym}
 use Rattle.std.specs.Prelude.{Option, None, Some}
 use Rattle.opa_model.specs.declared.lists.Lists.{Lists}
 use Rattle.opa_case.specs.declared.question.Question.{Question}
@@ -18,7 +18,10 @@ too_long m line long = inl (long, refl)
 pub no_command : (m : Lists) (line : List ℕ) (f : CmdFault) → is_too_long line ≡ false → IsNoCommand m (text_of line) f → IsNotAsked m line f
 no_command m line f short none = inr (short, none)
 
-pub ruleset asking = (too_long, no_command)
+pub not_asked : (m : Lists) (line text : List ℕ) (f : CmdFault) (long : Bool) → long ≡ is_too_long line → long ≡ false → text ≡ text_of line → IsNoCommand m text f → IsNotAsked m line f
+not_asked m line text f long is short at none = no_command m line f (sym is ∙ short) (subst (λ t. IsNoCommand m t f) at none)
+
+pub ruleset asking = (too_long)
 
 pub long_reply : (m : Lists) (asked : Option Question) (line : List ℕ) → is_long_reply line ≡ true → IsNotTold m asked line fault.NotACommand
 long_reply m asked line long = inl (long, refl)
@@ -26,4 +29,9 @@ long_reply m asked line long = inl (long, refl)
 pub no_reply : (m : Lists) (q : Question) (line : List ℕ) (f : CmdFault) → is_long_reply line ≡ false → IsNoReply m q (text_of line) f → IsNotTold m (Some q) line f
 no_reply m q line f short none = inr (short, none)
 
-pub ruleset telling = (long_reply, no_reply)
+pub not_told : (m : Lists) (asked : Option Question) (q : Question) (line text : List ℕ) (f : CmdFault) (long : Bool) → asked ≡ Some q → long ≡ is_long_reply line → long ≡ false → text ≡ text_of line
+    → IsNoReply m q text f → IsNotTold m asked line f
+not_told m asked q line text f long there is short at none =
+    subst (λ o. IsNotTold m o line f) (sym there) (no_reply m q line f (sym is ∙ short) (subst (λ t. IsNoReply m q t f) at none))
+
+pub ruleset telling = (long_reply)

@@ -1,5 +1,5 @@
 -- A line that was read is carried out, or refused.
-use Rattle.std.proofs.Common.{◌≡◌, ◌≢◌, inl, inr, List, ℕ, Ok, Err, refl, subst}
+use Rattle.std.proofs.Common.{◌≡◌, ◌≢◌, inl, inr, List, ℕ, Ok, Err, refl, subst, sym}
 use Rattle.std.specs.Prelude.{Option, Result, IfOk, IfErr}
 use Rattle.opa_io.specs.Outside.{Files}
 use Rattle.opa_case.specs.Cases.{CaseView}
@@ -33,15 +33,14 @@ module _ (keep keep' : ℕ) where
       → HaltsAt keep keep' k (held r c n hs files) (held r' c' n' hs' files)
   quiet r r' c c' n n' hs hs' files k er ec en eh = inl (same_held r r' c c' n n' hs hs' files files er ec en eh refl)
 
--- what holds beside any hearers holds beside these
-module _ (r : Rulebase) (c : CaseView) (n : ℕ) (old new : Option Files) (hs : List Hearer) (k : Command) where
-  pub kept_beside : (text : List ℕ) → ((hearers : List Hearer) → CarriesOut k (held r c n hearers old) text (held r c n hearers new)) → CarriesOut k (held r c n hs old) text (held r c n hs new)
-  kept_beside text h = h hs
+-- a command that keeps the case under a name
+pub save_as : (k : Command) (name : List ℕ) (x y : Held) (text : List ℕ) → k ≡ command.Save name → CarriesOut (command.Save name) x text y → CarriesOut k x text y
+save_as k name x y text is h = subst (λ c. CarriesOut c x text y) (sym is) h
 
-  pub halts_beside : (keep keep' : ℕ) → ((hearers : List Hearer) → HaltsAt keep keep' k (held r c n hearers old) (held r c n hearers new)) → HaltsAt keep keep' k (held r c n hs old) (held r c n hs new)
-  halts_beside keep keep' h = h hs
+pub save_halts : (keep keep' : ℕ) (k : Command) (name : List ℕ) (x y : Held) → k ≡ command.Save name → HaltsAt keep keep' (command.Save name) x y → HaltsAt keep keep' k x y
+save_halts keep keep' k name x y is h = subst (λ c. HaltsAt keep keep' c x y) (sym is) h
 
-pub ruleset carrying = (dismisses, stays, quiet, kept_beside, halts_beside)
+pub ruleset carrying = (dismisses, stays, quiet)
 
 -- ---- lines
 
@@ -66,9 +65,9 @@ module _ (Says : Held → List ℕ → Command → Type 0) (SaysNothing : Held �
 pub ruleset replying = (answered, stopped)
 
 module _ {T E : Type 0} (P Q : T → Type 0) where
-  pub said_ok : (r : Result T E) → ((t : T) → P t → Q t) → IfOk r P → IfOk r Q
-  said_ok (Ok t) f h = f t h
-  said_ok (Err e) f h = tt
+  pub said_ok : (r : Result T E) → IfOk r P → ((t : T) → P t → Q t) → IfOk r Q
+  said_ok (Ok t) h f = f t h
+  said_ok (Err e) h f = tt
 
 module _ (Says : Held → List ℕ → Command → Type 0) (SaysNothing : Held → List ℕ → CmdFault → Type 0) where
   pub read_as : (x : Held) (line : List ℕ) (read : Result Command CmdFault) → IfOk read (Says x line) → IfErr read (SaysNothing x line) → IsReadAs Says SaysNothing x line read

@@ -2,10 +2,19 @@
 ghost use Rattle.std.specs.Prelude.{◌≡◌, ◌<◌, ◌^◌, length, map, IfOk, OnErr};
 ghost use Rattle.opa_listen.specs.Hearing.{hearer};
 ghost use Rattle.opa_reply.specs.Dismissals.{IsDismissed};
+ghost use Rattle.opa_reply.specs.Refused.{refused_dismiss};
 
 use opa_io::NoMemory;
 use opa_listen::{Listener, dismiss};
 use std::alloc::Global;
+
+/// What is said where no listener has the number.
+fn no_listener(alloc: Global) -> Result<Vec<u8>, NoMemory>
+    ensures { IfOk result (λ t. t.items ≡ refused_dismiss) }
+{
+    let text = b"refused: dismiss\n".to_vec(alloc)?;
+    Ok(text)
+}
 
 /// A listener says its last words and goes; where no listener has the number, that is refused.
 #[tactic(auto, using(crate::proofs::Leaving::dismissing))]
@@ -23,7 +32,7 @@ pub(crate) fn dismissed(
         let words = dismiss(alloc, listeners, place)?;
         Ok(words)
     } else {
-        let text = b"refused: dismiss\n".to_vec(alloc)?;
+        let text = no_listener(alloc)?;
         Ok(text)
     }
 }

@@ -98,6 +98,7 @@ fn talk_over<S: Source, F: Shelf, K: Sink>(
 }
 
 /// The transcript of the generated rulebase and its input, or the refusal of a number.
+#[tactic(auto, using(crate::proofs::GenerateLaws::numbers))]
 pub(crate) fn generated<S: Source, F: Shelf, K: Sink>(
     alloc: Global,
     number: &str,

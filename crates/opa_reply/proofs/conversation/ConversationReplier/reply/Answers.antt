@@ -6,5 +6,5 @@ use Rattle.opa_reply.proofs.conversation.ConversationReplier.reply.Goals as goal
 
 pub returns-clause-ok : goal.returns-clause-ok
 returns-clause-ok g c =
-    let read = asked_as _ _ _ c.asked-read.result (ap (λ (r : Rulebase). r.model) c.base.ensures) c.asked-read.ensures.ok c.asked-read.ensures.fault in
-    said_ok _ _ c.respond.result (λ t out. answered Asks AsksNothing _ _ _ _ c.asked-read.result read out) c.respond.ensures.ok
+    said_ok _ _ c.respond.result c.respond.ensures.ok (λ t out.
+        answered Asks AsksNothing _ _ c.args.line.now _ c.asked-read.result (asked_as _ _ c.args.line.now c.asked-read.result (ap (λ (r : Rulebase). r.model) c.base.ensures) c.asked-read.ensures.ok c.asked-read.ensures.fault) out)
