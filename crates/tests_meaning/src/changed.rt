@@ -2,11 +2,11 @@
 use crate::points::{attribute, instance};
 use crate::told::after;
 use opa_case::{ChangeCommand, InstanceId, Refusal};
+use opa_infer::Session;
 use opa_io::{List, NoMemory, Txt};
 use opa_line::Line;
-use opa_model::{AttrId, EntityId, Model, RelId};
-use opa_infer::Session;
 use opa_mean::Held;
+use opa_model::{AttrId, EntityId, Model, RelId};
 use opa_value::Value;
 use std::alloc::Global;
 use std::test::Fail;

@@ -2,10 +2,10 @@
 use crate::points::{attribute, instance};
 use crate::told::after;
 use opa_case::{InstanceId, Question};
+use opa_infer::Session;
 use opa_io::{List, NoMemory, Txt};
 use opa_mean::{Held, reads};
 use opa_model::{AttrId, Model};
-use opa_infer::Session;
 use opa_text::point_text;
 use std::alloc::Global;
 use std::test::Fail;

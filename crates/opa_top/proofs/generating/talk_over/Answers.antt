@@ -3,15 +3,20 @@ use Rattle.opa_top.proofs.GenerateLaws.{not_made}
 use Rattle.opa_top.proofs.generating.talk_over.Goals as goal
 
 pub returns : goal.returns
-returns g c = inr (_, _, record {
-  files = c.in_ok-found.ensures.files;
-  input = c.in_ok-found.ensures.input;
-  written_before = refl;
-  written_after = refl;
-  hearers_before = refl;
-  hearers_after = refl;
-  writes_before = refl;
-  writes_after = refl;
-  kept = refl;
-  unread = refl;
-}, c.open_and_talk.ensures)
+returns g c = inr (
+  _,
+  _,
+  record {
+    files = c.in_ok-found.ensures.files;
+    input = c.in_ok-found.ensures.input;
+    written_before = refl;
+    written_after = refl;
+    hearers_before = refl;
+    hearers_after = refl;
+    writes_before = refl;
+    writes_after = refl;
+    kept = refl;
+    unread = refl;
+  },
+  c.open_and_talk.ensures,
+)
