@@ -84,5 +84,13 @@ pub told_as : (x : Held) (m : Lists) (q : Option Question) (line : List ℕ) (re
     → IfOk read (IsTold m q line) → IfErr read (IsNotTold m q line) → IsReadAs Tells TellsNothing x line read
 told_as x m q line read same next says nothing =
     read_as Tells TellsNothing x line read
-        (subst (λ o. IfOk read (IsTold x.rules.model o line)) next (subst (λ l. IfOk read (IsTold l q line)) same says))
-        (subst (λ o. IfErr read (IsNotTold x.rules.model o line)) next (subst (λ l. IfErr read (IsNotTold l q line)) same nothing))
+    (subst (λ o. IfOk read (IsTold x.rules.model o line)) next (subst (λ l. IfOk read (IsTold l q line)) same says))
+    (subst (λ o. IfErr read (IsNotTold x.rules.model o line)) next (subst (λ l. IfErr read (IsNotTold l q line)) same nothing))
+
+pub answered_asked : (x y : Held) (m : Lists) (line text : List ℕ) (read : Result Command CmdFault) → m ≡ x.rules.model → IfOk read (IsAsked m line) → IfErr read (IsNotAsked m line) → Responds read x text y
+    → Answers Asks AsksNothing x line text y
+answered_asked x y m line text read same says nothing out = answered Asks AsksNothing x y line text read (asked_as x m line read same says nothing) out
+
+pub answered_told : (x y : Held) (m : Lists) (q : Option Question) (line text : List ℕ) (read : Result Command CmdFault) → m ≡ x.rules.model → q ≡ next_of x.rules x.case
+    → IfOk read (IsTold m q line) → IfErr read (IsNotTold m q line) → Responds read x text y → Answers Tells TellsNothing x line text y
+answered_told x y m q line text read same next says nothing out = answered Tells TellsNothing x y line text read (told_as x m q line read same next says nothing) out

@@ -16,7 +16,7 @@ module _ (r r' : Rulebase) (c c' : CaseView) (n n' : ℕ) (hs hs' : List Hearer)
   pub settles : (d : CaseView) (count : ℕ) → c' ≡ d → n' ≡ reached r c d → Tells r c d hs hs' count → (files : Option Files) → Settles (held r c n hs files) (Some d) (held r' c' n' hs' files)
   settles d count is many tells files =
       subst (λ x. Comes (held r c n hs files) x (held r' c' n' hs' files)) is
-          (comes r r' c c' n n' hs hs' same count (subst (λ x. n' ≡ reached r c x) (sym is) many) (subst (λ x. Tells r c x hs hs' count) (sym is) tells) files)
+      (comes r r' c c' n n' hs hs' same count (subst (λ x. n' ≡ reached r c x) (sym is) many) (subst (λ x. Tells r c x hs hs' count) (sym is) tells) files)
 
 pub settles_nothing : (x : Held) → Settles x None x
 settles_nothing x = refl
