@@ -3,3 +3,4 @@ pub mod Generating
 pub mod Running
 pub mod Statuses
 pub mod Promises
+pub mod Meaning

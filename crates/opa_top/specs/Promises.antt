@@ -11,6 +11,7 @@ use Rattle.opa_usage.specs.declared.reading.Mode.TheVariants as mode
 use Rattle.opa_usage.specs.Asked.{asked_of}
 use Rattle.opa_top.specs.Checking.{Checks}
 use Rattle.opa_top.specs.Generating.{IsGenerated}
+use Rattle.opa_top.specs.Meaning.{Meaning}
 use Rattle.opa_top.specs.Running.{Manner, Outside, Runs, IsUnused, a_run, an_interview}
 use Rattle.opa_top.specs.Statuses.{SaysUsage, Wrote, IsOnly, LeftOff, HasCause, Completes}
 
@@ -54,3 +55,5 @@ pub record Promises (words : List (String Global)) (old new : Outside) (result :
   -- An input may be cut at any line feed: the replies to the rest go on from what the first part leaves.
   pub parts : CutsAnywhere a_run.rule
   pub parts_asked : CutsAnywhere an_interview.rule
+  -- What is shown means what it says.
+  pub meaning : Meaning

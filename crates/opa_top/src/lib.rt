@@ -4,6 +4,7 @@
 mod asking;
 mod check;
 mod generating;
+mod meaning;
 mod talk;
 mod top;
 

@@ -12,6 +12,7 @@ ghost use Rattle.opa_top.specs.Statuses.{SaysUsage};
 use crate::asking::open_and_ask;
 use crate::check::{check, tell};
 use crate::generating::generated;
+use crate::meaning::shown_is_meant;
 use crate::talk::open_and_talk;
 use opa_decided::{one_opening, one_transcript};
 use opa_io::{Shelf, Sink, Source, Status};
@@ -76,6 +77,7 @@ pub fn run<S: Source, F: Shelf, K: Sink>(
         (outside F.files F.take_faults F.keep_faults S.left S.faults K.written K.faults shelf.old (map (λ l. hearer (state l)) listeners.old.items) input.old out.old)
         (outside F.files F.take_faults F.keep_faults S.left S.faults K.written K.faults shelf.new (map (λ l. hearer (state l)) listeners.new.items) input.new out.new) result }
 {
+    shown_is_meant();
     one_opening();
     one_transcript();
     run_words(alloc, words, shelf, input, out, listeners)

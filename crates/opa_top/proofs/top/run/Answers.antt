@@ -15,4 +15,5 @@ returns g c = record {
   generated = c.run_words.ensures.generated;
   parts = cuts_anywhere a_run.rule;
   parts_asked = cuts_anywhere an_interview.rule;
+  meaning = c.shown_is_meant.ensures;
 }

@@ -1,0 +1,13 @@
+use Rattle.opa_top.proofs.meaning.shown_is_meant.Goals as goal
+
+pub returns : goal.returns
+returns c = record {
+  determined = c.determination.ensures;
+  shown = c.line_is_one.ensures;
+  states = c.states_are_exact.ensures;
+  settled = c.settled_stays.ensures;
+  supported = c.supported.ensures;
+  asked = c.asked.ensures;
+  relevant = c.relevant.ensures;
+  finished = c.finished.ensures;
+}

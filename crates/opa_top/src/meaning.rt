@@ -1,0 +1,20 @@
+// What is shown means what it says.
+ghost use Rattle.opa_top.specs.Meaning.{Meaning};
+
+use opa_dirty::settled_stays;
+use opa_goals::states_are_exact;
+use opa_mean::{asked, determination, finished, line_is_one, relevant, supported};
+
+/// The laws of the words that transcripts are made of.
+pub(crate) fn shown_is_meant()
+    ensures { Meaning }
+{
+    determination();
+    line_is_one();
+    states_are_exact();
+    settled_stays();
+    supported();
+    asked();
+    relevant();
+    finished();
+}
