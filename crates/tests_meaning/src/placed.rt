@@ -2,7 +2,7 @@
 use crate::told::after;
 use opa_case::{Case, InstanceId};
 use opa_io::{List, NoMemory, Txt};
-use opa_mean::place_of;
+use opa_mean::{Held, place_of};
 use opa_model::EntityId;
 use std::alloc::Global;
 use std::test::Fail;
