@@ -7,8 +7,8 @@ returns g c = inr (
   _,
   _,
   record {
-    files = c.in_ok-found.ensures.files;
-    input = c.in_ok-found.ensures.input;
+    files = c.in-Ok.ensures.files;
+    input = c.in-Ok.ensures.input;
     written_before = refl;
     written_after = refl;
     hearers_before = refl;

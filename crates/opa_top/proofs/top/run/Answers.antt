@@ -6,14 +6,16 @@ use Rattle.opa_top.proofs.top.run.Goals as goal
 
 pub returns : goal.returns
 returns g c = record {
-  usage = c.run_words.ensures.usage;
-  checked = c.run_words.ensures.checked;
-  unused = c.run_words.ensures.unused;
-  run = λ name asks. answers a_run c.one_opening.ensures c.one_transcript.ensures.run name _ _ c.run_words.result (c.run_words.ensures.runs name asks);
-  read_all = λ name asks done. run_reads_all name _ _ c.run_words.result (c.run_words.ensures.runs name asks) done;
-  interview = λ name asks. answers an_interview c.one_opening.ensures c.one_transcript.ensures.interview name _ _ c.run_words.result (c.run_words.ensures.asks name asks);
-  generated = c.run_words.ensures.generated;
-  parts = cuts_anywhere a_run.rule;
-  parts_asked = cuts_anywhere an_interview.rule;
-  meaning = c.shown_is_meant.ensures;
+  promises = record {
+    usage = c.run_words.ensures.usage;
+    checked = c.run_words.ensures.checked;
+    unused = c.run_words.ensures.unused;
+    run = λ name asks. answers a_run c.one_opening.ensures c.one_transcript.ensures.run name _ _ c.run_words.result (c.run_words.ensures.runs name asks);
+    read_all = λ name asks done. run_reads_all name _ _ c.run_words.result (c.run_words.ensures.runs name asks) done;
+    interview = λ name asks. answers an_interview c.one_opening.ensures c.one_transcript.ensures.interview name _ _ c.run_words.result (c.run_words.ensures.asks name asks);
+    generated = c.run_words.ensures.generated;
+    parts = cuts_anywhere a_run.rule;
+    parts_asked = cuts_anywhere an_interview.rule;
+    meaning = c.shown_is_meant.ensures;
+  };
 }
