@@ -15,23 +15,32 @@ fn words(rt: &(impl Env + AllocGlobal)) -> io::Result<Vec<String>> {
     Ok(env::args(rt)?.collect(rt.alloc())?)
 }
 
-/// A journal of all changes, and a watch on the first declared attribute.
-fn listeners(alloc: Global) -> Result<Vec<Box<dyn Listener>>, NoMemory> {
-    let mut first = List::new(alloc);
-    first.push(AttrId(0))?;
-    let mut listeners: Vec<Box<dyn Listener>> = Vec::new(alloc);
-    listeners.push(Box::new(alloc, Journal::new(alloc))?)?;
-    listeners.push(Box::new(alloc, Watch::new(alloc, first))?)?;
-    Ok(listeners)
+/// The first declared attribute.
+fn first_attribute(alloc: Global) -> Result<List<AttrId>, NoMemory> {
+    let mut attrs = List::new(alloc);
+    attrs.push(AttrId(0))?;
+    Ok(attrs)
 }
 
+/// With a journal of all changes, and a watch on the first declared attribute.
 fn main(rt: HostRuntime) -> ExitCode {
+    let no_memory = ExitCode::from(Status::NoMemory.number());
     let Ok(words) = words(&rt) else {
-        return ExitCode::from(Status::NoMemory.number());
+        return no_memory;
     };
-    let Ok(mut listeners) = listeners(rt.alloc()) else {
-        return ExitCode::from(Status::NoMemory.number());
+    let Ok(first) = first_attribute(rt.alloc()) else {
+        return no_memory;
     };
+    let Ok(journal) = Box::new(rt.alloc(), Journal::new(rt.alloc())) else {
+        return no_memory;
+    };
+    let Ok(watch) = Box::new(rt.alloc(), Watch::new(rt.alloc(), first)) else {
+        return no_memory;
+    };
+    let mut listeners: Vec<Box<dyn Listener>> = Vec::new(rt.alloc());
+    if listeners.push(journal).is_err() || listeners.push(watch).is_err() {
+        return no_memory;
+    }
     let mut shelf = FileShelf::new(&rt);
     let mut input = StdSource::new(rt.stdin());
     let mut out = StdSink::new(rt.stdout());

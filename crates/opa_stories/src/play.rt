@@ -43,14 +43,11 @@ fn other_file(alloc: Global, story: &Story, shelf: &MemShelf) -> Result<Option<D
     Ok(None)
 }
 
-/// A journal of all changes, and a watch on one attribute.
-fn listeners(alloc: Global, watched: u32) -> Result<Vec<Box<dyn Listener>>, NoMemory> {
+/// The attribute that a watch looks at.
+fn watched(alloc: Global, attribute: u32) -> Result<List<AttrId>, NoMemory> {
     let mut attrs = List::new(alloc);
-    attrs.push(AttrId(watched))?;
-    let mut listeners: Vec<Box<dyn Listener>> = Vec::new(alloc);
-    listeners.push(Box::new(alloc, Journal::new(alloc))?)?;
-    listeners.push(Box::new(alloc, Watch::new(alloc, attrs))?)?;
-    Ok(listeners)
+    attrs.push(AttrId(attribute))?;
+    Ok(attrs)
 }
 
 /// Runs what the story asks for. Answers what differs, where something does.
@@ -64,7 +61,11 @@ pub fn play(alloc: Global, story: &Story) -> Result<Option<Difference>, Fault> {
     let mut source = MemSource::new(input, reads, story.read.max(1));
     let writes = failing.writes.as_slice().to_vec(alloc)?;
     let mut sink = MemSink::new(alloc, writes, story.written.max(1));
-    let mut listeners = listeners(alloc, story.watched)?;
+    // A journal of all changes, and a watch on one attribute.
+    let mut listeners: Vec<Box<dyn Listener>> = Vec::new(alloc);
+    listeners.push(Box::new(alloc, Journal::new(alloc))?)?;
+    let watched = watched(alloc, story.watched)?;
+    listeners.push(Box::new(alloc, Watch::new(alloc, watched))?)?;
     let status = run(
         alloc,
         &story.words,
