@@ -15,11 +15,11 @@ fn words(rt: &(impl Env + AllocGlobal)) -> io::Result<Vec<String>> {
     Ok(env::args(rt)?.collect(rt.alloc())?)
 }
 
-/// The first declared attribute.
-fn first_attribute(alloc: Global) -> Result<List<AttrId>, NoMemory> {
-    let mut attrs = List::new(alloc);
-    attrs.push(AttrId(0))?;
-    Ok(attrs)
+/// A watch on the first declared attribute.
+fn watch(alloc: Global) -> Result<Watch, NoMemory> {
+    let mut first = List::new(alloc);
+    first.push(AttrId(0))?;
+    Ok(Watch::new(alloc, first))
 }
 
 /// With a journal of all changes, and a watch on the first declared attribute.
@@ -28,13 +28,13 @@ fn main(rt: HostRuntime) -> ExitCode {
     let Ok(words) = words(&rt) else {
         return no_memory;
     };
-    let Ok(first) = first_attribute(rt.alloc()) else {
+    let Ok(watch) = watch(rt.alloc()) else {
         return no_memory;
     };
     let Ok(journal) = Box::new(rt.alloc(), Journal::new(rt.alloc())) else {
         return no_memory;
     };
-    let Ok(watch) = Box::new(rt.alloc(), Watch::new(rt.alloc(), first)) else {
+    let Ok(watch) = Box::new(rt.alloc(), watch) else {
         return no_memory;
     };
     let mut listeners: Vec<Box<dyn Listener>> = Vec::new(rt.alloc());

@@ -43,11 +43,11 @@ fn other_file(alloc: Global, story: &Story, shelf: &MemShelf) -> Result<Option<D
     Ok(None)
 }
 
-/// The attribute that a watch looks at.
-fn watched(alloc: Global, attribute: u32) -> Result<List<AttrId>, NoMemory> {
+/// A watch on one attribute.
+fn watch(alloc: Global, attribute: u32) -> Result<Watch, NoMemory> {
     let mut attrs = List::new(alloc);
     attrs.push(AttrId(attribute))?;
-    Ok(attrs)
+    Ok(Watch::new(alloc, attrs))
 }
 
 /// Runs what the story asks for. Answers what differs, where something does.
@@ -64,8 +64,8 @@ pub fn play(alloc: Global, story: &Story) -> Result<Option<Difference>, Fault> {
     // A journal of all changes, and a watch on one attribute.
     let mut listeners: Vec<Box<dyn Listener>> = Vec::new(alloc);
     listeners.push(Box::new(alloc, Journal::new(alloc))?)?;
-    let watched = watched(alloc, story.watched)?;
-    listeners.push(Box::new(alloc, Watch::new(alloc, watched))?)?;
+    let watch = watch(alloc, story.watched)?;
+    listeners.push(Box::new(alloc, watch)?)?;
     let status = run(
         alloc,
         &story.words,
