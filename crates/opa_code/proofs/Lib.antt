@@ -1,14 +1,10 @@
-pub mod Choosing
 pub mod CodeLaws
 pub mod Compiled
 pub mod Concluding
-pub mod Halving
 pub mod Inverting
-pub mod Operating
 pub mod Placed
 pub mod RunnableLaws
 pub mod Sizing
 pub mod Standing
 pub mod Stepping
-pub mod Tallying
 pub mod TreeLines

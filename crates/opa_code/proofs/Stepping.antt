@@ -11,7 +11,7 @@ use Rattle.opa_window.specs.Days.{day_value}
 use Rattle.opa_mean.specs.Looks.{Look}
 use Rattle.opa_mean.specs.Meaning.{Meaning, each, item}
 use Rattle.opa_mean.proofs.Values.{items_more}
-use Rattle.opa_code.specs.Lines.{Stand, values_at}
+use Rattle.opa_across.specs.Lines.{Stand, values_at}
 use Rattle.opa_code.specs.Running.{Run, IsStep, put, over_meaning}
 use Rattle.opa_code.specs.Steps.{Keeps, Leaves, operand_at, over_at, IsQuantified, AreItems}
 use Rattle.opa_code.specs.declared.node.Node.{Node}

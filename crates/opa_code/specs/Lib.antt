@@ -1,12 +1,9 @@
-pub mod Choices
 pub mod Codes
 pub mod Coding
 pub mod Fresh
 pub mod Laws
-pub mod Lines
 pub mod Rulebases
 pub mod Runnable
 pub mod Running
 pub mod Samples
 pub mod Steps
-pub mod Tallies

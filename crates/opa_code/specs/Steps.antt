@@ -9,7 +9,7 @@ use Rattle.opa_cells.specs.Instances.{named}
 use Rattle.opa_cells.specs.declared.instance.InstanceId.{InstanceId}
 use Rattle.opa_mean.specs.Looks.{Look}
 use Rattle.opa_mean.specs.Meaning.{Meaning, each, item, over}
-use Rattle.opa_code.specs.Lines.{Stand, values_at}
+use Rattle.opa_across.specs.Lines.{Stand, values_at}
 use Rattle.opa_code.specs.Running.{Run, over_meaning}
 use Rattle.opa_code.specs.declared.node.Node.{Node}
 use Rattle.opa_code.specs.declared.node.Node.TheVariants as node

@@ -6,13 +6,13 @@ ghost use Rattle.opa_line.specs.Lines.{StandsFor};
 ghost use Rattle.opa_mean.specs.Meaning as meant;
 ghost use Rattle.opa_value.specs.Truth.{not_of};
 ghost use Rattle.opa_mean.specs.Places.{place};
-ghost use Rattle.opa_code.specs.Lines.{Stand, meaning_of};
+ghost use Rattle.opa_across.specs.Lines.{Stand, meaning_of};
 ghost use Rattle.opa_code.specs.Running.{IsStep, node_meaning, operand_count as count_of, put, sole, chosen};
 
-use crate::gathering::Gathering;
-use crate::lines::{certain_line, choice_line, gathered, known_line, not_line, op_line, same_line};
+use opa_across::Gathering;
+use opa_across::{certain_line, choice_line, gathered, known_line, not_line, op_line, same_line};
 use crate::node::Node;
-use crate::windows::{rolling_line, window_line};
+use opa_across::{rolling_line, window_line};
 use opa_case::InstanceId;
 use opa_io::NoMemory;
 use opa_line::Line;

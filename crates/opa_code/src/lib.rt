@@ -2,24 +2,15 @@
 #![tactic(auto)]
 
 mod carry;
-mod choice;
 mod code;
 mod derive;
 mod gather;
-mod gathering;
 mod laws;
-mod lines;
-mod marks;
 mod node;
-mod operations;
-mod peaks;
 mod rule_code;
 mod rules;
 mod run;
-mod sums;
-mod tally;
 mod tree_lines;
-mod windows;
 
 pub use code::Code;
 pub use laws::code_is_short;

@@ -4,12 +4,12 @@ ghost use Rattle.opa_cells.specs.Instances.{named};
 ghost use Rattle.opa_date.specs.declared.TheConstants.{DAYS};
 ghost use Rattle.opa_line.specs.Lines.{StandsFor};
 ghost use Rattle.opa_mean.specs.Meaning as meant;
-ghost use Rattle.opa_code.specs.Lines.{Stand, meaning_of, values_at};
+ghost use Rattle.opa_across.specs.Lines.{Stand, meaning_of, values_at};
 ghost use Rattle.opa_code.specs.Running.{IsStep, node_meaning, operand_count as count_of, put, sole, chosen};
 ghost use Rattle.opa_code.specs.Steps.{AreItems, IsListed, IsOver, IsQuantified, Keeps, Leaves, operand_at, over_at};
 
 use crate::carry::{add, behind, carry_out};
-use crate::lines::{item_line, quantified};
+use opa_across::{item_line, quantified};
 use crate::node::Node;
 use opa_case::InstanceId;
 use opa_io::{List, NoMemory, Txt, front};

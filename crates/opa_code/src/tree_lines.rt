@@ -10,7 +10,7 @@ ghost use Rattle.opa_code.specs.Fresh.{IsLeft, fresh_value};
 ghost use Rattle.opa_code.specs.Runnable.{can_run as runs};
 
 use crate::gather::gather;
-use crate::lines::first_line;
+use opa_across::first_line;
 use crate::node::Node;
 use crate::run::run;
 use opa_case::InstanceId;

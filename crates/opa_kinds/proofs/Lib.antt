@@ -1,13 +1,13 @@
-mod Calendar
-mod Concluding
-mod LawsHold
-mod Levels
-mod Membership
-mod OperandKinds
-mod Operating
-mod Parts
-mod Passing
-mod Plain
-mod Stepping
+pub mod Calendar
+pub mod Concluding
+pub mod LawsHold
+pub mod Levels
+pub mod Membership
+pub mod OperandKinds
+pub mod Operating
+pub mod Parts
+pub mod Passing
+pub mod Plain
+pub mod Stepping
 pub mod MembersCounted
 pub mod Sieves

@@ -1,5 +1,0 @@
-use Rattle.std.proofs.Common.{length}
-use Rattle.opa_code.proofs.lines.+halves.Given as goal
-
-abbrev pub decreases-tallied : goal.decreases-tallied
-decreases-tallied l = length l.lines.now
