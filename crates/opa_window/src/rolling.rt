@@ -18,7 +18,6 @@ use std::alloc::Global;
 /// All of x over the days that end with the day itself, so many of them.
 pub fn rolling_always(alloc: Global, days: u32, x: &Line<Value>) -> Result<Line<Value>, NoMemory>
     requires some { 0 < days }
-    requires few { days ≤ 36600 }
     ensures { IfOk result (StandsFor DAYS (meant.rolling_always days (day_value x.now))) }
 {
     rolling(alloc, days, x, false)
@@ -27,7 +26,6 @@ pub fn rolling_always(alloc: Global, days: u32, x: &Line<Value>) -> Result<Line<
 /// Any of x over the days that end with the day itself, so many of them.
 pub fn rolling_sometimes(alloc: Global, days: u32, x: &Line<Value>) -> Result<Line<Value>, NoMemory>
     requires some { 0 < days }
-    requires few { days ≤ 36600 }
     ensures { IfOk result (StandsFor DAYS (meant.rolling_sometimes days (day_value x.now))) }
 {
     rolling(alloc, days, x, true)
@@ -41,7 +39,6 @@ fn rolling(
     decided: bool,
 ) -> Result<Line<Value>, NoMemory>
     requires some { 0 < days }
-    requires few { days ≤ 36600 }
     ensures { IfOk result (StandsFor DAYS (λ d. tables.table_of decided (last_days days (day_value x.now) d))) }
 {
     let found = recently(alloc, days, mark_of(decided), x)?;
@@ -84,11 +81,10 @@ fn unless_found(alloc: Global, decided: bool, found: bool, other: &Value) -> Res
 /// Whether a value with the mark stands on one of the last days.
 fn recently(alloc: Global, days: u32, mark: Mark, x: &Line<Value>) -> Result<Line<bool>, NoMemory>
     requires some { 0 < days }
-    requires few { days ≤ 36600 }
     ensures { IfOk result (StandsFor DAYS (seen days (λ d. meant_mark mark (day_value x.now d)))) }
 {
     let mut out = Builder::new(alloc);
-    let mut fades = 0;
+    let mut fades: u64 = 0;
     let mut rest = x.segments();
     while let [p, after @ ..] = rest {
         let to = start_of(after);
@@ -101,17 +97,20 @@ fn recently(alloc: Global, days: u32, mark: Mark, x: &Line<Value>) -> Result<Lin
 }
 
 /// The first day on which nothing before the day `to` is recent.
-fn fade(fades: u32, to: u32, days: u32, on: bool) -> u32
+fn fade(fades: u64, to: u32, days: u32, on: bool) -> u64
     requires some { 0 < days }
-    requires few { days ≤ 36600 }
     requires below { to ≤ DAYS }
     ensures { result ≡ cond on (to + days - 1) fades }
 {
-    if on { to + days - 1 } else { fades }
+    if on {
+        u64::from(to) + u64::from(days) - 1
+    } else {
+        fades
+    }
 }
 
 /// True up to the day `to`, or where it is off, up to the day where it fades.
-fn fill(out: &mut Builder<bool>, fades: u32, to: u32, on: bool) -> Result<(), NoMemory>
+fn fill(out: &mut Builder<bool>, fades: u64, to: u32, on: bool) -> Result<(), NoMemory>
     requires below { to ≤ DAYS }
     requires order { out.now.0 < to }
     ensures { OnOk result (Reaches out.old to (λ d. on || nat_lt d fades) out.new) }
@@ -119,7 +118,7 @@ fn fill(out: &mut Builder<bool>, fades: u32, to: u32, on: bool) -> Result<(), No
     if on {
         out.until(to, true)
     } else {
-        let end = if fades < to { fades } else { to };
+        let end = if fades < u64::from(to) { fades as u32 } else { to };
         out.until(end, true)?;
         out.until(to, false)
     }

@@ -9,5 +9,5 @@ use Rattle.opa_code.proofs.carry.rolling_sole.Goals as goal
 pub returns : goal.returns
 returns c =
     let x = c.in_ok-x.x in
-    ok_weaker c.rolling_line.result _ _ (λ l h enclosing few. stands_same l _ _
-    (rolling_same enclosing c.args.always c.args.days (day_value x) (sole (map meaning_of c.args.operands.now) enclosing) (day_is x _ (c.in_ok-x.ensures enclosing))) (h few)) c.rolling_line.ensures
+    ok_weaker c.rolling_line.result _ _ (λ l h enclosing _. stands_same l _ _
+    (rolling_same enclosing c.args.always c.args.days (day_value x) (sole (map meaning_of c.args.operands.now) enclosing) (day_is x _ (c.in_ok-x.ensures enclosing))) h) c.rolling_line.ensures
