@@ -1,18 +1,12 @@
 -- The first lines: slots rise by rank, so that what a rule mentions was derived before.
 use Rattle.std.proofs.Common.{◌≡◌, ◌⊎◌, inl, inr, ℕ, zero, suc, ◌+◌, ◌<◌, ◌≤◌, Bool, true, false, cond, List, [], ◌∷◌, ◌++◌, map, filter, flat_map, length, take, get_or, Option, None, Some, Bor, is_some, Contains, refl, sym, ◌∙◌, ap, subst, arith}
-use Rattle.std.specs.Prelude.{nat_le}
-use Rattle.std.specs.List.{list_all}
 use Rattle.std.specs.Option.{option_copied, option_or}
 use Rattle.std.specs.FinMap.{get}
 use Rattle.std.proofs.Math.Seq.{take-suc}
-use Rattle.std.proofs.lemmas.Bool.{and_parts}
 use Rattle.std.proofs.lemmas.List.Elements.{Contains-append_cases, Contains-get_or}
 use Rattle.opa_date.specs.declared.TheConstants.{DAYS}
-use Rattle.opa_value.specs.declared.value.Value.{Value}
-use Rattle.opa_line.specs.Lines.{StandsFor, value_from}
-use Rattle.opa_window.specs.Days.{day_value}
+use Rattle.opa_line.specs.Lines.{StandsFor}
 use Rattle.opa_model.specs.declared.ids.AttrId.{AttrId}
-use Rattle.opa_model.specs.declared.things.Kind.{Kind}
 use Rattle.opa_cells.specs.declared.instance.InstanceId.{InstanceId}
 use Rattle.opa_case.specs.Cases.{CaseView, Answer, IsLive}
 use Rattle.opa_case.specs.Shapes.{shape_of}
@@ -45,6 +39,7 @@ use Rattle.opa_dirty.proofs.Staging.{split_line, split_some, some_stays, some_he
 use Rattle.opa_dirty.specs.declared.slot.Slot.{Slot}
 use Rattle.opa_store.specs.Stores.{AreListed, is_listed}
 use Rattle.opa_infer.specs.First.{AreFirst}
+use Rattle.opa_infer.proofs.Kinded.{line_kind}
 
 abbrev Pair : Type 0
 Pair = AttrId × InstanceId
@@ -97,20 +92,6 @@ module _ (r : Rulebase) (c : CaseView) where
 
   pub slots_rise : Ordered (NoHigher rank) (slots (base_of r) (facts_of c))
   slots_rise = ordered_flat (ByRank (base_of r)) (NoHigher rank) with_each across (λ a. one_rank a (filter (is_of (owner_of (shape_of r.model) a)) (facts_of c).instances)) (ruled (base_of r)) (ruled_rises (base_of r))
-
--- ---- kinds
-
-from_kind : (k : Kind) (v : Value) (l : Answer) → has_kind k v ≡ true → list_all (λ p. has_kind k p.1) l ≡ true → (d : ℕ) → has_kind k (value_from v l d) ≡ true
-from_kind k v [] h all d = h
-from_kind k v (p ∷ l) h all d = let both = and_parts _ _ all in go (nat_le p.0 d) (from_kind k p.1 l both.0 both.1 d)
-  where
-    go : (b : Bool) → has_kind k (value_from p.1 l d) ≡ true → has_kind k (cond b (value_from p.1 l d) v) ≡ true
-    go true g = g
-    go false g = h
-
-line_kind : (k : Kind) (l : Answer) → list_all (λ p. has_kind k p.1) l ≡ true → (d : ℕ) → has_kind k (day_value l d) ≡ true
-line_kind k [] all d = refl
-line_kind k (p ∷ l) all d = let both = and_parts _ _ all in from_kind k p.1 l both.0 both.1 d
 
 -- ---- one line more
 

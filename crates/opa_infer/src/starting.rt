@@ -1,6 +1,7 @@
 // A session begins: nothing is known.
 ghost use Rattle.std.specs.Prelude.{◌≡◌, ◌≤◌, ◌+◌, IfOk};
 ghost use Rattle.opa_case.specs.Cases.{no_case};
+ghost use Rattle.opa_mean.specs.Rulebases.{IsOf};
 ghost use Rattle.opa_infer.specs.Sessions.{rules_of, held_of, reached_of, first_slots};
 
 use crate::first::first_lines;
@@ -28,13 +29,10 @@ impl Session {
         ensures reached { IfOk result (λ s. reached_of s ≡ 0) }
         ensures bound { steps.new ≤ steps.old + first_slots base }
     {
-        // The count shows the model's form, over which the empty case fits.
-        let _count = base.model.attribute_count();
-        empty_fits();
         let code = compile(alloc, &base)?;
         let frees = Frees::of(alloc, &base)?;
         let unknown = Line::constant(alloc, Value::Unknown)?;
-        let case = Case::new(alloc);
+        let case = empty_case(alloc, &base);
         let readers = Index::of(alloc, &base, &case)?;
         let store = first_lines(alloc, &base, &code, &case, steps)?;
         Ok(Session {
@@ -48,4 +46,15 @@ impl Session {
             dirty: 0,
         })
     }
+}
+
+/// The case of which nothing is known, which fits.
+fn empty_case(alloc: Global, base: &Rulebase) -> Case
+    ensures none { result ≡ no_case }
+    ensures fits { IsOf base.now result }
+{
+    // The count shows the model's form.
+    let _count = base.model.attribute_count();
+    empty_fits();
+    Case::new(alloc)
 }
