@@ -1,5 +1,5 @@
 -- What rests on the live instances alone is the same in two cases that have the same.
-use Rattle.std.proofs.Common.{◌≡◌, ◌∙◌, ℕ, List, ◌∷◌, map, filter, flat_map, sym, ap, refl}
+use Rattle.std.proofs.Common.{◌≡◌, ◌∙◌, ℕ, List, ◌∷◌, map, filter, flat_map, sym, ap}
 use Rattle.opa_model.specs.declared.ids.AttrId.{AttrId}
 use Rattle.opa_cells.specs.Instances.{global}
 use Rattle.opa_cells.specs.declared.instance.InstanceId.{InstanceId}

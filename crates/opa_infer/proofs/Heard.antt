@@ -6,7 +6,7 @@ use Rattle.opa_listen.specs.Listening.{ListenerView}
 use Rattle.opa_listen.specs.Hearing.{Hearer, hearer, hearing}
 use Rattle.opa_listen.specs.Telling.{HasRoomOf, EachKeeps, each_watched, AreTold}
 use Rattle.opa_listen.proofs.HearingLaws.{same_hearers, told_hearers}
-use Rattle.opa_listen.proofs.Readiness.{keeping_is_told, same_watched}
+use Rattle.opa_listen.proofs.Readiness.{keeping_is_told}
 use Rattle.opa_listen.proofs.ToldLaws.{told_before}
 use Rattle.opa_case.specs.Cases.{CaseView}
 use Rattle.opa_tree.specs.declared.rulebase.Rulebase.{Rulebase}

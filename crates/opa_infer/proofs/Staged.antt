@@ -1,5 +1,5 @@
 -- The staged slots have all changes.
-use Rattle.std.proofs.Common.{◌≡◌, true, is_some, List, map, Contains, sym, ◌∙◌, ap, subst}
+use Rattle.std.proofs.Common.{◌≡◌, true, List, Contains, sym, ◌∙◌, ap, subst}
 use Rattle.std.specs.Prelude.{◌&&◌}
 use Rattle.std.proofs.lemmas.Bool.{and_parts}
 use Rattle.opa_model.specs.declared.ids.AttrId.{AttrId}

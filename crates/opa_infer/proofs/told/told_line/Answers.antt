@@ -1,4 +1,4 @@
-use Rattle.std.proofs.Common.{Option, Bor, subst, sym}
+use Rattle.std.proofs.Common.{Option, Bor, subst}
 use Rattle.std.specs.Option.{option_copied}
 use Rattle.opa_case.specs.Cases.{Answer}
 use Rattle.opa_infer.specs.Ready.{IsFound}

@@ -6,7 +6,6 @@ use Rattle.opa_dirty.specs.Settling.{AreCurrent, AreReaders}
 use Rattle.opa_readers.specs.Indexes.{readers_in}
 use Rattle.opa_store.specs.Nexts.{answered}
 use Rattle.opa_store.specs.Stores.{kept_of}
-use Rattle.opa_infer.specs.Sessions.{Tells}
 use Rattle.opa_infer.proofs.Accepted.{unruled}
 use Rattle.opa_infer.proofs.Heard.{tells, tells_to}
 use Rattle.opa_infer.proofs.Known.{known}
