@@ -1,0 +1,5 @@
+pub mod Cuts
+pub mod Laws
+pub mod Lines
+pub mod Printed
+pub mod Spelling

@@ -1,0 +1,7 @@
+pub mod Concluding
+pub mod Ledging
+pub mod Orderly
+pub mod Reporting
+pub mod Singling
+pub mod Telling
+pub mod Upholding
