@@ -1,5 +1,5 @@
 -- A line of what is seen holds up a run exactly where it is steady on it.
-use Rattle.std.proofs.Common.{◌≡◌, ◌↔◌, ◌<◌, List, Bool, true, false, cond, IsTrue, None, Some, refl, sym, ◌∙◌, ap, arith}
+use Rattle.std.proofs.Common.{◌≡◌, ◌↔◌, ℕ, ◌<◌, ◌≤◌, List, Bool, true, false, cond, IsTrue, None, Some, refl, sym, ◌∙◌, ap, arith}
 use Rattle.std.specs.Option.{option_map}
 use Rattle.opa_date.specs.declared.TheConstants.{DAYS}
 use Rattle.opa_value.specs.declared.value.Value.{Value}

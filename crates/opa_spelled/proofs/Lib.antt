@@ -1,3 +1,4 @@
 pub mod Breaking
 pub mod Cutting
 pub mod Lining
+pub mod Whole

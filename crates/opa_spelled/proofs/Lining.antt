@@ -1,5 +1,5 @@
 -- The lines of a text, one after another.
-use Rattle.std.proofs.Common.{◌≡◌, ◌≢◌, ℕ, ◌+◌, List, [], ◌∷◌, ◌++◌, Bool, true, false, cond, not, ◌&&◌, ◌==◌, take, length, refl, sym, ◌∙◌, ap, arith, append_assoc, append-nil, length-append}
+use Rattle.std.proofs.Common.{◌≡◌, ℕ, ◌+◌, ◌<◌, List, [], ◌∷◌, ◌++◌, Bool, true, false, cond, not, ◌&&◌, ◌==◌, take, length, refl, sym, ◌∙◌, ap, arith, append_assoc, append-nil, length-append}
 use Rattle.std.proofs.lemmas.Bool.{eq-eqb, ne_eqb}
 use Rattle.opa_spelled.specs.Lines.{Lined, onto_line, with_byte, lined, with_line}
 use Rattle.opa_spelled.proofs.Cutting.{taken}
@@ -59,6 +59,17 @@ ended text front rest later line count b u r e t =
     let is : line ≡ front ++ 10 ∷ [] =
     t ∙ ap (take (count + 1)) (whole ∙ sym (append_assoc front (10 ∷ []) later)) ∙ ap (λ n. take n ((front ++ 10 ∷ []) ++ later)) (ap (λ n. n + 1) (sym u.many) ∙ sym (length-append front (10 ∷ []))) ∙ taken (front ++ 10 ∷ []) later in
     ap lined whole ∙ line_ends front later u.none ∙ ap (λ l. with_line l (lined later)) (sym is)
+
+pub ended_parts : (text front rest later line : List ℕ) (count : ℕ) (b : ℕ) → Unended text front rest count → rest ≡ b ∷ later → line ≡ take (count + 1) text → text ≡ line ++ later
+ended_parts text front rest later line count b u r t =
+    let whole : text ≡ (front ++ b ∷ []) ++ later = u.parts ∙ ap (λ x. front ++ x) r ∙ sym (append_assoc front (b ∷ []) later) in
+    let is : line ≡ front ++ b ∷ [] =
+    t ∙ ap (take (count + 1)) whole ∙ ap (λ n. take n ((front ++ b ∷ []) ++ later)) (ap (λ n. n + 1) (sym u.many) ∙ sym (length-append front (b ∷ []))) ∙ taken (front ++ b ∷ []) later in
+    whole ∙ ap (λ x. x ++ later) (sym is)
+
+pub ended_shorter : (text front rest later : List ℕ) (count : ℕ) (b : ℕ) → Unended text front rest count → rest ≡ b ∷ later → length later < length text
+ended_shorter text front rest later count b u r =
+    let n : length text ≡ length front + length (b ∷ later) = ap length (u.parts ∙ ap (λ x. front ++ x) r) ∙ length-append front (b ∷ later) in omega (arith, n)
 
 pub never_ended : (text front rest : List ℕ) (count : ℕ) → Unended text front rest count → rest ≡ [] → lined text ≡ record { lines = []; left = text }
 never_ended text front rest count u e =

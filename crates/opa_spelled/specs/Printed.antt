@@ -24,7 +24,7 @@ spot_text p = p.phrase ++ name_part p.name
 
 -- `rule FILE:LINE`
 abbrev pub place_text : List ℕ → ℕ → List ℕ
-place_text file line = codes "rule " ++ (file ++ 58 ∷ decimal line)
+place_text file line = codes "rule " ++ (file ++ (codes ":" ++ decimal line))
 
 abbrev pub origin_text : Origin → List ℕ
 origin_text (origin.Rule file line) = place_text file line
@@ -35,22 +35,30 @@ origin_text origin.Unanswered = codes "unanswered"
 abbrev pub days_text : ℕ → ℕ → List ℕ
 days_text s t = day_text s ++ (codes " to " ++ day_text t)
 
--- what follows the point of a point line, without its comma
+-- `VALUE, ORIGIN`
 abbrev pub told_text : Kind → Value → Origin → List ℕ
 told_text k v o = value_text k v ++ (codes ", " ++ origin_text o)
 
-abbrev pub point_tail : ℕ → ℕ → Kind → Value → Origin → List ℕ
-point_tail s t k v o = 32 ∷ (days_text s t ++ (codes ": " ++ told_text k v o))
+-- `POINT, DATE to DATE: VALUE, ORIGIN`
+abbrev pub placed_text : Spot → List ℕ → List ℕ → List ℕ
+placed_text p days told = spot_text p ++ (codes ", " ++ (days ++ (codes ": " ++ told)))
 
--- `POINT, DATE to DATE: VALUE, ORIGIN`, `list POINT: NAMES` and `member POINT: "NAME"`
+-- `list POINT: NAMES`
+abbrev pub members_text : Spot → Option (List (List ℕ)) → List ℕ
+members_text p names = codes "list " ++ (spot_text p ++ (codes ": " ++ names_text names))
+
+-- `member POINT: "NAME"`
+abbrev pub member_text : Spot → List ℕ → List ℕ
+member_text p n = codes "member " ++ (spot_text p ++ (codes ": " ++ quoted n))
+
 abbrev pub printed_text : Printed → List ℕ
-printed_text (printed.Point p s t k v o) = spot_text p ++ 44 ∷ point_tail s t k v o
-printed_text (printed.Members p names) = codes "list " ++ (spot_text p ++ (codes ": " ++ names_text names))
-printed_text (printed.Member p n) = codes "member " ++ (spot_text p ++ (codes ": " ++ quoted n))
+printed_text (printed.Point p s t k v o) = placed_text p (days_text s t) (told_text k v o)
+printed_text (printed.Members p names) = members_text p names
+printed_text (printed.Member p n) = member_text p n
 
 -- a line with its number and its line feed
 abbrev pub numbered_line : ℕ → Printed → List ℕ
-numbered_line n x = decimal n ++ 32 ∷ (printed_text x ++ 10 ∷ [])
+numbered_line n x = decimal n ++ (codes " " ++ (printed_text x ++ 10 ∷ []))
 
 abbrev pub end_line : List ℕ
 end_line = codes "end" ++ 10 ∷ []
@@ -66,3 +74,12 @@ head_line p d = codes "report " ++ (spot_text p ++ (codes " at " ++ (day_text d 
 -- the head, the lines from 1 on, and the end, each with its line feed
 abbrev pub report_lines : Spelled → List (List ℕ)
 report_lines r = head_line r.asked r.day ∷ numbered_lines 1 r.printed
+
+-- lines numbered from n on, one behind the other
+abbrev pub lines_text : ℕ → List Printed → List ℕ
+lines_text n [] = []
+lines_text n (x ∷ xs) = numbered_line n x ++ lines_text (n + 1) xs
+
+-- the whole text
+abbrev pub spelled_text : Spelled → List ℕ
+spelled_text r = head_line r.asked r.day ++ (lines_text 1 r.printed ++ end_line)

@@ -1,6 +1,6 @@
 -- Which texts are spelled as reports, and the first line that breaks one which isn't.
 use Rattle.std.specs.Prelude.{◌≡◌, ◌⊎◌, ℕ, Bool, true, false, not, ◌||◌, ◌==◌, ◌≤◌, ◌<◌, ◌+◌, ◌-◌, ◌^◌, List, [], ◌∷◌, ◌++◌, length, take, Option, None, Some, Contains, MatchOption, if◌then◌else◌}
-use Rattle.std.specs.List.{list_all}
+use Rattle.std.specs.List.{list_all, AllByRecursion}
 use Rattle.std.specs.Str.{IsUtf8}
 use Rattle.opa_date.specs.declared.TheConstants.{DAYS}
 use Rattle.opa_verbs.specs.Phrasing.{IsPhrase}
@@ -24,7 +24,7 @@ MayBeName (Some n) = IsName n
 
 abbrev pub AreNames : Option (List (List ℕ)) → Type 0
 AreNames None = Unit {0}
-AreNames (Some ns) = (n : List ℕ) → Contains ns n → IsName n
+AreNames (Some ns) = AllByRecursion IsName ns
 
 -- a quote, a comma and a colon stand in no phrase
 abbrev pub is_sign : ℕ → Bool

@@ -1,0 +1,3 @@
+pub mod Judging
+pub mod Named
+pub mod Naming
