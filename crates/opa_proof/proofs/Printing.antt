@@ -1,5 +1,5 @@
 -- What is named is printed so.
-use Rattle.std.proofs.Common.{◌≡◌, ℕ, zero, suc, ◌+◌, ◌<◌, ◌&&◌, List, [], ◌∷◌, ◌++◌, map, length, Bool, true, false, cond, Option, None, Some, refl, sym, ◌∙◌, ap, subst, append_assoc, arith}
+use Rattle.std.proofs.Common.{◌≡◌, ℕ, zero, suc, ◌+◌, ◌<◌, ◌≤◌, ◌&&◌, List, [], ◌∷◌, ◌++◌, map, length, Bool, true, false, cond, Option, None, Some, refl, sym, ◌∙◌, ap, subst, append_assoc, arith}
 use Rattle.std.specs.Prelude.{codes, position, slice_get, unwrap_or}
 use Rattle.std.specs.Option.{option_map, option_and_then}
 use Rattle.std.specs.Str.{bytes_eq}
@@ -181,3 +181,21 @@ module _ (b : Rulebase) where
 
   pub head_is : (p : Spot) (a : AttrId) (i : InstanceId) (d : ℕ) → asked_point b p ≡ Some (a, i) → first_line (attribute_or b.model a).phrase i d ≡ head_line p d
   head_is p a i d e = ap (λ x. codes "report " ++ (x ++ (codes " at " ++ (day_text d ++ 10 ∷ [])))) (asked_is p a i e).0
+
+-- the days of a named line are those that are printed
+pub line_days : (b : Rulebase) (x : Printed) (a : AttrId) (i : InstanceId) (s t : ℕ) (v : Value) → IsDated x → named_line b x ≡ Some (line.Point a i s t v) → (s ≤ t) × (t < DAYS)
+line_days b (printed.Point p s' t' k v' o) a i s t v d e =
+    let one = found_both (λ x. point_line b x.0 x.1 s' t' k v' o) (asked_point b p) (line.Point a i s t v) e in
+    let two = found_if (is_printed_so b one.0.0 k v' o) (line.Point one.0.0 one.0.1 s' t' v') (line.Point a i s t v) one.1.1 in
+    let first : s' ≡ s = cc two.1 in let last : t' ≡ t = cc two.1 in
+    subst (λ (n : ℕ). (n ≤ t) × (t < DAYS)) first (subst (λ (n : ℕ). (s' ≤ n) × (n < DAYS)) last (d.0, d.1.0))
+line_days b (printed.Members p names) a i s t v d e =
+    let one = found_both (λ r. option_map (λ j. line.Members r j names) (list_at b.model r p)) (relation_named b.model p.phrase) (line.Point a i s t v) e in
+    let two = found_map (λ j. line.Members one.0 j names) (list_at b.model one.0 p) (line.Point a i s t v) one.1.1 in
+    absurd (cc two.1.1)
+line_days b (printed.Member p n) a i s t v d e =
+    let one = found_both (λ r. member_line b.model r p n) (relation_named b.model p.phrase) (line.Point a i s t v) e in
+    let r = one.0 in
+    let two = found_when (relation_or b.model r).contains (option_map (λ k. line.Member r k (named (relation_or b.model r).target.0 n)) (list_at b.model r p)) (line.Point a i s t v) one.1.1 in
+    let three = found_map (λ k. line.Member r k (named (relation_or b.model r).target.0 n)) (list_at b.model r p) (line.Point a i s t v) two.1 in
+    absurd (cc three.1.1)

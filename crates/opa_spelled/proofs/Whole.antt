@@ -11,7 +11,7 @@ pub record SoFar (text head : List ℕ) (printed : List Printed) (rest : List �
   pub dated : AllByRecursion IsDated printed
 
 lines_more : (n : ℕ) (xs : List Printed) (x : Printed) → lines_text n (xs ++ x ∷ []) ≡ lines_text n xs ++ numbered_line (length xs + n) x
-lines_more n [] x = append-nil (numbered_line n x)
+lines_more n [] x = let k : n ≡ length {A = Printed} [] + n = omega arith in append-nil (numbered_line n x) ∙ ap (λ m. numbered_line m x) k
 lines_more n (y ∷ xs) x =
     let k : length xs + (n + 1) ≡ length (y ∷ xs) + n = omega arith in
     ap (λ t. numbered_line n y ++ t) (lines_more (n + 1) xs x ∙ ap (λ m. lines_text (n + 1) xs ++ numbered_line m x) k)

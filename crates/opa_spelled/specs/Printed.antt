@@ -68,8 +68,11 @@ numbered_lines n [] = end_line ∷ []
 numbered_lines n (x ∷ xs) = numbered_line n x ∷ numbered_lines (n + 1) xs
 
 -- `report POINT at DATE`
+abbrev pub dated_text : List ℕ → List ℕ → List ℕ
+dated_text point date = codes "report " ++ (point ++ (codes " at " ++ (date ++ 10 ∷ [])))
+
 abbrev pub head_line : Spot → ℕ → List ℕ
-head_line p d = codes "report " ++ (spot_text p ++ (codes " at " ++ (day_text d ++ 10 ∷ [])))
+head_line p d = dated_text (spot_text p) (day_text d)
 
 -- the head, the lines from 1 on, and the end, each with its line feed
 abbrev pub report_lines : Spelled → List (List ℕ)

@@ -1,5 +1,5 @@
 // A whole text, read line by line.
-ghost use Rattle.std.specs.Prelude.{◌≡◌, ◌<◌, ◌++◌, IfOk, IfSome};
+ghost use Rattle.std.specs.Prelude.{◌≡◌, ◌<◌, ◌++◌, ℕ, List as Seq, IfOk, IfSome};
 ghost use Rattle.std.specs.Str.{bytes_eq};
 ghost use Rattle.opa_date.specs.declared.TheConstants.{DAYS};
 ghost use Rattle.opa_spelled.specs.Dated.{IsDated};
@@ -109,7 +109,7 @@ fn lines_of(
         let number = printed.len() as u64 + 1;
         if is_text("end\n", line) {
             if !later.is_empty() {
-                return Ok(Reading::BrokenAt((number + 2) as u32));
+                return broken_at(number + 2);
             }
             return Ok(Reading::Whole(Spelled {
                 asked,
@@ -118,14 +118,23 @@ fn lines_of(
             }));
         }
         match numbered_of(alloc, number, line)? {
-            None => return Ok(Reading::BrokenAt((number + 1) as u32)),
+            None => return broken_at(number + 1),
             Some(found) => {
                 printed.push(found)?;
                 rest = later;
             }
         }
     }
-    Ok(Reading::BrokenAt((printed.len() as u64 + 2) as u32))
+    broken_at(printed.len() as u64 + 2)
+}
+
+fn broken_at(line: u64) -> Result<Reading, NoMemory>
+    ensures { (text : Seq ℕ) → IfOk result (IsReadFrom text) }
+{
+    match u32::try_from(line) {
+        Ok(line) => Ok(Reading::BrokenAt(line)),
+        Err(_) => Err(NoMemory),
+    }
 }
 
 /// The line with this number, if this is its text.

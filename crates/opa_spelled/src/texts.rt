@@ -44,11 +44,7 @@ fn point_line(alloc: Global, spot: &Spot, days: &Txt, told: &Txt) -> Result<Txt,
     Txt::from_str(alloc, text.as_str())
 }
 
-fn members_line(
-    alloc: Global,
-    spot: &Spot,
-    names: &Option<List<Txt>>,
-) -> Result<Txt, NoMemory>
+fn members_line(alloc: Global, spot: &Spot, names: &Option<List<Txt>>) -> Result<Txt, NoMemory>
     ensures { IfOk result (λ t. t ≡ meant.members_text spot.now names.now) }
 {
     let spot = spot_text(alloc, spot)?;
@@ -98,12 +94,7 @@ fn days_text(alloc: Global, first: u32, last: u32) -> Result<Txt, NoMemory>
     Txt::from_str(alloc, text.as_str())
 }
 
-fn told_text(
-    alloc: Global,
-    kind: Kind,
-    value: &Value,
-    origin: &Origin,
-) -> Result<Txt, NoMemory>
+fn told_text(alloc: Global, kind: Kind, value: &Value, origin: &Origin) -> Result<Txt, NoMemory>
     requires { IsOfCalendar value.now }
     ensures { IfOk result (λ t. t ≡ meant.told_text kind value.now origin.now) }
 {
@@ -134,7 +125,13 @@ pub(crate) fn head_text(alloc: Global, asked: &Spot, day: u32) -> Result<Txt, No
 {
     let spot = spot_text(alloc, asked)?;
     let date = date_text(alloc, day)?;
-    let text = format!(in alloc; "report {} at {}\n", spot.as_str(), date.as_str())?;
+    dated_text(alloc, &spot, &date)
+}
+
+fn dated_text(alloc: Global, point: &Txt, date: &Txt) -> Result<Txt, NoMemory>
+    ensures { IfOk result (λ t. t ≡ meant.dated_text point.now date.now) }
+{
+    let text = format!(in alloc; "report {} at {}\n", point.as_str(), date.as_str())?;
     Txt::from_str(alloc, text.as_str())
 }
 

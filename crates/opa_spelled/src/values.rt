@@ -51,11 +51,7 @@ pub(crate) fn day_in(text: &str) -> Option<u32>
 pub(crate) fn text_in(alloc: Global, text: &str) -> Result<Option<Txt>, NoMemory> {
     match front_text(alloc, text)? {
         None => Ok(None),
-        Some((inner, rest)) => Ok(if rest.is_empty() {
-            Some(inner)
-        } else {
-            None
-        }),
+        Some((inner, rest)) => Ok(if rest.is_empty() { Some(inner) } else { None }),
     }
 }
 

@@ -1,4 +1,5 @@
 pub mod Concluding
+pub mod Going
 pub mod Ledging
 pub mod Orderly
 pub mod Reporting

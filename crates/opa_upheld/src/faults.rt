@@ -1,6 +1,5 @@
 // The first line of a report that isn't held up.
-ghost use Rattle.std.specs.Prelude.{◌≡◌, ◌↔◌, ◌<◌, ◌≤◌, ◌∷◌, [], Some, true, IsTrue, IfOk, IfSome, OnOk, MatchOption, is_some};
-ghost use Rattle.std.specs.FinMap.{get};
+ghost use Rattle.std.specs.Prelude.{◌≡◌, ◌↔◌, ◌<◌, ◌≤◌, ◌∷◌, [], Some, IsTrue, IfOk, OnOk, MatchOption};
 ghost use Rattle.opa_date.specs.declared.TheConstants.{DAYS};
 ghost use Rattle.opa_case.specs.Shapes.{shape_of};
 ghost use Rattle.opa_line.specs.Lines.{StandsFor};
@@ -19,7 +18,7 @@ use crate::ledger::{Told, told_by};
 use crate::page::Page;
 use opa_cells::{Cells, InstanceId};
 use opa_date::DAYS;
-use opa_io::{List, NoMemory};
+use opa_io::{List, NoMemory, front};
 use opa_line::Line;
 use opa_mean::is_money;
 use opa_model::AttrId;
@@ -43,10 +42,14 @@ pub fn first_fault(
 {
     let told = told_by(alloc, lines)?;
     let mut kept = Cells::new(alloc);
-    for place in 0..lines.len() {
-        if !is_held_up(alloc, base, &told, &mut kept, &lines[place])? {
+    let mut place = 0;
+    let mut rest = lines;
+    while let Some((line, later)) = front(rest) {
+        if !is_held_up(alloc, base, &told, &mut kept, line)? {
             return Ok(Some(place));
         }
+        place += 1;
+        rest = later;
     }
     Ok(None)
 }
