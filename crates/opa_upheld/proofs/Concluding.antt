@@ -23,7 +23,9 @@ use Rattle.opa_report.specs.declared.lines.ReportLine.TheVariants as line
 use Rattle.opa_report.specs.Promises.{HaveDays}
 use Rattle.opa_seen.specs.Listings.{Listing}
 use Rattle.opa_seen.specs.declared.shade.Shade.{Shade}
-use Rattle.opa_seen.specs.Steady.{IsConcludedOn}
+use Rattle.opa_seen.specs.Shades.{there}
+use Rattle.opa_seen.specs.Steady.{IsConcludedOn, IsSteady}
+use Rattle.opa_seen.proofs.HoldingUp.{steady_holds}
 use Rattle.opa_seen.specs.Ways.{is_rooted}
 use Rattle.opa_upheld.specs.Faults.{IsFirstFault, concluded_shade, AreKept}
 use Rattle.opa_upheld.specs.Proofs.{IsConcluded, IsHeldUp, AreHeldUp}
@@ -56,6 +58,11 @@ one_kept b k old new a i rule l e stands kept is c j r m q g = go (eq_by_cmp cel
         (subst (λ (y : Rule). StandsFor DAYS (concluded_shade b k y c j) l) (sym rules)
         (subst (λ (y : AttrId). StandsFor DAYS (concluded_shade b k rule y j) l) (sym attr)
         (subst (λ (y : InstanceId). StandsFor DAYS (concluded_shade b k rule a y) l) (sym inst) stands)))
+
+-- what is kept tells whether a value is concluded on days
+pub concluded_holds : (b : Base) (k : Listing) (kept : ShadeMap) (a : AttrId) (i : InstanceId) (rule : Rule) (l : List (ℕ × Shade)) (s t : ℕ) (v : Value) (h : Shade) (x : Bool) → rule_of b.rules a ≡ Some rule → AreKept b k kept → get kept (a.0, i) ≡ Some l
+    → t < DAYS → h ≡ there v → (IsTrue x ↔ IsSteady l s t h) → IsTrue x ↔ IsConcludedOn b.shape k (is_money (b.shape.attribute a).kind) rule.expr (i ∷ []) s t v
+concluded_holds b k kept a i rule l s t v h x e are g within is tells = steady_holds b.shape k (is_money (b.shape.attribute a).kind) rule.expr (i ∷ []) s t v l h x within is (are a i rule l e g) tells
 
 -- ---- a line that is held up
 

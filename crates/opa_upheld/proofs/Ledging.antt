@@ -146,6 +146,9 @@ no_more : (rs : List Run) → rs ++ [] ≡ rs
 no_more [] = refl
 no_more (r ∷ rs) = ap (λ qs. r ∷ qs) (no_more rs)
 
+abbrev run_of : ℕ → ℕ → Value → Run
+run_of s t v = record { start = s; end = t; value = v }
+
 module _ (old : Told) (lines : List ReportLine) (h : Holds old lines) where
   same_lists : (x : ReportLine) → ((r : RelId) (i : InstanceId) → list_by r i x ≡ None) → (r : RelId) (i : InstanceId) → get old.lists (r.0, i) ≡ option_map kept_list (first_told (list_by r i) (lines ++ x ∷ []))
   same_lists x none r i = h.lists r i ∙ ap (option_map kept_list) (sym (first_append (list_by r i) lines x ∙ ap (option_or (first_told (list_by r i) lines)) (none r i) ∙ or_nothing (first_told (list_by r i) lines)))
@@ -156,22 +159,19 @@ module _ (old : Told) (lines : List ReportLine) (h : Holds old lines) where
   same_runs : (x : ReportLine) → ((a : AttrId) (i : InstanceId) → run_by a i x ≡ []) → (a : AttrId) (i : InstanceId) → unwrap_or (get old.runs (a.0, i)) [] ≡ runs_of a i (lines ++ x ∷ [])
   same_runs x none a i = h.runs a i ∙ sym (runs_append a i lines x ∙ ap (λ rs. runs_of a i lines ++ rs) (none a i) ∙ no_more (runs_of a i lines))
 
-  pub more_run : (a : AttrId) (i : InstanceId) (s t : ℕ) (v : Value) (runs : FinMap cell_cmp (List Run)) → runs ≡ put_run old.runs (a.0, i) (record { start = s; end = t; value = v })
+  pub more_run : (a : AttrId) (i : InstanceId) (s t : ℕ) (v : Value) (runs : FinMap cell_cmp (List Run)) → runs ≡ put_run old.runs (a.0, i) (run_of s t v)
       → Holds (record { runs = runs; lists = old.lists; containers = old.containers }) (lines ++ line.Point a i s t v ∷ [])
   more_run a i s t v runs e = record { runs = λ b j. at b j (eq_by_cmp cell_cmp (b.0, j) (a.0, i)) refl; lists = same_lists (line.Point a i s t v) (λ r j. refl); containers = same_containers (line.Point a i s t v) (λ j. refl) }
     where
-      abbrev r : Run
-      r = record { start = s; end = t; value = v }
-
-      put : (b : AttrId) (j : InstanceId) (c : Bool) → eq_by_cmp cell_cmp (b.0, j) (a.0, i) ≡ c → unwrap_or (cond c (Some (unwrap_or (get old.runs (a.0, i)) [] ++ r ∷ [])) (get old.runs (b.0, j))) [] ≡ runs_of b j lines ++ cond c (r ∷ []) []
-      put b j true q = ap (λ (k : ℕ × InstanceId). unwrap_or (get old.runs k) [] ++ r ∷ []) (sym (tells_apart cell_exact (b.0, j) (a.0, i) q)) ∙ ap (λ rs. rs ++ r ∷ []) (h.runs b j)
+      put : (b : AttrId) (j : InstanceId) (c : Bool) → eq_by_cmp cell_cmp (b.0, j) (a.0, i) ≡ c → unwrap_or (cond c (Some (unwrap_or (get old.runs (a.0, i)) [] ++ run_of s t v ∷ [])) (get old.runs (b.0, j))) [] ≡ runs_of b j lines ++ cond c (run_of s t v ∷ []) []
+      put b j true q = ap (λ (k : ℕ × InstanceId). unwrap_or (get old.runs k) [] ++ run_of s t v ∷ []) (sym (tells_apart cell_exact (b.0, j) (a.0, i) q)) ∙ ap (λ rs. rs ++ run_of s t v ∷ []) (h.runs b j)
       put b j false q = h.runs b j ∙ sym (no_more (runs_of b j lines))
 
       at : (b : AttrId) (j : InstanceId) (c : Bool) → eq_by_cmp cell_cmp (b.0, j) (a.0, i) ≡ c → unwrap_or (get runs (b.0, j)) [] ≡ runs_of b j (lines ++ line.Point a i s t v ∷ [])
       at b j c q =
-          ap (λ m. unwrap_or (get m (b.0, j)) []) e ∙ ap (λ o. unwrap_or o []) (get-insert cell_total old.runs (a.0, i) (unwrap_or (get old.runs (a.0, i)) [] ++ r ∷ []) (b.0, j))
+          ap (λ m. unwrap_or (get m (b.0, j)) []) e ∙ ap (λ o. unwrap_or o []) (get-insert cell_total old.runs (a.0, i) (unwrap_or (get old.runs (a.0, i)) [] ++ run_of s t v ∷ []) (b.0, j))
           ∙ put b j (eq_by_cmp cell_cmp (b.0, j) (a.0, i)) refl
-          ∙ ap (λ x. runs_of b j lines ++ cond x (r ∷ []) []) (same_key b.0 a.0 j i) ∙ sym (runs_append b j lines (line.Point a i s t v))
+          ∙ ap (λ x. runs_of b j lines ++ cond x (run_of s t v ∷ []) []) (same_key b.0 a.0 j i) ∙ sym (runs_append b j lines (line.Point a i s t v))
 
   pub more_list : (r : RelId) (i : InstanceId) (names : Option Names) (lists : FinMap cell_cmp Listed) → lists ≡ put_first old.lists (r.0, i) (kept_list names)
       → Holds (record { runs = old.runs; lists = lists; containers = old.containers }) (lines ++ line.Members r i names ∷ [])

@@ -82,7 +82,7 @@ list_told r i names (line.Member q j k) e = absurd (cc e)
 pub container_told : (i k : InstanceId) (y : ReportLine) → container_by i y ≡ Some k → (q : RelId) × (y ≡ line.Member q k i)
 container_told i k (line.Member q m j) e = go (is_same i j) refl e
   where
-    go : (c : Bool) → is_same i j ≡ c → cond c (Some m) None ≡ Some k → (q : RelId) × (line.Member q m j ≡ line.Member q k i)
+    go : (c : Bool) → is_same i j ≡ c → cond c (Some m) None ≡ Some k → (r : RelId) × (line.Member q m j ≡ line.Member r k i)
     go false x e = absurd (cc e)
     go true x e = let val : m ≡ k = cc e in (q, ap (λ x. line.Member q m x) (sym (same_is i j x)) ∙ ap (λ x. line.Member q x i) val)
 container_told i k (line.Point b j s t w) e = absurd (cc e)

@@ -17,7 +17,6 @@ ghost use Rattle.opa_upheld.specs.Proofs.{AreHeldUp, IsHeldUp};
 use crate::ledger::{Told, told_by};
 use crate::page::Page;
 use opa_cells::{Cells, InstanceId};
-use opa_date::DAYS;
 use opa_io::{List, NoMemory, front};
 use opa_line::Line;
 use opa_mean::is_money;
@@ -61,9 +60,10 @@ fn is_held_up(
     kept: &mut Kept,
     line: &ReportLine,
 ) -> Result<bool, NoMemory>
+    requires days { HaveDays (line.now ∷ []) }
     requires kept { AreKept (base_of base.now) (told_listing told.now) kept.old }
     ensures kept { OnOk result (AreKept (base_of base.now) (told_listing told.now) kept.new) }
-    ensures held { IfOk result (λ b. HaveDays (line.now ∷ []) → IsTrue b ↔ IsHeldUp (base_of base.now) (told_listing told.now) line.now) }
+    ensures held { IfOk result (λ b. IsTrue b ↔ IsHeldUp (base_of base.now) (told_listing told.now) line.now) }
 {
     match line {
         ReportLine::Point {
@@ -104,9 +104,11 @@ fn is_point_held_up(
     last: u32,
     value: &Value,
 ) -> Result<bool, NoMemory>
+    requires order { first ≤ last }
+    requires within { last < DAYS }
     requires kept { AreKept (base_of base.now) (told_listing told.now) kept.old }
     ensures kept { OnOk result (AreKept (base_of base.now) (told_listing told.now) kept.new) }
-    ensures held { IfOk result (λ b. first ≤ last → last < DAYS → IsTrue b ↔ IsHeldUp (base_of base.now) (told_listing told.now) (line.Point attr inst.now first last value.now)) }
+    ensures held { IfOk result (λ b. IsTrue b ↔ IsHeldUp (base_of base.now) (told_listing told.now) (line.Point attr inst.now first last value.now)) }
 {
     if !is_told_rooted(base, told, inst) {
         return Ok(false);
@@ -130,17 +132,19 @@ fn is_concluded(
     last: u32,
     value: &Value,
 ) -> Result<bool, NoMemory>
+    requires order { first ≤ last }
+    requires within { last < DAYS }
     requires rule { rule_of base.now.rules attr ≡ Some rule.now }
     requires kept { AreKept (base_of base.now) (told_listing told.now) kept.old }
     ensures kept { OnOk result (AreKept (base_of base.now) (told_listing told.now) kept.new) }
-    ensures held { IfOk result (λ b. first ≤ last → last < DAYS → IsTrue b ↔ IsConcludedOn (shape_of base.now.model) (told_listing told.now) (of_money ((shape_of base.now.model).attribute attr).kind) rule.now.expr (inst.now ∷ []) first last value.now) }
+    ensures held { IfOk result (λ b. IsTrue b ↔ IsConcludedOn (shape_of base.now.model) (told_listing told.now) (of_money ((shape_of base.now.model).attribute attr).kind) rule.now.expr (inst.now ∷ []) first last value.now) }
 {
     keep_line(alloc, base, told, kept, attr, rule, inst)?;
     match kept.get(attr.0, inst) {
         None => Err(NoMemory),
         Some(line) => {
             let there = Shade::there(value.copy(alloc)?);
-            Ok(first <= last && last < DAYS && is_steady(line, first, last, &there))
+            Ok(is_steady(line, first, last, &there))
         }
     }
 }
