@@ -23,7 +23,9 @@ use Rattle.opa_spelled.specs.Dated.{IsDated}
 use Rattle.opa_spelled.specs.Printed.{lines_text, end_line}
 use Rattle.opa_spelled.specs.Reading.{IsTextOf}
 use Rattle.opa_upheld.specs.Proofs.{AreHeldUp}
-use Rattle.opa_upheld.proofs.Orderly.{held_up_supports_holds}
+use Rattle.opa_upheld.proofs.Orderly.{held_up_supports_holds, reports_are_held_up_holds}
+use Rattle.opa_mean.specs.Rulebases.{value_at}
+use Rattle.opa_proof.specs.Laws.{ReportsAreUpheld}
 use Rattle.opa_proof.specs.Judging.{IsTextOfReport, asked_value, IsUpheld, Judges, IsSupported}
 use Rattle.opa_proof.specs.Named.{IsFirstUnnamed}
 use Rattle.opa_proof.specs.Naming.{named_line, asked_point, AreNamed, point_line, named_point, named_members, named_member, member_line, point_at, list_at}
@@ -97,3 +99,8 @@ supported r text v j e = go (subst (Judges r text) e j)
       listed = u.listed;
       supports = held_up_supports_holds r u.report.lines u.held u.report.attr u.report.inst u.report.day u.value u.listed;
     }
+
+pub reports_are_upheld_holds : ReportsAreUpheld
+reports_are_upheld_holds r c is x live entries days printable =
+    let h = reports_are_held_up_holds r c is x live entries days in
+    record { report = x; told = record { is = refl; printable = printable }; held = h.0; value = value_at r c x.attr x.inst x.day; listed = h.1 }

@@ -1,6 +1,6 @@
 -- What is kept of the lines of a report, line by line.
 use Rattle.std.proofs.Common.{◌≡◌, ◌⊎◌, inl, inr, ℕ, List, [], ◌∷◌, ◌++◌, Bool, true, false, cond, Option, None, Some, refl, sym, ◌∙◌, ap, subst, take, get_or, ◌<◌, length}
-use Rattle.std.specs.Prelude.{◌&&◌, ◌==◌, nat_le, unwrap_or}
+use Rattle.std.specs.Prelude.{◌&&◌, ◌==◌, nat_le, unwrap_or, Result, Ok, Err, OnOk}
 use Rattle.std.specs.FinMap.{FinMap, get, insert, empty, get-insert, get-empty}
 use Rattle.std.specs.Option.{option_map, option_or}
 use Rattle.std.proofs.lemmas.Bool.{eqb-true, eq-eqb, and_parts, and_from}
@@ -122,10 +122,10 @@ both_ways false false f g = refl
 same_key : (a b : ℕ) (i j : InstanceId) → eq_by_cmp cell_cmp (a, i) (b, j) ≡ ((a == b) && is_same i j)
 same_key a b i j = both_ways (eq_by_cmp cell_cmp (a, i) (b, j)) ((a == b) && is_same i j)
     (λ h. let e = tells_apart cell_exact (a, i) (b, j) h in
-      subst (λ (k : ℕ × InstanceId). ((a == k.0) && is_same i k.1) ≡ true) e (and_from (a == a) (is_same i i) (eq-eqb a a refl) (same_itself i)))
+    subst (λ (k : ℕ × InstanceId). ((a == k.0) && is_same i k.1) ≡ true) e (and_from (a == a) (is_same i i) (eq-eqb a a refl) (same_itself i)))
     (λ h. let two = and_parts (a == b) (is_same i j) h in
-      let n : a ≡ b = eqb-true a b two.0 in let m : i ≡ j = same_is i j two.1 in
-      subst (λ (x : ℕ). eq_by_cmp cell_cmp (a, i) (x, j) ≡ true) n (subst (λ (x : InstanceId). eq_by_cmp cell_cmp (a, i) (a, x) ≡ true) m (itself (a, i))))
+    let n : a ≡ b = eqb-true a b two.0 in let m : i ≡ j = same_is i j two.1 in
+    subst (λ (x : ℕ). eq_by_cmp cell_cmp (a, i) (x, j) ≡ true) n (subst (λ (x : InstanceId). eq_by_cmp cell_cmp (a, i) (a, x) ≡ true) m (itself (a, i))))
 
 got_first : {V : Type 0} (m : FinMap cell_cmp V) (k : ℕ × InstanceId) (v : V) (j : ℕ × InstanceId) → get (put_first m k v) j ≡ option_or (get m j) (cond (eq_by_cmp cell_cmp j k) (Some v) None)
 got_first {V} m k v j = go (get m k) refl (eq_by_cmp cell_cmp j k) refl
@@ -218,3 +218,7 @@ runs_shade (r ∷ rs) d = go (nat_le r.start d && nat_le d r.end) (runs_shade rs
     go : (c : Bool) → runs_at rs d ≡ shade_of (runs_told rs d) → first_there (cond c (there r.value) gone) (runs_at rs d) ≡ shade_of (option_or (cond c (Some r.value) None) (runs_told rs d))
     go true e = refl
     go false e = e
+
+pub on_ok : {T E : Type 0} (r : Result T E) (P Q : Type 0) → (P → Q) → OnOk r P → OnOk r Q
+on_ok (Ok x) P Q f h = f h
+on_ok (Err e) P Q f h = tt

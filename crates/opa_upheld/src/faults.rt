@@ -115,7 +115,9 @@ fn is_point_held_up(
     }
     match base.rules.of(attr) {
         None => Ok(true),
-        Some(rule) => is_concluded(alloc, base, told, kept, attr, rule, inst, first, last, value),
+        Some(rule) => is_concluded(
+            alloc, base, told, kept, attr, rule, inst, first, last, value,
+        ),
     }
 }
 

@@ -97,12 +97,7 @@ fn runs_at<'a>(told: &'a Told, attr: AttrId, inst: &InstanceId) -> &'a [Run]
 }
 
 /// What is told of a list.
-fn list_at(
-    alloc: Global,
-    told: &Told,
-    rel: RelId,
-    inst: &InstanceId,
-) -> Result<Listed, NoMemory>
+fn list_at(alloc: Global, told: &Told, rel: RelId, inst: &InstanceId) -> Result<Listed, NoMemory>
     ensures { IfOk result (λ l. l ≡ names_or ((told_listing told.now).members rel inst.now)) }
 {
     match told.lists.get(rel.0, inst) {

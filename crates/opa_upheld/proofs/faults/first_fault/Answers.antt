@@ -22,9 +22,9 @@ pub loop-line-preserved : goal.loop-line-preserved
 loop-line-preserved c =
     let b = base_of c.args.base.now in let line = c.in-Some.line.now in (
       going_more b c.args.lines.now c.loop-line.rest.now c.loop-line.place c.loop-line.invariant.0 line c.in-Some.later.now c.in-Some.ensures
-      (subst (λ k. IsHeldUp b k line) (told_is c.in_ok-told.told c.args.lines.now c.in_ok-told.ensures) (c.in_ok-is_held_up.ensures.held.0 c.if-not-branch.false)),
+          (subst (λ k. IsHeldUp b k line) (told_is c.in_ok-told.told c.args.lines.now c.in_ok-told.ensures) (c.in_ok-is_held_up.ensures.held.0 c.if-not-branch.false)),
       c.in_ok-is_held_up.ensures.kept,
     )
 
-pub is_held_up-requires-days : goal.is_held_up-requires-days
-is_held_up-requires-days c = have_one (base_of c.args.base.now) c.args.lines.now c.loop-line.rest.now c.loop-line.place c.loop-line.invariant.0 c.in-Some.line.now c.in-Some.later.now c.in-Some.ensures c.requires.days
+pub is_held_up-requires-clause-days : goal.is_held_up-requires-clause-days
+is_held_up-requires-clause-days c = have_one (base_of c.args.base.now) c.args.lines.now c.loop-line.rest.now c.loop-line.place c.loop-line.invariant.0 c.in-Some.line.now c.in-Some.later.now c.in-Some.ensures c.requires.days
