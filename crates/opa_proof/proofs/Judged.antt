@@ -56,6 +56,53 @@ named_each b (y ∷ xs) (l ∷ ls) h x there e = at (contains_cases y x xs there
     at (inl q) rest = cc (h.0, ap (named_line b) q, e)
     at (inr k) rest = rest k
 
+-- those before a place are named
+pub record Walked (b : Rulebase) (printed rest : List Printed) (lines : List ReportLine) (n : ℕ) : Type 0 where
+  pub before : List Printed
+  pub parts : printed ≡ before ++ rest
+  pub many : length before ≡ n
+  pub are_named : AreNamed b before lines
+  pub dated : AllByRecursion IsDated rest
+
+pub walked_none : (b : Rulebase) (printed : List Printed) (lines : List ReportLine) → AllByRecursion IsDated printed → lines ≡ [] → Walked b printed printed lines 0
+walked_none b printed lines d e = record { before = []; parts = refl; many = refl; are_named = named_none b [] lines refl e; dated = d }
+
+at_place : (xs : List Printed) (x : Printed) (ys : List Printed) → slice_get (xs ++ x ∷ ys) (length xs) ≡ Some x
+at_place [] x ys = refl
+at_place (y ∷ xs) x ys = at_place xs x ys
+
+taken : (xs ys : List Printed) → take (length xs) (xs ++ ys) ≡ xs
+taken [] ys = refl
+taken (x ∷ xs) ys = ap (λ zs. x ∷ zs) (taken xs ys)
+
+module _ (b : Rulebase) (printed rest : List Printed) (lines : List ReportLine) (n : ℕ) (w : Walked b printed rest lines n) where
+  module _ (x : Printed) (later : List Printed) (r : rest ≡ x ∷ later) where
+    both_dated : AllByRecursion IsDated (x ∷ later)
+    both_dated = subst (λ xs. AllByRecursion IsDated xs) r w.dated
+
+    pub one_dated : IsDated x
+    one_dated = both_dated.0
+
+    pub walked_more : (l : ReportLine) (next : List ReportLine) → named_line b x ≡ Some l → next ≡ lines ++ l ∷ [] → Walked b printed later next (n + 1)
+    walked_more l next e f = record {
+      before = w.before ++ x ∷ [];
+      parts = w.parts ∙ ap (λ xs. w.before ++ xs) r ∙ sym (append_assoc w.before (x ∷ []) later);
+      many = length-append w.before (x ∷ []) ∙ ap (λ k. k + 1) w.many;
+      are_named = subst (AreNamed b (w.before ++ x ∷ [])) (sym f) (named_more b w.before lines x l w.are_named e);
+      dated = both_dated.1;
+    }
+
+    pub walked_fault : named_line b x ≡ None → IsFirstUnnamed b printed n
+    walked_fault e = record {
+      line = x;
+      stands = ap (λ k. slice_get printed k) (sym w.many) ∙ ap (λ xs. slice_get xs (length w.before)) (w.parts ∙ ap (λ xs. w.before ++ xs) r) ∙ at_place w.before x later;
+      isnt = e;
+      before = λ y there. named_each b w.before lines w.are_named y (subst (λ xs. Contains xs y) (ap (λ k. take k printed) (sym w.many) ∙ ap (take (length w.before)) w.parts ∙ taken w.before rest) there);
+    }
+
+  pub walked_done : rest ≡ [] → AreNamed b printed lines
+  walked_done e = subst (λ xs. AreNamed b xs lines) (sym (w.parts ∙ ap (λ xs. w.before ++ xs) e ∙ append-nil w.before)) w.are_named
+
 -- ---- the text of a report
 
 pub text_is : (r : Rulebase) (text : List ℕ) (s : Spelled) (a : AttrId) (i : InstanceId) (lines : List ReportLine) → IsTextOf text s → asked_point r s.asked ≡ Some (a, i) → AreNamed r s.printed lines

@@ -131,8 +131,8 @@ module _ (b : Rulebase) where
       let place = bytes_same (told.origin_text b.files (rule_of b.rules a) v) (origin_text o) both.1 in
       subst (IsLine b (printed.Point p s t k v o)) two.1 (
         λ n. ap (λ x. decimal n ++ (codes " " ++ ((x ++ (codes ", " ++ (days_text s t ++ (codes ": " ++ (value_text (attribute_or b.model a).kind v ++ (codes ", " ++ told.origin_text b.files (rule_of b.rules a) v)))))) ++ 10 ∷ []))) asked.0
-        ∙ ap (λ x. decimal n ++ (codes " " ++ ((spot_text p ++ (codes ", " ++ (days_text s t ++ (codes ": " ++ (x ++ (codes ", " ++ told.origin_text b.files (rule_of b.rules a) v)))))) ++ 10 ∷ []))) value
-        ∙ ap (λ x. decimal n ++ (codes " " ++ ((spot_text p ++ (codes ", " ++ (days_text s t ++ (codes ": " ++ (value_text k v ++ (codes ", " ++ x)))))) ++ 10 ∷ []))) place,
+            ∙ ap (λ x. decimal n ++ (codes " " ++ ((spot_text p ++ (codes ", " ++ (days_text s t ++ (codes ": " ++ (x ++ (codes ", " ++ told.origin_text b.files (rule_of b.rules a) v)))))) ++ 10 ∷ []))) value
+            ∙ ap (λ x. decimal n ++ (codes " " ++ ((spot_text p ++ (codes ", " ++ (days_text s t ++ (codes ": " ++ (value_text k v ++ (codes ", " ++ x)))))) ++ 10 ∷ []))) place,
         (asked.1, (omega (arith, d.0, d.1.0), (d.1.0, d.1.1))),
       )
 

@@ -49,23 +49,23 @@ fn judge_lines(
         Naming::Fault(place) => Ok(Verdict::Name(number_of(place)?)),
         Naming::All(lines) => {
             let day = spelled.day;
-            derive(alloc, base, text, &Report {
-                attr,
-                inst,
-                day,
-                lines,
-            })
+            derive(
+                alloc,
+                base,
+                text,
+                &Report {
+                    attr,
+                    inst,
+                    day,
+                    lines,
+                },
+            )
         }
     }
 }
 
 /// What is said of the text of a report.
-fn derive(
-    alloc: Global,
-    base: &Rulebase,
-    text: &[u8],
-    report: &Report,
-) -> Result<Verdict, NoMemory>
+fn derive(alloc: Global, base: &Rulebase, text: &[u8], report: &Report) -> Result<Verdict, NoMemory>
     requires text { IsTextOfReport base.now text.now report.now }
     requires days { HaveDays report.now.lines }
     ensures { IfOk result (Judges base.now text.now) }

@@ -10,7 +10,7 @@ ghost use Rattle.opa_proof.specs.Named.{AreNamedUpTo};
 
 use crate::shown::is_printed_so;
 use opa_cells::InstanceId;
-use opa_io::{List, NoMemory, Txt};
+use opa_io::{List, NoMemory, Txt, front};
 use opa_mean::{owner_of, source_of, target_of};
 use opa_model::{AttrId, EntityId, Kind, Model, RelId};
 use opa_report::ReportLine;
@@ -35,11 +35,15 @@ pub(crate) fn lines_named(
     ensures { IfOk result (AreNamedUpTo base.now printed.now) }
 {
     let mut lines = List::new(alloc);
-    for place in 0..printed.len() {
-        match line_named(alloc, base, &printed[place])? {
+    let mut place = 0;
+    let mut rest = printed;
+    while let Some((line, later)) = front(rest) {
+        match line_named(alloc, base, line)? {
             None => return Ok(Naming::Fault(place)),
-            Some(line) => lines.push(line)?,
+            Some(found) => lines.push(found)?,
         }
+        place += 1;
+        rest = later;
     }
     Ok(Naming::All(lines))
 }

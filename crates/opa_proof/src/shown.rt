@@ -44,12 +44,7 @@ fn kind_of(model: &Model, attr: AttrId) -> Kind
 }
 
 /// The origin of a value of an attribute.
-fn own_origin(
-    alloc: Global,
-    base: &Rulebase,
-    attr: AttrId,
-    value: &Value,
-) -> Result<Txt, NoMemory>
+fn own_origin(alloc: Global, base: &Rulebase, attr: AttrId, value: &Value) -> Result<Txt, NoMemory>
     ensures { IfOk result (λ t. t ≡ told.origin_text base.now.files (rule_of base.now.rules attr) value.now) }
 {
     match base.rules.of(attr) {

@@ -1,6 +1,9 @@
-use Rattle.std.proofs.Common.{take}
-use Rattle.opa_proof.specs.Naming.{AreNamed}
+use Rattle.std.proofs.Common.{length}
+use Rattle.opa_proof.proofs.Judged.{Walked}
 use Rattle.opa_proof.proofs.naming.lines_named.Given as goal
 
-abbrev pub invariant-loop-place : goal.invariant-loop-place
-invariant-loop-place l = AreNamed l.base (take l.place l.printed) l.lines
+abbrev pub invariant-loop-line : goal.invariant-loop-line
+invariant-loop-line l = Walked l.base l.fn.printed l.rest l.lines l.place
+
+abbrev pub decreases-loop-line : goal.decreases-loop-line
+decreases-loop-line l = length l.rest
