@@ -1,0 +1,59 @@
+-- What the verifier says of a text.
+use Rattle.std.specs.Prelude.{◌≡◌, ◌⊎◌, ℕ, ◌+◌, List, Option, None, Some}
+use Rattle.opa_value.specs.declared.value.Value.{Value}
+use Rattle.opa_model.specs.declared.ids.AttrId.{AttrId}
+use Rattle.opa_cells.specs.declared.instance.InstanceId.{InstanceId}
+use Rattle.opa_tree.specs.declared.rulebase.Rulebase.{Rulebase}
+use Rattle.opa_mean.specs.Given.{base_of}
+use Rattle.opa_mean.specs.Rulebases.{Supports}
+use Rattle.opa_report.specs.declared.lines.Report.{Report}
+use Rattle.opa_report.specs.Supporting.{Lists}
+use Rattle.opa_report_text.specs.Texts.{ArePrintable, report_text}
+use Rattle.opa_spelled.specs.declared.printed.Spelled.{Spelled}
+use Rattle.opa_spelled.specs.Reading.{IsTextOf}
+use Rattle.opa_upheld.specs.Faults.{IsFirstFault}
+use Rattle.opa_upheld.specs.Proofs.{AreHeldUp}
+use Rattle.opa_upheld.specs.Told.{listing_of}
+use Rattle.opa_proof.specs.Named.{IsFirstUnnamed}
+use Rattle.opa_proof.specs.Naming.{asked_point}
+use Rattle.opa_proof.specs.declared.verdict.Verdict.{Verdict}
+use Rattle.opa_proof.specs.declared.verdict.Verdict.TheVariants as verdict
+
+-- the text is what is printed of a report
+pub record IsTextOfReport (r : Rulebase) (text : List ℕ) (x : Report) : Type 0 where
+  pub is : report_text r x ≡ text
+  pub printable : ArePrintable r.model x
+
+-- the value that a report lists for its point
+abbrev pub asked_value : Report → Option Value
+asked_value x = (listing_of x.lines).value x.attr x.inst x.day
+
+-- the line isn't held up, and all before it are; line 1 is where the value of the report's point is listed
+abbrev pub IsNotDerivedAt : Rulebase → Report → ℕ → Type 0
+IsNotDerivedAt r x k = ((k ≡ 1) × (asked_value x ≡ None)) ⊎ ((v : Value) × ((asked_value x ≡ Some v) × ((n : ℕ) × ((k ≡ n + 2) × IsFirstFault (base_of r) x.lines n))))
+
+-- the line has a fault of names, and none before it has one
+abbrev pub IsUnnamedAt : Rulebase → Spelled → ℕ → Type 0
+IsUnnamedAt r s k = ((k ≡ 1) × (asked_point r s.asked ≡ None)) ⊎ ((p : AttrId × InstanceId) × ((asked_point r s.asked ≡ Some p) × ((n : ℕ) × ((k ≡ n + 2) × IsFirstUnnamed r s.printed n))))
+
+-- The text is a report's, each of its lines is held up, and the value of its point is listed.
+pub record IsUpheld (r : Rulebase) (text : List ℕ) : Type 0 where
+  pub report : Report
+  pub told : IsTextOfReport r text report
+  pub held : AreHeldUp (base_of r) report.lines
+  pub value : Value
+  pub listed : asked_value report ≡ Some value
+
+abbrev pub Judges : Rulebase → List ℕ → Verdict → Type 0
+Judges r text verdict.Yes = IsUpheld r text
+Judges r text (verdict.Syntax k) = Unit {0}
+Judges r text (verdict.Name k) = (s : Spelled) × (IsTextOf text s × IsUnnamedAt r s k)
+Judges r text (verdict.NotDerived k) = (x : Report) × (IsTextOfReport r text x × IsNotDerivedAt r x k)
+
+-- The text is a report's, and what it lists supports the value that it prints for the point of its first line.
+pub record IsSupported (r : Rulebase) (text : List ℕ) : Type 0 where
+  pub report : Report
+  pub told : IsTextOfReport r text report
+  pub value : Value
+  pub listed : asked_value report ≡ Some value
+  pub supports : Supports r (Lists report.lines) report.attr report.inst report.day value

@@ -1,0 +1,15 @@
+pub mod Halving
+pub mod HoldingUp
+pub mod Levels
+pub mod PartLaws
+pub mod Placed
+pub mod Revealing
+pub mod Saying
+pub mod Shading
+pub mod Showing
+pub mod Steadiness
+pub mod Trusting
+pub mod UseLevels
+pub mod Walking
+pub mod WindowKinds
+pub mod WindowLaws

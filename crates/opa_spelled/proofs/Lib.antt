@@ -1,0 +1,5 @@
+pub mod Breaking
+pub mod Cutting
+pub mod Lining
+pub mod Oks
+pub mod Whole

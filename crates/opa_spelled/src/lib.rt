@@ -1,0 +1,18 @@
+//! Which texts are spelled as reports, and what such a text says: nothing of it is looked up.
+#![tactic(auto)]
+
+mod body;
+mod cuts;
+mod laws;
+mod lines;
+mod origins;
+mod printed;
+mod reading;
+mod spots;
+mod texts;
+mod values;
+
+pub use laws::{one_first_fault, spelled_has_none};
+pub use printed::{Origin, Printed, Spelled, Spot};
+pub use reading::{Reading, read_report};
+pub use texts::origin_text;
