@@ -1,4 +1,5 @@
 pub mod Checking
+pub mod Verifying
 pub mod Generating
 pub mod Running
 pub mod Statuses

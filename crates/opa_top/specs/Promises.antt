@@ -8,11 +8,12 @@ use Rattle.opa_io.specs.declared.fault.Status.TheVariants as status
 use Rattle.opa_talk.specs.Transcript.{CutsAnywhere}
 use Rattle.opa_usage.specs.declared.reading.Mode.{Mode}
 use Rattle.opa_usage.specs.declared.reading.Mode.TheVariants as mode
-use Rattle.opa_usage.specs.Asked.{asked_of}
+use Rattle.opa_usage.specs.Asked.{asked_of, report_of}
 use Rattle.opa_top.specs.Checking.{Checks}
 use Rattle.opa_top.specs.Generating.{IsGenerated}
 use Rattle.opa_top.specs.Meaning.{Meaning}
 use Rattle.opa_top.specs.Running.{Manner, Outside, Runs, IsUnused, a_run, an_interview}
+use Rattle.opa_top.specs.Verifying.{Verifies}
 use Rattle.opa_top.specs.Statuses.{SaysUsage, Wrote, IsOnly, LeftOff, HasCause, Completes}
 
 abbrev pub words_of : List (String Global) → List (List ℕ)
@@ -45,6 +46,9 @@ pub record Promises (words : List (String Global)) (old new : Outside) (result :
   -- The mode `check` tells what the files open under the name, and reads, keeps and tells nothing.
   pub checked : (name : List ℕ) → Asks words mode.Check name → Checks old.files name old.written new.written old.takes new.takes old.writes new.writes result
   pub unused : (name : List ℕ) → Asks words mode.Check name → IsUnused old new
+  -- The mode `verify` tells whether the report in a file holds up its value; it reads, keeps and tells nothing else.
+  pub verified : (name report : List ℕ) → Asks words mode.Verify name → report_of (words_of words) ≡ Some report → Verifies old.files name report old.written new.written old.takes new.takes old.writes new.writes result
+  pub still : (name : List ℕ) → Asks words mode.Verify name → IsUnused old new
   -- In the mode `run` each line is a command, and Done means that the input was read to its end.
   pub run : (name : List ℕ) → Asks words mode.Run name → Answers a_run name old new result
   pub read_all : (name : List ℕ) → Asks words mode.Run name → result ≡ status.Done → IsAtEnd new.left

@@ -7,5 +7,6 @@ mod generating;
 mod meaning;
 mod talk;
 mod top;
+mod verifying;
 
 pub use top::run;

@@ -1,19 +1,22 @@
 // The run of the program.
-ghost use Rattle.std.specs.Prelude.{◌≡◌, ◌<◌, ◌^◌, ℕ, List, None, length, map};
+ghost use Rattle.std.specs.Prelude.{◌≡◌, ◌<◌, ◌^◌, ℕ, List, None, Some, length, map};
 ghost use Rattle.opa_listen.specs.Hearing.{hearer};
-ghost use Rattle.opa_usage.specs.Asked.{asked_of};
+ghost use Rattle.std.specs.Option.{option_map};
+ghost use Rattle.opa_usage.specs.Asked.{asked_of, report_of};
 ghost use Rattle.opa_usage.specs.declared.reading.Mode.TheVariants as modes;
 ghost use Rattle.opa_top.specs.Checking.{Checks};
 ghost use Rattle.opa_top.specs.Generating.{IsGenerated};
 ghost use Rattle.opa_top.specs.Promises.{Asks, Promises, words_of};
 ghost use Rattle.opa_top.specs.Running.{outside, IsUnused, Runs, a_run, an_interview};
 ghost use Rattle.opa_top.specs.Statuses.{SaysUsage};
+ghost use Rattle.opa_top.specs.Verifying.{Verifies};
 
 use crate::asking::open_and_ask;
 use crate::check::{check, tell};
 use crate::generating::generated;
 use crate::meaning::shown_is_meant;
 use crate::talk::open_and_talk;
+use crate::verifying::verify;
 use opa_decided::{one_opening, one_transcript};
 use opa_io::{Shelf, Sink, Source, Status, Steps};
 use opa_listen::Listener;
@@ -22,6 +25,23 @@ use std::alloc::Global;
 use std::sync::ledger::Ledger;
 
 const USAGE: &str = "usage: opa MODE NAME [NAME]\n";
+
+/// Judges a report, whose name the words have.
+fn verify_named<F: Shelf, K: Sink>(
+    alloc: Global,
+    name: &str,
+    report: Option<&str>,
+    shelf: &mut F,
+    out: &mut K,
+) -> Status
+    ensures verifies { (text : List ℕ) → option_map (λ r. r.now) report ≡ Some text → Verifies (F.files shelf.old) name.now text (K.written out.old) (K.written out.new) (F.take_faults shelf.old) (F.take_faults shelf.new) (K.faults out.old) (K.faults out.new) result }
+    ensures files { F.files shelf.new ≡ F.files shelf.old }
+{
+    match report {
+        Some(report) => verify(alloc, name, report, shelf, out),
+        None => tell(Status::Usage, out, USAGE),
+    }
+}
 
 /// Does what the words of the command line say.
 fn run_words<S: Source, F: Shelf, K: Sink, L: Ledger>(
@@ -41,6 +61,10 @@ fn run_words<S: Source, F: Shelf, K: Sink, L: Ledger>(
     ensures unused { (name : List ℕ) → Asks words.now modes.Check name → IsUnused
         (outside F.files F.take_faults F.keep_faults S.left S.faults K.written K.faults shelf.old (map (λ l. hearer (state l)) listeners.old.items) input.old out.old steps.old)
         (outside F.files F.take_faults F.keep_faults S.left S.faults K.written K.faults shelf.new (map (λ l. hearer (state l)) listeners.new.items) input.new out.new steps.new) }
+    ensures verified { (name report : List ℕ) → Asks words.now modes.Verify name → report_of (words_of words.now) ≡ Some report → Verifies (F.files shelf.old) name report (K.written out.old) (K.written out.new) (F.take_faults shelf.old) (F.take_faults shelf.new) (K.faults out.old) (K.faults out.new) result }
+    ensures still { (name : List ℕ) → Asks words.now modes.Verify name → IsUnused
+        (outside F.files F.take_faults F.keep_faults S.left S.faults K.written K.faults shelf.old (map (λ l. hearer (state l)) listeners.old.items) input.old out.old steps.old)
+        (outside F.files F.take_faults F.keep_faults S.left S.faults K.written K.faults shelf.new (map (λ l. hearer (state l)) listeners.new.items) input.new out.new steps.new) }
     ensures runs { (name : List ℕ) → Asks words.now modes.Run name → Runs a_run name
         (outside F.files F.take_faults F.keep_faults S.left S.faults K.written K.faults shelf.old (map (λ l. hearer (state l)) listeners.old.items) input.old out.old steps.old)
         (outside F.files F.take_faults F.keep_faults S.left S.faults K.written K.faults shelf.new (map (λ l. hearer (state l)) listeners.new.items) input.new out.new steps.new) result }
@@ -56,6 +80,7 @@ fn run_words<S: Source, F: Shelf, K: Sink, L: Ledger>(
             Mode::Run => open_and_talk(alloc, asked.name, shelf, listeners, steps, input, out),
             Mode::Interview => open_and_ask(alloc, asked.name, shelf, listeners, steps, input, out),
             Mode::Check => check(alloc, asked.name, shelf, out),
+            Mode::Verify => verify_named(alloc, asked.name, asked.report, shelf, out),
             Mode::Generate => generated(alloc, asked.name, shelf, input, out, listeners, steps),
         },
         Err(WordsFault::Usage) => tell(Status::Usage, out, USAGE),

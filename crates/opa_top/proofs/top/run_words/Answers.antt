@@ -1,6 +1,7 @@
 use Rattle.std.proofs.Common.{refl}
 use Rattle.opa_io.proofs.Appended.{Appends-none}
 use Rattle.opa_top.specs.Running.{Runs}
+use Rattle.opa_top.specs.Verifying.{Verifies}
 use Rattle.opa_top.proofs.CheckLaws.{not_held}
 use Rattle.opa_top.proofs.GenerateLaws.{number_dropped}
 use Rattle.opa_top.proofs.top.run_words.Goals as goal
@@ -16,3 +17,9 @@ returns-in-Err-NoMemory-clause-asks g c = λ name asks. Runs.cannot_hold (record
 
 pub returns-in-Err-NoMemory-clause-generated : goal.returns-in-Err-NoMemory-clause-generated
 returns-in-Err-NoMemory-clause-generated g c = λ number asks. number_dropped number _ _ _ refl (Appends-none _) (record { left = refl; files = refl; hearers = refl; steps = refl })
+
+pub returns-in-Err-NoMemory-clause-verified : goal.returns-in-Err-NoMemory-clause-verified
+returns-in-Err-NoMemory-clause-verified g c = λ name report asks third. Verifies.cannot_keep (Appends-none _)
+
+pub returns-in-Err-NoMemory-clause-still : goal.returns-in-Err-NoMemory-clause-still
+returns-in-Err-NoMemory-clause-still g c = λ name asks. record { left = refl; files = refl; hearers = refl; steps = refl }
