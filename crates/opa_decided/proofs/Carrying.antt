@@ -1,5 +1,5 @@
 -- A command is carried out in one way.
-use Rattle.std.proofs.Common.{◌≡◌, ℕ, List, [], map, Result, Ok, Err, refl, sym, ap, subst, ◌∙◌}
+use Rattle.std.proofs.Common.{◌+◌, ◌≡◌, ℕ, List, [], map, Result, Ok, Err, refl, sym, ap, subst, ◌∙◌}
 use Rattle.std.specs.Prelude.{Option, None, Some, MatchOption, MatchResult, slice_get}
 use Rattle.std.specs.List.{remove}
 use Rattle.std.specs.FinMap as files

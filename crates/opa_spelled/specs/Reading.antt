@@ -7,10 +7,12 @@ use Rattle.opa_spelled.specs.declared.reading.Reading.{Reading}
 use Rattle.opa_spelled.specs.declared.reading.Reading.TheVariants as reading
 use Rattle.opa_spelled.specs.Dated.{IsDated}
 use Rattle.opa_spelled.specs.Printed.{spelled_text}
+use Rattle.opa_spelled.specs.Spelling.{IsSpelled}
 
--- what is printed has this text, and its days are of the calendar
+-- what is printed has this text, and can be printed
 pub record IsTextOf (text : List ℕ) (s : Spelled) : Type 0 where
   pub is : spelled_text s ≡ text
+  pub spelled : IsSpelled s
   pub day : s.day < DAYS
   pub dated : AllByRecursion IsDated s.printed
 

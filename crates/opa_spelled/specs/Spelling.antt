@@ -1,5 +1,5 @@
 -- Which texts are spelled as reports, and the first line that breaks one which isn't.
-use Rattle.std.specs.Prelude.{◌≡◌, ◌⊎◌, ℕ, Bool, true, false, not, ◌||◌, ◌==◌, ◌≤◌, ◌<◌, ◌+◌, ◌-◌, ◌^◌, List, [], ◌∷◌, ◌++◌, length, take, Option, None, Some, Contains, MatchOption, if◌then◌else◌}
+use Rattle.std.specs.Prelude.{◌≡◌, ◌⊎◌, ℕ, Bool, true, false, not, ◌||◌, ◌==◌, ◌≤◌, ◌<◌, ◌+◌, ◌-◌, ◌^◌, List, [], ◌∷◌, ◌++◌, length, take, Option, None, Some, MatchOption, if◌then◌else◌}
 use Rattle.std.specs.List.{list_all, AllByRecursion}
 use Rattle.std.specs.Str.{IsUtf8}
 use Rattle.opa_date.specs.declared.TheConstants.{DAYS}
@@ -55,7 +55,7 @@ CanBePrinted (printed.Member p n) = IsSpot p × IsName n
 pub record IsSpelled (r : Spelled) : Type 0 where
   pub asked : IsSpot r.asked
   pub day : r.day < DAYS
-  pub printed : (x : Printed) → Contains r.printed x → CanBePrinted x
+  pub printed : AllByRecursion CanBePrinted r.printed
 
 -- a text is spelled: its lines are those of a report, and nothing is left
 abbrev pub Spells : Lined → Spelled → Type 0

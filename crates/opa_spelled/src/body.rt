@@ -1,15 +1,17 @@
 // A printed line without its number.
-ghost use Rattle.std.specs.Prelude.{◌<◌, ◌≤◌, IfOk, IfSome};
+ghost use Rattle.std.specs.Prelude.{◌<◌, ◌≤◌, ◌≡◌, true, IfOk, IfSome};
 ghost use Rattle.opa_date.specs.declared.TheConstants.{DAYS};
-ghost use Rattle.opa_text.specs.Texts.{IsOfCalendar};
-ghost use Rattle.opa_spelled.specs.Dated.{IsDated};
+ghost use Rattle.std.specs.List.{AllByRecursion};
+ghost use Rattle.opa_text.specs.Laws.{CanBeWritten};
+ghost use Rattle.opa_spelled.specs.Spelling.{AreNames, CanBePrinted, IsName, IsSpot};
 
+use crate::clean::can_be_quoted;
 use crate::cuts::{cut, past};
 use crate::origins::origin_in;
 use crate::printed::{Printed, Spot};
 use crate::spots::{name_in, spot_in};
 use crate::values::{day_in, value_in};
-use opa_io::{List, NoMemory, Txt};
+use opa_io::{List, NoMemory, Txt, front as first_of};
 use opa_model::Kind;
 use opa_text::{ReadFault, read_names};
 use opa_value::Value;
@@ -18,7 +20,7 @@ use std::str;
 
 /// The line that a text may be.
 pub(crate) fn line_in(alloc: Global, text: &[u8]) -> Result<Option<Printed>, NoMemory>
-    ensures { IfOk result (λ o. IfSome o IsDated) }
+    ensures { IfOk result (λ o. IfSome o CanBePrinted) }
 {
     match cut(text) {
         None => Ok(None),
@@ -33,11 +35,14 @@ pub(crate) fn line_in(alloc: Global, text: &[u8]) -> Result<Option<Printed>, NoM
 }
 
 fn point_in(alloc: Global, front: &[u8], rest: &[u8]) -> Result<Option<Printed>, NoMemory>
-    ensures { IfOk result (λ o. IfSome o IsDated) }
+    ensures { IfOk result (λ o. IfSome o CanBePrinted) }
 {
-    match (spot_in(alloc, front)?, days_in(rest)) {
-        (Some(spot), Some((first, last, told))) => told_in(alloc, spot, first, last, told),
-        _ => Ok(None),
+    match spot_in(alloc, front)? {
+        None => Ok(None),
+        Some(spot) => match days_in(rest) {
+            None => Ok(None),
+            Some((first, last, told)) => told_in(alloc, spot, first, last, told),
+        },
     }
 }
 
@@ -82,9 +87,10 @@ fn told_in(
     last: u32,
     told: &[u8],
 ) -> Result<Option<Printed>, NoMemory>
+    requires spot { IsSpot spot }
     requires order { first ≤ last }
     requires last { last < DAYS }
-    ensures { IfOk result (λ o. IfSome o IsDated) }
+    ensures { IfOk result (λ o. IfSome o CanBePrinted) }
 {
     match cut(told) {
         None => Ok(None),
@@ -96,7 +102,7 @@ fn told_in(
 }
 
 fn shown_in(alloc: Global, text: &[u8]) -> Result<Option<(Kind, Value)>, NoMemory>
-    ensures { IfOk result (λ o. IfSome o (λ x. IsOfCalendar x.1)) }
+    ensures { IfOk result (λ o. IfSome o (λ x. CanBeWritten x.0 x.1)) }
 {
     match str::from_utf8(text) {
         Ok(text) => value_in(alloc, text),
@@ -113,10 +119,11 @@ fn with_origin(
     value: Value,
     behind: &[u8],
 ) -> Result<Option<Printed>, NoMemory>
+    requires spot { IsSpot spot }
     requires order { first ≤ last }
     requires last { last < DAYS }
-    requires value { IsOfCalendar value }
-    ensures { IfOk result (λ o. IfSome o IsDated) }
+    requires value { CanBeWritten kind value }
+    ensures { IfOk result (λ o. IfSome o CanBePrinted) }
 {
     match text_behind(behind) {
         None => Ok(None),
@@ -143,7 +150,7 @@ fn text_behind(text: &[u8]) -> Option<&str> {
 }
 
 fn listed_in(alloc: Global, front: &[u8], rest: &[u8]) -> Result<Option<Printed>, NoMemory>
-    ensures { IfOk result (λ o. IfSome o IsDated) }
+    ensures { IfOk result (λ o. IfSome o CanBePrinted) }
 {
     match text_behind(rest) {
         None => Ok(None),
@@ -160,41 +167,77 @@ fn listed_in(alloc: Global, front: &[u8], rest: &[u8]) -> Result<Option<Printed>
 }
 
 fn members_in(alloc: Global, spot: &[u8], text: &str) -> Result<Option<Printed>, NoMemory>
-    ensures { IfOk result (λ o. IfSome o IsDated) }
+    ensures { IfOk result (λ o. IfSome o CanBePrinted) }
 {
-    match (spot_in(alloc, spot)?, names_in(alloc, text)?) {
-        (Some(spot), Some(names)) => Ok(Some(Printed::Members { spot, names })),
-        _ => Ok(None),
+    match spot_in(alloc, spot)? {
+        None => Ok(None),
+        Some(spot) => match names_in(alloc, text)? {
+            None => Ok(None),
+            Some(names) => Ok(Some(Printed::Members { spot, names })),
+        },
     }
 }
 
-fn names_in(alloc: Global, text: &str) -> Result<Option<Option<List<Txt>>>, NoMemory> {
+fn names_in(alloc: Global, text: &str) -> Result<Option<Option<List<Txt>>>, NoMemory>
+    ensures { IfOk result (λ o. IfSome o AreNames) }
+{
     if text == "unknown" {
         return Ok(Some(None));
     }
+    match known_in(alloc, text)? {
+        None => Ok(None),
+        Some(names) => Ok(Some(Some(names))),
+    }
+}
+
+fn known_in(alloc: Global, text: &str) -> Result<Option<List<Txt>>, NoMemory>
+    ensures { IfOk result (λ o. IfSome o (AllByRecursion IsName)) }
+{
     if text.len() > 4_294_967_295 {
         return Ok(None);
     }
     match read_names(alloc, text) {
         Err(ReadFault::NoMemory) => Err(NoMemory),
         Err(ReadFault::Value) => Ok(None),
-        Ok(names) => Ok(if are_some(names.as_slice()) {
-            Some(Some(names))
-        } else {
-            None
-        }),
+        Ok(names) => {
+            if !are_names(names.as_slice()) {
+                return Ok(None);
+            }
+            Ok(Some(names))
+        }
     }
 }
 
-fn are_some(names: &[Txt]) -> bool {
-    names.iter().all(|name| !name.as_str().is_empty())
+fn are_names(names: &[Txt]) -> bool
+    ensures { result ≡ true → AllByRecursion IsName names.now }
+{
+    let mut rest = names;
+    while let Some((name, later)) = first_of(rest) {
+        if !is_name(name.as_str()) {
+            return false;
+        }
+        rest = later;
+    }
+    true
+}
+
+fn is_name(text: &str) -> bool
+    ensures { result ≡ true → IsName text.now }
+{
+    if text.len() == 0 {
+        return false;
+    }
+    can_be_quoted(text)
 }
 
 fn member_in(alloc: Global, spot: &[u8], text: &str) -> Result<Option<Printed>, NoMemory>
-    ensures { IfOk result (λ o. IfSome o IsDated) }
+    ensures { IfOk result (λ o. IfSome o CanBePrinted) }
 {
-    match (spot_in(alloc, spot)?, name_in(alloc, text)?) {
-        (Some(spot), Some(name)) => Ok(Some(Printed::Member { spot, name })),
-        _ => Ok(None),
+    match spot_in(alloc, spot)? {
+        None => Ok(None),
+        Some(spot) => match name_in(alloc, text)? {
+            None => Ok(None),
+            Some(name) => Ok(Some(Printed::Member { spot, name })),
+        },
     }
 }

@@ -2,6 +2,7 @@
 #![tactic(auto)]
 
 mod body;
+mod clean;
 mod cuts;
 mod laws;
 mod lines;

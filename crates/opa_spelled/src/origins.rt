@@ -1,10 +1,16 @@
 // Where the value of a printed line comes from.
+ghost use Rattle.std.specs.Prelude.{IfOk, IfSome};
+ghost use Rattle.opa_spelled.specs.Spelling.{IsOrigin};
+
+use crate::clean::can_be_quoted;
 use crate::printed::Origin;
 use opa_io::{NoMemory, Txt};
 use std::alloc::Global;
 
 /// The origin that a text may be: its line stands behind the last colon.
-pub(crate) fn origin_in(alloc: Global, text: &str) -> Result<Option<Origin>, NoMemory> {
+pub(crate) fn origin_in(alloc: Global, text: &str) -> Result<Option<Origin>, NoMemory>
+    ensures { IfOk result (λ o. IfSome o IsOrigin) }
+{
     if text == "answer" {
         return Ok(Some(Origin::Answer));
     }
@@ -17,24 +23,26 @@ pub(crate) fn origin_in(alloc: Global, text: &str) -> Result<Option<Origin>, NoM
     }
 }
 
-fn place_in(alloc: Global, text: &str) -> Result<Option<Origin>, NoMemory> {
+fn place_in(alloc: Global, text: &str) -> Result<Option<Origin>, NoMemory>
+    ensures { IfOk result (λ o. IfSome o IsOrigin) }
+{
     match text.rsplit_once(':') {
         None => Ok(None),
         Some((file, line)) => {
-            if has_control(file.as_bytes()) {
-                return Ok(None);
-            }
             match line.parse::<u32>() {
                 Err(_) => Ok(None),
-                Ok(line) => {
-                    let file = Txt::from_str(alloc, file)?;
-                    Ok(Some(Origin::Rule { file, line }))
-                }
+                Ok(line) => file_in(alloc, file, line),
             }
         }
     }
 }
 
-fn has_control(bytes: &[u8]) -> bool {
-    bytes.iter().any(|byte| *byte < 32 || *byte == 127)
+fn file_in(alloc: Global, text: &str, line: u32) -> Result<Option<Origin>, NoMemory>
+    ensures { IfOk result (λ o. IfSome o IsOrigin) }
+{
+    if !can_be_quoted(text) {
+        return Ok(None);
+    }
+    let file = Txt::from_str(alloc, text)?;
+    Ok(Some(Origin::Rule { file, line }))
 }

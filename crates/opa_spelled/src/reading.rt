@@ -2,7 +2,7 @@
 ghost use Rattle.std.specs.Prelude.{◌≡◌, ◌<◌, ◌++◌, ℕ, List as Seq, IfOk, IfSome};
 ghost use Rattle.std.specs.Str.{bytes_eq};
 ghost use Rattle.opa_date.specs.declared.TheConstants.{DAYS};
-ghost use Rattle.opa_spelled.specs.Dated.{IsDated};
+ghost use Rattle.opa_spelled.specs.Spelling.{CanBePrinted, IsSpot};
 ghost use Rattle.opa_spelled.specs.Printed as meant;
 ghost use Rattle.opa_spelled.specs.Reading.{IsReadFrom};
 
@@ -37,7 +37,7 @@ pub fn read_report(alloc: Global, text: &[u8]) -> Result<Reading, NoMemory>
 
 /// The point and the day of the first line, if this is their text.
 fn head_of(alloc: Global, line: &[u8]) -> Result<Option<(Spot, u32)>, NoMemory>
-    ensures { IfOk result (λ o. IfSome o (λ x. (x.1 < DAYS) × (meant.head_line x.0 x.1 ≡ line.now))) }
+    ensures { IfOk result (λ o. IfSome o (λ x. IsSpot x.0 × ((x.1 < DAYS) × (meant.head_line x.0 x.1 ≡ line.now)))) }
 {
     match head_in(alloc, line)? {
         None => Ok(None),
@@ -51,8 +51,9 @@ fn head_as(
     day: u32,
     line: &[u8],
 ) -> Result<Option<(Spot, u32)>, NoMemory>
-    requires { day < DAYS }
-    ensures { IfOk result (λ o. IfSome o (λ x. (x.1 < DAYS) × (meant.head_line x.0 x.1 ≡ line.now))) }
+    requires spot { IsSpot asked }
+    requires day { day < DAYS }
+    ensures { IfOk result (λ o. IfSome o (λ x. IsSpot x.0 × ((x.1 < DAYS) × (meant.head_line x.0 x.1 ≡ line.now)))) }
 {
     let printed = head_text(alloc, &asked, day)?;
     if !is_text(printed.as_str(), line) {
@@ -68,7 +69,8 @@ fn is_text(text: &str, bytes: &[u8]) -> bool
 }
 
 fn head_in(alloc: Global, line: &[u8]) -> Result<Option<(Spot, u32)>, NoMemory>
-    ensures { IfOk result (λ o. IfSome o (λ x. x.1 < DAYS)) }
+    ensures spot { IfOk result (λ o. IfSome o (λ x. IsSpot x.0)) }
+    ensures day { IfOk result (λ o. IfSome o (λ x. x.1 < DAYS)) }
 {
     match head_parts(line) {
         None => Ok(None),
@@ -99,6 +101,7 @@ fn lines_of(
     day: u32,
     start: &[u8],
 ) -> Result<Reading, NoMemory>
+    requires asked { IsSpot asked }
     requires day { day < DAYS }
     requires start { text.now ≡ meant.head_line asked day ++ start.now }
     ensures { IfOk result (IsReadFrom text.now) }
@@ -139,7 +142,7 @@ fn broken_at(line: u64) -> Result<Reading, NoMemory>
 
 /// The line with this number, if this is its text.
 fn numbered_of(alloc: Global, number: u64, line: &[u8]) -> Result<Option<Printed>, NoMemory>
-    ensures { IfOk result (λ o. IfSome o (λ x. IsDated x × (meant.numbered_line number x ≡ line.now))) }
+    ensures { IfOk result (λ o. IfSome o (λ x. CanBePrinted x × (meant.numbered_line number x ≡ line.now))) }
 {
     match numbered_in(alloc, number, line)? {
         None => Ok(None),
@@ -153,8 +156,8 @@ fn numbered_as(
     found: Printed,
     line: &[u8],
 ) -> Result<Option<Printed>, NoMemory>
-    requires { IsDated found }
-    ensures { IfOk result (λ o. IfSome o (λ x. IsDated x × (meant.numbered_line number x ≡ line.now))) }
+    requires { CanBePrinted found }
+    ensures { IfOk result (λ o. IfSome o (λ x. CanBePrinted x × (meant.numbered_line number x ≡ line.now))) }
 {
     let printed = numbered_text(alloc, number, &found)?;
     if !is_text(printed.as_str(), line) {
@@ -164,7 +167,7 @@ fn numbered_as(
 }
 
 fn numbered_in(alloc: Global, number: u64, line: &[u8]) -> Result<Option<Printed>, NoMemory>
-    ensures { IfOk result (λ o. IfSome o IsDated) }
+    ensures { IfOk result (λ o. IfSome o CanBePrinted) }
 {
     let start = format!(in alloc; "{} ", number)?;
     match body_of(start.as_bytes(), line) {
