@@ -23,6 +23,7 @@ fn status_of(verdict: Verdict) -> Status
 }
 
 /// Judges the report in a file, and tells what is said of it.
+#[tactic(auto, using(crate::proofs::VerifyLaws::judging))]
 fn judge_file<F: Shelf, K: Sink>(
     alloc: Global,
     base: &Rulebase,
