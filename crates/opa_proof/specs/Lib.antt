@@ -2,3 +2,4 @@ pub mod Judging
 pub mod Laws
 pub mod Named
 pub mod Naming
+pub mod Telling

@@ -1,20 +1,24 @@
 // What is said of a text that was read.
-ghost use Rattle.std.specs.Prelude.{◌≡◌, ◌+◌, Some, IfOk};
-ghost use Rattle.opa_mean.specs.Given.{base_of};
+ghost use Rattle.std.specs.Prelude.{◌≡◌, ◌+◌, None, Some, IfOk};
+ghost use Rattle.std.specs.Option.{option_copied};
 ghost use Rattle.opa_report.specs.Promises.{HaveDays};
 ghost use Rattle.opa_spelled.specs.Reading.{IsTextOf};
-ghost use Rattle.opa_proof.specs.Judging.{IsTextOfReport, Judges};
+ghost use Rattle.opa_proof.specs.Judging.{IsTextOfReport};
 ghost use Rattle.opa_proof.specs.Naming.{asked_point};
+ghost use Rattle.opa_proof.specs.Telling.{Tells};
+ghost use Rattle.opa_upheld.specs.Told.{listing_of, value_by};
 
 use crate::naming::{Naming, asked_named, lines_named};
+use crate::telling::{Told, refused, supported};
 use crate::verdict::Verdict;
 use opa_cells::InstanceId;
-use opa_io::NoMemory;
+use opa_io::{NoMemory, front};
 use opa_model::AttrId;
-use opa_report::Report;
+use opa_report::{Report, ReportLine};
 use opa_spelled::Spelled;
 use opa_tree::Rulebase;
-use opa_upheld::{first_fault, is_listed};
+use opa_upheld::first_fault;
+use opa_value::Value;
 use std::alloc::Global;
 
 /// What is said of a text that is spelled so.
@@ -23,14 +27,27 @@ pub(crate) fn judge(
     base: &Rulebase,
     text: &[u8],
     spelled: &Spelled,
-) -> Result<Verdict, NoMemory>
+) -> Result<Told, NoMemory>
     requires { IsTextOf text.now spelled.now }
-    ensures { IfOk result (Judges base.now text.now) }
+    ensures { IfOk result (λ t. Tells base.now text.now t.verdict t.text) }
 {
     match asked_named(alloc, base, &spelled.asked)? {
-        None => Ok(Verdict::Name(1)),
+        None => unnamed(alloc, base, text, spelled),
         Some((attr, inst)) => judge_lines(alloc, base, text, spelled, attr, inst),
     }
+}
+
+/// The point of the first line is none.
+fn unnamed(alloc: Global, base: &Rulebase, text: &[u8], spelled: &Spelled) -> Result<Told, NoMemory>
+    requires text { IsTextOf text.now spelled.now }
+    requires none { asked_point base.now spelled.now.asked ≡ None }
+    ensures { IfOk result (λ t. Tells base.now text.now t.verdict t.text) }
+{
+    let _base = base;
+    let _text = text;
+    let _spelled = spelled;
+    let told = refused(alloc, Verdict::Name(1))?;
+    Ok(told)
 }
 
 fn judge_lines(
@@ -40,13 +57,17 @@ fn judge_lines(
     spelled: &Spelled,
     attr: AttrId,
     inst: InstanceId,
-) -> Result<Verdict, NoMemory>
+) -> Result<Told, NoMemory>
     requires text { IsTextOf text.now spelled.now }
     requires asked { asked_point base.now spelled.now.asked ≡ Some (attr, inst) }
-    ensures { IfOk result (Judges base.now text.now) }
+    ensures { IfOk result (λ t. Tells base.now text.now t.verdict t.text) }
 {
     match lines_named(alloc, base, spelled.printed.as_slice())? {
-        Naming::Fault(place) => Ok(Verdict::Name(number_of(place)?)),
+        Naming::Fault(place) => {
+            let line = number_of(place)?;
+            let told = refused(alloc, Verdict::Name(line))?;
+            Ok(told)
+        }
         Naming::All(lines) => {
             let day = spelled.day;
             derive(
@@ -65,19 +86,76 @@ fn judge_lines(
 }
 
 /// What is said of the text of a report.
-fn derive(alloc: Global, base: &Rulebase, text: &[u8], report: &Report) -> Result<Verdict, NoMemory>
+fn derive(alloc: Global, base: &Rulebase, text: &[u8], report: &Report) -> Result<Told, NoMemory>
     requires text { IsTextOfReport base.now text.now report.now }
     requires days { HaveDays report.now.lines }
-    ensures { IfOk result (Judges base.now text.now) }
+    ensures { IfOk result (λ t. Tells base.now text.now t.verdict t.text) }
 {
     let _text = text;
     let lines = report.lines.as_slice();
-    if !is_listed(lines, report.attr, &report.inst, report.day) {
-        return Ok(Verdict::NotDerived(1));
-    }
+    let Some(value) = listed(lines, report.attr, &report.inst, report.day) else {
+        let told = refused(alloc, Verdict::NotDerived(1))?;
+        return Ok(told);
+    };
     match first_fault(alloc, base, lines)? {
-        None => Ok(Verdict::Yes),
-        Some(place) => Ok(Verdict::NotDerived(number_of(place)?)),
+        None => {
+            let told = supported(alloc, base, report, value)?;
+            Ok(told)
+        }
+        Some(place) => {
+            let line = number_of(place)?;
+            let told = refused(alloc, Verdict::NotDerived(line))?;
+            Ok(told)
+        }
+    }
+}
+
+/// The value that lines list for a point: that of the first one that tells it.
+fn listed<'a>(
+    lines: &'a [ReportLine],
+    attr: AttrId,
+    inst: &InstanceId,
+    day: u32,
+) -> Option<&'a Value>
+    ensures { option_copied result ≡ (listing_of lines.entry.now).value attr inst.now day }
+{
+    let mut rest = lines;
+    while let Some((line, later)) = front(rest) {
+        if let Some(value) = told_by(line, attr, inst, day) {
+            return Some(value);
+        }
+        rest = later;
+    }
+    None
+}
+
+fn told_by<'a>(line: &'a ReportLine, attr: AttrId, inst: &InstanceId, day: u32) -> Option<&'a Value>
+    ensures { option_copied result ≡ value_by attr inst.now day line.entry.now }
+{
+    match line {
+        ReportLine::Point {
+            attr: own,
+            inst: place,
+            first,
+            last,
+            value,
+        } => {
+            if attr.0 == own.0 && inst.equals(place) && *first <= day && day <= *last {
+                Some(value)
+            } else {
+                None
+            }
+        }
+        ReportLine::Members {
+            rel: _,
+            inst: _,
+            names: _,
+        } => None,
+        ReportLine::Member {
+            rel: _,
+            container: _,
+            inst: _,
+        } => None,
     }
 }
 

@@ -5,9 +5,11 @@ mod judging;
 mod laws;
 mod naming;
 mod shown;
+mod telling;
 mod verdict;
 mod verifying;
 
 pub use laws::reports_are_upheld;
+pub use telling::Told;
 pub use verdict::Verdict;
-pub use verifying::verify;
+pub use verifying::{tell, verify};

@@ -33,7 +33,7 @@ pub(crate) fn is_printed_so(
     Ok(own.as_str() == shown.as_str() && place.as_str() == printed.as_str())
 }
 
-fn kind_of(model: &Model, attr: AttrId) -> Kind
+pub(crate) fn kind_of(model: &Model, attr: AttrId) -> Kind
     ensures { result ≡ (attribute_or model.now attr).kind }
 {
     if attr.0 < model.attribute_count() {

@@ -1,9 +1,11 @@
 // The verifier.
 ghost use Rattle.std.specs.Prelude.{◌≡◌, IfOk};
 ghost use Rattle.opa_proof.specs.Judging.{IsSupported, Judges};
+ghost use Rattle.opa_proof.specs.Telling.{Tells};
 ghost use Rattle.opa_proof.specs.declared.verdict.Verdict.TheVariants as verdicts;
 
 use crate::judging::judge;
+use crate::telling::{Told, refused};
 use crate::verdict::Verdict;
 use opa_io::NoMemory;
 use opa_spelled::{Reading, read_report};
@@ -16,15 +18,19 @@ pub fn verify(alloc: Global, base: &Rulebase, report: &[u8]) -> Result<Verdict, 
     ensures judged { IfOk result (Judges base.now report.now) }
     ensures supported { IfOk result (λ v. v ≡ verdicts.Yes → IsSupported base.now report.now) }
 {
-    let verdict = judged(alloc, base, report)?;
-    Ok(verdict)
+    let told = tell(alloc, base, report)?;
+    Ok(told.verdict)
 }
 
-fn judged(alloc: Global, base: &Rulebase, report: &[u8]) -> Result<Verdict, NoMemory>
-    ensures { IfOk result (Judges base.now report.now) }
+/// The verdict, with the line that is printed of it.
+pub fn tell(alloc: Global, base: &Rulebase, report: &[u8]) -> Result<Told, NoMemory>
+    ensures { IfOk result (λ t. Tells base.now report.now t.verdict t.text) }
 {
     match read_report(alloc, report)? {
-        Reading::BrokenAt(line) => Ok(Verdict::Syntax(line)),
+        Reading::BrokenAt(line) => {
+            let told = refused(alloc, Verdict::Syntax(line))?;
+            Ok(told)
+        }
         Reading::Whole(spelled) => judge(alloc, base, report, &spelled),
     }
 }

@@ -1,6 +1,7 @@
 use Rattle.std.proofs.Common.{inr, subst}
 use Rattle.opa_proof.specs.Named.{AreNamedUpTo}
 use Rattle.opa_proof.proofs.Judged.{text_is, days_are}
+use Rattle.opa_proof.proofs.Saying.{tells_name}
 use Rattle.opa_proof.proofs.judging.judge_lines.Goals as goal
 
 pub derive-requires-clause-text : goal.derive-requires-clause-text
@@ -14,8 +15,10 @@ derive-requires-clause-days c =
     let r = c.args.base.now in let s = c.args.spelled.now in
     days_are r s.printed c.in-All.lines c.requires.text.dated (subst (AreNamedUpTo r s.printed) c.in-All.is (subst (λ xs. AreNamedUpTo r xs c.in_ok-place.field-0) c.as_slice.ensures c.in_ok-place.ensures))
 
-pub returns-in_ok-number_of-in-Fault : goal.returns-in_ok-number_of-in-Fault
-returns-in_ok-number_of-in-Fault c =
+pub returns-in_ok-told-in-Fault : goal.returns-in_ok-told-in-Fault
+returns-in_ok-told-in-Fault c =
     let r = c.args.base.now in let s = c.args.spelled.now in
     let first = subst (AreNamedUpTo r s.printed) c.in-Fault.is (subst (λ xs. AreNamedUpTo r xs c.in_ok-place.field-0) c.as_slice.ensures c.in_ok-place.ensures) in
-    (s, (c.requires.text, inr ((c.args.attr, c.args.inst), (c.requires.asked, (c.in-Fault.place, (c.in_ok-number_of-in-Fault.ensures, first))))))
+    let told = c.in_ok-told-in-Fault in
+    tells_name r c.args.text.now c.in_ok-line-in-Fault.line told.told.verdict told.told.text told.ensures.verdict told.ensures.text
+    (s, (c.requires.text, inr ((c.args.attr, c.args.inst), (c.requires.asked, (c.in-Fault.place, (c.in_ok-line-in-Fault.ensures, first))))))

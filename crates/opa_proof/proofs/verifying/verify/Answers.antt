@@ -1,5 +1,9 @@
 use Rattle.opa_proof.proofs.Judged.{supported}
+use Rattle.opa_proof.proofs.Saying.{told_judges}
 use Rattle.opa_proof.proofs.verifying.verify.Goals as goal
 
+pub returns-clause-judged : goal.returns-clause-judged
+returns-clause-judged c = told_judges c.args.base.now c.args.report.now c.in_ok-told.told.verdict c.in_ok-told.told.text c.in_ok-told.ensures
+
 pub returns-clause-supported : goal.returns-clause-supported
-returns-clause-supported c = λ yes. supported c.args.base.now c.args.report.now c.in_ok-verdict.verdict c.in_ok-verdict.ensures yes
+returns-clause-supported c = λ yes. supported c.args.base.now c.args.report.now c.in_ok-told.told.verdict (told_judges c.args.base.now c.args.report.now c.in_ok-told.told.verdict c.in_ok-told.told.text c.in_ok-told.ensures) yes
