@@ -9,10 +9,11 @@ ghost use Rattle.opa_mean.specs.Places.{place};
 ghost use Rattle.opa_across.specs.Lines.{Stand, meaning_of};
 ghost use Rattle.opa_code.specs.Running.{IsStep, node_meaning, operand_count as count_of, put, sole, chosen};
 
-use opa_across::Gathering;
-use opa_across::{certain_line, choice_line, gathered, known_line, not_line, op_line, same_line};
 use crate::node::Node;
-use opa_across::{rolling_line, window_line};
+use opa_across::{
+    Gathering, certain_line, choice_line, gathered, known_line, not_line, op_line, rolling_line,
+    same_line, window_line,
+};
 use opa_case::InstanceId;
 use opa_io::NoMemory;
 use opa_line::Line;

@@ -7,8 +7,8 @@ ghost use Rattle.opa_mean.specs.Meaning.{first_value};
 ghost use Rattle.opa_across.specs.Lines.{values_at};
 
 use crate::Code;
-use opa_across::{first_line, fitted_line};
 use crate::run::run;
+use opa_across::{first_line, fitted_line};
 use opa_case::InstanceId;
 use opa_io::{List, NoMemory};
 use opa_line::Line;

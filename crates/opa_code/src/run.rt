@@ -9,8 +9,8 @@ ghost use Rattle.opa_code.specs.Running.{IsStep, node_meaning, operand_count as 
 ghost use Rattle.opa_code.specs.Steps.{AreItems, IsListed, IsOver, IsQuantified, Keeps, Leaves, operand_at, over_at};
 
 use crate::carry::{add, behind, carry_out};
-use opa_across::{item_line, quantified};
 use crate::node::Node;
+use opa_across::{item_line, quantified};
 use opa_case::InstanceId;
 use opa_io::{List, NoMemory, Txt, front};
 use opa_line::Line;

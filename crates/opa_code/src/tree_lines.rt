@@ -10,9 +10,9 @@ ghost use Rattle.opa_code.specs.Fresh.{IsLeft, fresh_value};
 ghost use Rattle.opa_code.specs.Runnable.{can_run as runs};
 
 use crate::gather::gather;
-use opa_across::first_line;
 use crate::node::Node;
 use crate::run::run;
+use opa_across::first_line;
 use opa_case::InstanceId;
 use opa_io::{List, NoMemory};
 use opa_line::{Builder, DAYS, Line};

@@ -118,7 +118,11 @@ fn fill(out: &mut Builder<bool>, fades: u64, to: u32, on: bool) -> Result<(), No
     if on {
         out.until(to, true)
     } else {
-        let end = if fades < u64::from(to) { fades as u32 } else { to };
+        let end = if fades < u64::from(to) {
+            fades as u32
+        } else {
+            to
+        };
         out.until(end, true)?;
         out.until(to, false)
     }
