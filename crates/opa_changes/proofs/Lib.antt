@@ -10,3 +10,4 @@ pub mod Rising
 pub mod Choosing
 pub mod Taking
 pub mod Unchanged
+pub mod Alive

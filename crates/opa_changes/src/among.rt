@@ -10,9 +10,11 @@ ghost use Rattle.opa_mean.specs.Given.{base_of, facts_of};
 ghost use Rattle.opa_mean.specs.Rulebases.{IsOf};
 
 use crate::attrs::attributes_of;
+use crate::lined::{HeldLines, Lined};
 use crate::marks::{marked_among, marks_of};
-use crate::tell::{changes, changes_of};
+use crate::tell::lined_changes;
 use crate::told_attrs::ToldAttrs;
+use crate::walk::live_slots;
 use opa_case::{Case, InstanceId, live_instances};
 use opa_dirty::Slot;
 use opa_io::{List, NoMemory};
@@ -34,19 +36,53 @@ pub fn changes_among<H: Held, K: Held>(
     requires slots { HaveChanges (K.rules new.now) (H.held old.now) (K.held new.now) (pairs_of slots.now) }
     ensures { IfOk result (λ told. AllZip (TellsOf (K.rules new.now).model) (meant.changes (base_of (K.rules new.now)) (facts_of (H.held old.now)) (facts_of (K.held new.now))) told.items) }
 {
-    let base = new.base();
+    let before = HeldLines { source: old };
+    let after = HeldLines { source: new };
     let case = new.case();
+    let told = changes_over(alloc, case, &before, &after, slots)?;
+    Ok(told)
+}
+
+/// The same by what tells lines. The case has the instances of the one that comes.
+pub fn changes_over<H: Lined, K: Lined>(
+    alloc: Global,
+    case: &Case,
+    old: &H,
+    new: &K,
+    slots: &[Slot],
+) -> Result<Vec<Change>, NoMemory>
+    requires same { H.rules old.now ≡ K.rules new.now }
+    requires fits { IsOf (K.rules new.now) case.now }
+    requires live { (K.over new.now).live ≡ case.now.live }
+    requires slots { HaveChanges (K.rules new.now) (H.over old.now) (K.over new.now) (pairs_of slots.now) }
+    ensures { IfOk result (λ told. AllZip (TellsOf (K.rules new.now).model) (meant.changes (base_of (K.rules new.now)) (facts_of (H.over old.now)) (facts_of (K.over new.now))) told.items) }
+{
+    let base = new.base();
+    let chosen = chosen_or_all(alloc, base, case, slots)?;
+    let items = chosen.as_slice();
+    let told = lined_changes(alloc, old, new, items)?;
+    Ok(told)
+}
+
+/// The slots in their order: those that are handed in, or all where these stand in another one.
+fn chosen_or_all(
+    alloc: Global,
+    base: &Rulebase,
+    case: &Case,
+    slots: &[Slot],
+) -> Result<List<(AttrId, InstanceId)>, NoMemory>
+    requires { IsOf base.now case.now }
+    ensures { (c c' : CaseView) → IsOf base.now c' → c'.live ≡ case.now.live → HaveChanges base.now c c' (pairs_of slots.now) → IfOk result (AreChosen base.now c c') }
+{
     let found = attributes_of(alloc, base, slots)?;
     match found {
         None => {
-            let all = changes(alloc, old, new)?;
+            let all = live_slots(alloc, base, case)?;
             Ok(all)
         }
         Some(attrs) => {
             let chosen = chosen_slots(alloc, base, case, slots, &attrs)?;
-            let items = chosen.as_slice();
-            let told = changes_of(alloc, old, new, items)?;
-            Ok(told)
+            Ok(chosen)
         }
     }
 }
@@ -61,7 +97,7 @@ fn chosen_slots(
 ) -> Result<List<(AttrId, InstanceId)>, NoMemory>
     requires fits { IsOf base.now case.now }
     requires told { AreTold (base_of base.now) slots.now told.now }
-    ensures { (c : CaseView) → HaveChanges base.now c case.now (pairs_of slots.now) → IfOk result (AreChosen base.now c case.now) }
+    ensures { (c c' : CaseView) → IsOf base.now c' → c'.live ≡ case.now.live → HaveChanges base.now c c' (pairs_of slots.now) → IfOk result (AreChosen base.now c c') }
 {
     if told.single {
         let all = as_pairs(alloc, slots)?;

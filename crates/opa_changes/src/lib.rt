@@ -4,6 +4,7 @@
 mod among;
 mod attrs;
 mod laws;
+mod lined;
 mod lines;
 mod lists;
 mod marks;
@@ -13,8 +14,9 @@ mod tell;
 mod told_attrs;
 mod walk;
 
-pub use among::changes_among;
+pub use among::{changes_among, changes_over};
 pub use laws::{dirty_have_changes, told_once};
+pub use lined::Lined;
 pub use lines::answer_differs;
 pub use lists::list_differs;
 pub use reach::{dirty_slots, is_fresh};

@@ -8,6 +8,7 @@ ghost use Rattle.opa_mean.specs.Changes.{first_difference};
 ghost use Rattle.opa_mean.specs.Given.{line_value};
 ghost use Rattle.opa_mean.specs.Holding.{held_value};
 
+use crate::lined::{HeldLines, Lined};
 use opa_case::{Case, InstanceId};
 use opa_io::NoMemory;
 use opa_kinds::values_have_kinds;
@@ -18,7 +19,7 @@ use opa_value::Value;
 use std::alloc::Global;
 
 /// The first day at which what is held differs.
-pub(crate) fn first_day<H: Held, K: Held>(
+pub(crate) fn held_day<H: Held, K: Held>(
     alloc: Global,
     old: &H,
     new: &K,
@@ -26,6 +27,22 @@ pub(crate) fn first_day<H: Held, K: Held>(
     inst: &InstanceId,
 ) -> Result<Option<u32>, NoMemory>
     ensures { IfOk result (λ day. day ≡ first_difference DAYS (held_value (H.rules old.now) (H.held old.now) attr inst.now) (held_value (K.rules new.now) (K.held new.now) attr inst.now)) }
+{
+    let before = HeldLines { source: old };
+    let after = HeldLines { source: new };
+    let day = first_day(alloc, &before, &after, attr, inst)?;
+    Ok(day)
+}
+
+/// The first day at which the lines that are told differ.
+pub(crate) fn first_day<H: Lined, K: Lined>(
+    alloc: Global,
+    old: &H,
+    new: &K,
+    attr: AttrId,
+    inst: &InstanceId,
+) -> Result<Option<u32>, NoMemory>
+    ensures { IfOk result (λ day. day ≡ first_difference DAYS (held_value (H.rules old.now) (H.over old.now) attr inst.now) (held_value (K.rules new.now) (K.over new.now) attr inst.now)) }
 {
     let before = old.line(attr, inst);
     let after = new.line(attr, inst);
@@ -104,7 +121,7 @@ fn first_of_two(old: &Line<Value>, new: &Line<Value>) -> Option<u32>
 }
 
 /// What is held at a day: a value whose day, if it has one, is of the calendar.
-pub(crate) fn held_on<H: Held>(
+pub(crate) fn held_on<H: Lined>(
     alloc: Global,
     held: &H,
     attr: AttrId,
@@ -112,11 +129,11 @@ pub(crate) fn held_on<H: Held>(
     day: u32,
 ) -> Result<Value, NoMemory>
     requires { day < DAYS }
-    ensures value { IfOk result (λ value. value ≡ held_value (H.rules held.now) (H.held held.now) attr inst.now day) }
+    ensures value { IfOk result (λ value. value ≡ held_value (H.rules held.now) (H.over held.now) attr inst.now day) }
     ensures calendar { IfOk result IsInCalendar }
 {
     values_have_kinds();
-    let _case = held.case();
+    let _base = held.base();
     let line = held.line(attr, inst);
     let value = value_on(alloc, line, day)?;
     Ok(value)

@@ -11,7 +11,7 @@ ghost use Rattle.opa_date.specs.declared.TheConstants.{DAYS};
 ghost use Rattle.opa_mean.specs.Rulebases.{IsOf, value_at};
 ghost use Rattle.opa_mean.specs.Slots as place;
 
-use crate::lines::first_day;
+use crate::lines::held_day;
 use crate::lists::{has_stayed, list_differs, same_questions};
 use crate::walk::slots;
 use opa_case::{Case, InstanceId, Question};
@@ -213,6 +213,6 @@ fn line_differs<H: Held, K: Held>(
 {
     let _before = old.case();
     let _after = new.case();
-    let day = first_day(alloc, old, new, attr, inst)?;
+    let day = held_day(alloc, old, new, attr, inst)?;
     Ok(day.is_some())
 }

@@ -11,6 +11,7 @@ ghost use Rattle.opa_mean.specs.Holding.{held_value};
 ghost use Rattle.opa_mean.specs.Slots as place;
 ghost use Rattle.opa_model.specs.Models.{HasAttribute};
 
+use crate::lined::{HeldLines, Lined};
 use crate::lines::{first_day, held_on};
 use crate::walk::slots;
 use opa_case::InstanceId;
@@ -35,7 +36,7 @@ pub fn changes<H: Held, K: Held>(alloc: Global, old: &H, new: &K) -> Result<Vec<
 }
 
 /// The changes of slots, in their order.
-pub(crate) fn changes_of<H: Held, K: Held>(
+fn changes_of<H: Held, K: Held>(
     alloc: Global,
     old: &H,
     new: &K,
@@ -45,6 +46,23 @@ pub(crate) fn changes_of<H: Held, K: Held>(
     requires slots { AreSlots (K.rules new.now) (K.held new.now) slots.now }
     ensures { IfOk result (λ told. AllZip (TellsOf (K.rules new.now).model) (changes_among (base_of (K.rules new.now)) (facts_of (H.held old.now)) (facts_of (K.held new.now)) slots.now) told.items) }
 {
+    let before = HeldLines { source: old };
+    let after = HeldLines { source: new };
+    let told = lined_changes(alloc, &before, &after, slots)?;
+    Ok(told)
+}
+
+/// The same, by what tells lines.
+pub(crate) fn lined_changes<H: Lined, K: Lined>(
+    alloc: Global,
+    old: &H,
+    new: &K,
+    slots: &[(AttrId, InstanceId)],
+) -> Result<Vec<Change>, NoMemory>
+    requires same { H.rules old.now ≡ K.rules new.now }
+    requires slots { AreSlots (K.rules new.now) (K.over new.now) slots.now }
+    ensures { IfOk result (λ told. AllZip (TellsOf (K.rules new.now).model) (changes_among (base_of (K.rules new.now)) (facts_of (H.over old.now)) (facts_of (K.over new.now)) slots.now) told.items) }
+{
     let mut told = Vec::new(alloc);
     for (attr, inst) in slots {
         add_change(alloc, old, new, *attr, inst, &mut told)?;
@@ -53,7 +71,7 @@ pub(crate) fn changes_of<H: Held, K: Held>(
 }
 
 /// Adds the change of a slot, where its line differs.
-fn add_change<H: Held, K: Held>(
+fn add_change<H: Lined, K: Lined>(
     alloc: Global,
     old: &H,
     new: &K,
@@ -62,8 +80,8 @@ fn add_change<H: Held, K: Held>(
     told: &mut Vec<Change>,
 ) -> Result<(), NoMemory>
     requires same { H.rules old.now ≡ K.rules new.now }
-    requires slot { place.is_slot (K.rules new.now) (K.held new.now) attr inst.now ≡ true }
-    ensures { (xs : Seq meant.Changed) → AllZip (TellsOf (K.rules new.now).model) xs told.old.items → OnOk result (AllZip (TellsOf (K.rules new.now).model) (xs ++ cons_option (meant.change_of (base_of (K.rules new.now)) (facts_of (H.held old.now)) (facts_of (K.held new.now)) attr inst.now) []) told.new.items) }
+    requires slot { place.is_slot (K.rules new.now) (K.over new.now) attr inst.now ≡ true }
+    ensures { (xs : Seq meant.Changed) → AllZip (TellsOf (K.rules new.now).model) xs told.old.items → OnOk result (AllZip (TellsOf (K.rules new.now).model) (xs ++ cons_option (meant.change_of (base_of (K.rules new.now)) (facts_of (H.over old.now)) (facts_of (K.over new.now)) attr inst.now) []) told.new.items) }
 {
     let change = change_at(alloc, old, new, attr, inst)?;
     match change {
@@ -76,7 +94,7 @@ fn add_change<H: Held, K: Held>(
 }
 
 /// The change of a slot, where its line differs.
-fn change_at<H: Held, K: Held>(
+fn change_at<H: Lined, K: Lined>(
     alloc: Global,
     old: &H,
     new: &K,
@@ -84,10 +102,10 @@ fn change_at<H: Held, K: Held>(
     inst: &InstanceId,
 ) -> Result<Option<Change>, NoMemory>
     requires same { H.rules old.now ≡ K.rules new.now }
-    requires slot { place.is_slot (K.rules new.now) (K.held new.now) attr inst.now ≡ true }
-    ensures { IfOk result (TellsAny (K.rules new.now).model (meant.change_of (base_of (K.rules new.now)) (facts_of (H.held old.now)) (facts_of (K.held new.now)) attr inst.now)) }
+    requires slot { place.is_slot (K.rules new.now) (K.over new.now) attr inst.now ≡ true }
+    ensures { IfOk result (TellsAny (K.rules new.now).model (meant.change_of (base_of (K.rules new.now)) (facts_of (H.over old.now)) (facts_of (K.over new.now)) attr inst.now)) }
 {
-    let _case = new.case();
+    let _base = new.base();
     let first = first_day(alloc, old, new, attr, inst)?;
     match first {
         None => Ok(None),
@@ -99,7 +117,7 @@ fn change_at<H: Held, K: Held>(
 }
 
 /// What is told of an attribute for an instance at a day.
-fn change_on<H: Held, K: Held>(
+fn change_on<H: Lined, K: Lined>(
     alloc: Global,
     old: &H,
     new: &K,
@@ -109,7 +127,7 @@ fn change_on<H: Held, K: Held>(
 ) -> Result<Change, NoMemory>
     requires day { day < DAYS }
     requires declared { HasAttribute (K.rules new.now).model attr }
-    ensures { IfOk result (TellsOf (K.rules new.now).model (moved (held_value (H.rules old.now) (H.held old.now) attr inst.now) (held_value (K.rules new.now) (K.held new.now) attr inst.now) attr inst.now day)) }
+    ensures { IfOk result (TellsOf (K.rules new.now).model (moved (held_value (H.rules old.now) (H.over old.now) attr inst.now) (held_value (K.rules new.now) (K.over new.now) attr inst.now) attr inst.now day)) }
 {
     let base = new.base();
     let was = held_on(alloc, old, attr, inst, day)?;

@@ -60,7 +60,7 @@ module _ (once : ToldOnce) where
   comes_one : (x y z : Held) (c : CaseView) → Comes x c y → Comes x c z → y ≡ z
   comes_one x y z c h k =
       let same : h.told ≡ k.told = once x.rules.model (changes (base_of x.rules) (facts_of x.case) (facts_of c)) h.told k.told h.changes k.changes in
-      h.after ∙ ap (λ (told : List Change). held x.rules c (reached x.rules x.case c) (map (hearing told) x.hearers) x.files) same ∙ sym k.after
+      h.after ∙ ap (λ (told : List Change). held x.rules c (reached x.rules x.case c) (map (hearing told) x.hearers) x.files (x.derived + reached x.rules x.case c)) same ∙ sym k.after
 
   changes_one : (x y z : Held) (t u : List ℕ) (s : Result CaseView Refusal)
       → MatchResult s (λ c. (t ≡ []) × Comes x c y) (λ e. (t ≡ refused_change e) × (y ≡ x))

@@ -1,5 +1,5 @@
 -- What listeners hear of changes, as functions of whatever is seen as a listener.
-use Rattle.std.proofs.Common.{◌≡◌, ◌∙◌, Result, Ok, Err, OnErr, List, [], ◌∷◌, map, sym, ap, refl, subst}
+use Rattle.std.proofs.Common.{◌≡◌, ◌∙◌, ℕ, Result, Ok, Err, OnErr, List, [], ◌∷◌, map, sym, ap, refl, subst}
 use Rattle.std.specs.List.{AllZip}
 use Rattle.opa_listen.specs.declared.change.Change.{Change}
 use Rattle.opa_listen.specs.Listening.{ListenerView}
@@ -10,7 +10,8 @@ use Rattle.opa_listen.proofs.Readiness.{keeping_is_told, same_watched}
 use Rattle.opa_listen.proofs.ToldLaws.{told_before}
 use Rattle.opa_case.specs.Cases.{CaseView}
 use Rattle.opa_tree.specs.declared.rulebase.Rulebase.{Rulebase}
-use Rattle.opa_infer.specs.Sessions.{AreChanges}
+use Rattle.opa_infer.specs.Ready.{IsReady}
+use Rattle.opa_infer.specs.Sessions.{AreChanges, Tells}
 
 -- what holds anyway holds at an error
 pub at_error : {T E : Type 0} (P : Type 0) (r : Result T E) → P → OnErr r P
@@ -34,7 +35,16 @@ module _ {X : Type 0} (view : X → ListenerView) where
       let told : AreTold changes (map view xs) (map view zs) = told_before changes (map view xs) (map view ys) (map view zs) room (keeping_is_told changes (map view ys) (map view zs) keeps) in
       sym (heard_of zs) ∙ told_hearers changes (map view xs) (map view zs) told ∙ ap (map (hearing changes)) (heard_of xs)
 
+  -- what was ready and is told then
+  pub tells : (r : Rulebase) (c c' : CaseView) (lists : List (List Change)) (count : ℕ) (xs ys zs : List X) → IsReady r c c' (map view xs) (map view ys) lists count → EachKeeps lists (map view ys) (map view zs)
+      → Tells r c c' (map (λ x. hearer (view x)) xs) (map (λ x. hearer (view x)) zs) count
+  tells r c c' lists count xs ys zs h kept = record { told = h.told; changes = h.changes; heard = told_heard h.told lists xs ys zs h.room h.watched kept; count_is = h.count_is }
+
 -- changes between the same cases
 pub same_changes : (r r' : Rulebase) (c c' d d' : CaseView) (told : List Change) → r' ≡ r → c' ≡ c → d' ≡ d → AreChanges r' c' d' told → AreChanges r c d told
 same_changes r r' c c' d d' told er ec ed h =
     subst (λ x. AreChanges x c d told) er (subst (λ x. AreChanges r' x d told) ec (subst (λ x. AreChanges r' c' x told) ed h))
+
+-- changes to the same case are heard
+pub tells_to : (r : Rulebase) (c c' d : CaseView) (before after : List Hearer) (count : ℕ) → c' ≡ d → Tells r c c' before after count → Tells r c d before after count
+tells_to r c c' d before after count e h = subst (λ (x : CaseView). Tells r c x before after count) e h

@@ -1,1 +1,4 @@
+pub mod Coming
+pub mod First
+pub mod Ready
 pub mod Sessions

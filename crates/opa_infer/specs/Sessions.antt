@@ -1,7 +1,7 @@
 -- What is held of a claimant by a rulebase, and what a change of it tells.
 use Rattle.std.specs.Prelude.{◌≡◌, ℕ, List, length, map, Result}
 use Rattle.std.specs.List.{AllZip}
-use Rattle.opa_case.specs.Cases.{CaseView}
+use Rattle.opa_case.specs.Cases.{CaseView, no_case}
 use Rattle.opa_case.specs.Shapes.{shape_of}
 use Rattle.opa_case.specs.Steps.{step}
 use Rattle.opa_case.specs.declared.change.ChangeCommand.{ChangeCommand}
@@ -9,7 +9,7 @@ use Rattle.opa_case.specs.declared.change.Refusal.{Refusal}
 use Rattle.opa_listen.specs.declared.change.Change.{Change}
 use Rattle.opa_listen.specs.Hearing.{Hearer, hearing}
 use Rattle.opa_tree.specs.declared.rulebase.Rulebase.{Rulebase}
-use Rattle.opa_mean.specs.Changes.{changes, dirty}
+use Rattle.opa_mean.specs.Changes.{changes, dirty, slots}
 use Rattle.opa_mean.specs.Given.{base_of, facts_of}
 use Rattle.opa_changes.specs.Telling.{TellsOf}
 use Rattle.opa_infer.specs.declared.session.Session.{Session}
@@ -31,6 +31,10 @@ changed_by command s = step (shape_of s.base.model) s.base.ruled s.case command
 -- how many slots another case reaches
 abbrev pub reached : Rulebase → CaseView → CaseView → ℕ
 reached r c c' = dirty (base_of r) (facts_of c) (facts_of c')
+
+-- how many slots there are where nothing is known
+abbrev pub first_slots : Rulebase → ℕ
+first_slots r = length (slots (base_of r) (facts_of no_case))
 
 -- these are the changes from one case to another, as listeners are told of them
 abbrev pub AreChanges : Rulebase → CaseView → CaseView → List Change → Type 0

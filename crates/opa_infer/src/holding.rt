@@ -10,8 +10,8 @@ ghost use Rattle.opa_case.specs.Shapes.{shape_of};
 ghost use Rattle.opa_goals.specs.Rulebases.{rulebase_of};
 
 use crate::session::Session;
+use crate::told::told_line;
 use opa_case::{Case, ChangeCommand, InstanceId};
-use opa_fresh::told_line;
 use opa_goals::Frees;
 use opa_line::Line;
 use opa_mean::{Held, has_place};
@@ -38,7 +38,13 @@ impl Held for Session {
 
     fn line(&self, attr: AttrId, inst: &InstanceId) -> Option<&Line<Value>> {
         let _count = self.base.model.entity_count();
-        told_line(&self.base, &self.case, &self.lines, attr, inst)
+        told_line(
+            &self.base,
+            &self.case,
+            self.store.get(attr, inst),
+            attr,
+            inst,
+        )
     }
 }
 

@@ -1,12 +1,18 @@
-//! A session: a case over a rulebase with the line of each conclusion. It takes changes, tells listeners of them, and says how
-//! many slots each reached.
+//! A session: a case over a rulebase with the line of each conclusion. It takes changes, derives again only what each reaches,
+//! tells listeners, and says how many slots that were.
 #![tactic(auto)]
 
+mod answering;
 mod changes;
+mod coming;
+mod first;
 mod holding;
+mod laid;
+mod ready;
+mod replacing;
 mod session;
+mod settling;
 mod starting;
-mod stepping;
-mod telling;
+mod told;
 
 pub use session::Session;

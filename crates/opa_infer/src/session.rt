@@ -1,4 +1,4 @@
-// A rulebase with its code, a case that fits it, and the line of each conclusion.
+// A rulebase with its code, a case that fits it, the line of each conclusion, and what reads what.
 ghost use Rattle.std.specs.Prelude.{◌≡◌, ◌∷◌, []};
 ghost use Rattle.std.proofs.Props.{props};
 ghost use Rattle.opa_case.specs.Cases.{coded_lists, coded_population};
@@ -6,21 +6,26 @@ ghost use Rattle.opa_case.specs.Fits.{Fits};
 ghost use Rattle.opa_case.specs.Shapes.{shape_of};
 ghost use Rattle.opa_cells.specs.Instances.{coded_instance};
 ghost use Rattle.opa_code.specs.Rulebases.{rulebase_of};
-ghost use Rattle.opa_fresh.specs.Slots.{AreDetermined};
+ghost use Rattle.opa_dirty.specs.Settling.{AreCurrent, AreReaders};
+ghost use Rattle.opa_dirty.specs.contracts.slot.Slot as slot;
 ghost use Rattle.opa_goals.specs.Rulebases.{rulebase_of as freed_by};
+ghost use Rattle.opa_readers.specs.Indexes.{readers_in};
+ghost use Rattle.opa_store.specs.Stores.{kept_of};
 ghost use Rattle.opa_value.specs.contracts.value.Value as each;
 ghost use Rattle.opa_value.specs.declared.value.Value.TheVariants.{Unknown};
 
 use opa_case::Case;
 use opa_code::Code;
-use opa_fresh::Lines;
 use opa_goals::Frees;
 use opa_line::Line;
+use opa_readers::Index;
+use opa_store::Store;
 use opa_tree::Rulebase;
 use opa_value::Value;
 
-/// A rulebase with what is computed of it once, a case that fits it, and the line of each conclusion: the fresh determination
-/// at every day. The number is how many slots the last accepted change reached.
+/// A rulebase with what is computed of it once, a case that fits it, the line of each conclusion (the fresh determination at
+/// every day), and which slots read each line and each list. Nothing is staged. The number is how many slots the last accepted
+/// change reached.
 #[derive(Drop)]
 pub struct Session {
     pub(crate) base: Rulebase,
@@ -28,11 +33,14 @@ pub struct Session {
     pub(crate) frees: Frees,
     pub(crate) unknown: Line<Value>,
     pub(crate) case: Case,
-    pub(crate) lines: Lines,
+    pub(crate) store: Store,
+    pub(crate) readers: Index,
     pub(crate) dirty: u64,
     ghost coded: { rulebase_of code ≡ base },
     ghost freed: { freed_by frees ≡ base },
     ghost nothing: { unknown ≡ (0, Unknown) ∷ [] } by { Prim.hlevel (props, each.the_row.coded) },
     ghost fits: { Fits (shape_of base.model) base.ruled case } by { Prim.hlevel (props, coded_lists, coded_population, coded_instance) },
-    ghost determined: { AreDetermined base case lines } by { Prim.hlevel (props, each.the_row.coded) },
+    ghost current: { AreCurrent base case (kept_of store) } by { Prim.hlevel (props, each.the_row.coded) },
+    ghost empty: { store.slots ≡ [] } by { Prim.hlevel (props, slot.the_row.coded) },
+    ghost exact: { ∥ AreReaders base case (readers_in readers) ∥₁ },
 }

@@ -11,34 +11,34 @@ use Rattle.opa_script.specs.declared.command.Command.{Command}
 use Rattle.opa_script.specs.declared.command.Command.TheVariants as command
 use Rattle.opa_script.specs.declared.fault.CmdFault.{CmdFault}
 use Rattle.opa_script.specs.declared.fault.CmdFault.TheVariants as fault
-use Rattle.opa_talk.specs.Talk.{WhereRose, LeftBy}
+use Rattle.opa_talk.specs.Talk.{MayLeave, LeftBy}
 use Rattle.opa_tree.specs.declared.rulebase.Rulebase.{Rulebase}
 use Rattle.opa_reply.specs.Held.{Held, held, with_hearers}
 use Rattle.opa_reply.specs.Dismissals.{IsDismissed}
 use Rattle.opa_reply.specs.Refused.{refused_command}
 use Rattle.opa_reply.specs.Interviews.{IsTold, IsNotTold, Tells, TellsNothing}
-use Rattle.opa_reply.specs.Replies.{Answers, Asks, AsksNothing, CarriesOut, Dismisses, HaltsAt, HaltsFrom, IsAsked, IsNotAsked, IsReadAs, Responds, StopsAt}
+use Rattle.opa_reply.specs.Replies.{Answers, Asks, AsksNothing, CarriesOut, Dismisses, HaltsAt, HaltsFrom, IsAsked, IsNotAsked, IsReadAs, LacksAt, Responds, StopsAt}
 use Rattle.opa_reply.proofs.Same.{same_held}
 
 -- ---- single commands
 
-pub dismisses : (r : Rulebase) (c : CaseView) (n : ℕ) (files : Option Files) (hs hs' : List Hearer) (k : ℕ) (text : List ℕ) → IsDismissed hs k text hs' → Dismisses (held r c n hs files) k text (held r c n hs' files)
-dismisses r c n files hs hs' k text h = record { dismissed = h; others = refl }
+pub dismisses : (r : Rulebase) (c : CaseView) (n d : ℕ) (files : Option Files) (hs hs' : List Hearer) (k : ℕ) (text : List ℕ) → IsDismissed hs k text hs' → Dismisses (held r c n hs files d) k text (held r c n hs' files d)
+dismisses r c n d files hs hs' k text h = record { dismissed = h; others = refl }
 
 module _ (keep keep' : ℕ) where
   pub stays : (x y : Held) (c : Command) → y ≡ x → HaltsAt keep keep' c x y
   stays x y c same = inl same
 
-  pub quiet : (r r' : Rulebase) (c c' : CaseView) (n n' : ℕ) (hs hs' : List Hearer) (files : Option Files) (k : Command) → r' ≡ r → c' ≡ c → n' ≡ n → hs' ≡ hs
-      → HaltsAt keep keep' k (held r c n hs files) (held r' c' n' hs' files)
-  quiet r r' c c' n n' hs hs' files k er ec en eh = inl (same_held r r' c c' n n' hs hs' files files er ec en eh refl)
+  pub quiet : (r r' : Rulebase) (c c' : CaseView) (n n' : ℕ) (hs hs' : List Hearer) (files : Option Files) (d d' : ℕ) (k : Command) → r' ≡ r → c' ≡ c → n' ≡ n → hs' ≡ hs → d' ≡ d
+      → HaltsAt keep keep' k (held r c n hs files d) (held r' c' n' hs' files d')
+  quiet r r' c c' n n' hs hs' files d d' k er ec en eh ed = inl (same_held r r' c c' n n' hs hs' files files d d' er ec en eh refl ed)
 
--- a command that keeps the case under a name
-pub save_as : (k : Command) (name : List ℕ) (x y : Held) (text : List ℕ) → k ≡ command.Save name → CarriesOut (command.Save name) x text y → CarriesOut k x text y
-save_as k name x y text is h = subst (λ c. CarriesOut c x text y) (sym is) h
+-- a command is what it was matched as
+pub carried_as : (k l : Command) (x y : Held) (text : List ℕ) → k ≡ l → CarriesOut l x text y → CarriesOut k x text y
+carried_as k l x y text is h = subst (λ c. CarriesOut c x text y) (sym is) h
 
-pub save_halts : (keep keep' : ℕ) (k : Command) (name : List ℕ) (x y : Held) → k ≡ command.Save name → HaltsAt keep keep' (command.Save name) x y → HaltsAt keep keep' k x y
-save_halts keep keep' k name x y is h = subst (λ c. HaltsAt keep keep' c x y) (sym is) h
+pub halts_as : (keep keep' : ℕ) (k l : Command) (x y : Held) → k ≡ l → HaltsAt keep keep' l x y → HaltsAt keep keep' k x y
+halts_as keep keep' k l x y is h = subst (λ c. HaltsAt keep keep' c x y) (sym is) h
 
 pub ruleset carrying = (dismisses, stays, quiet)
 
@@ -55,10 +55,13 @@ module _ (Says : Held → List ℕ → Command → Type 0) (SaysNothing : Held �
   answered x y line text (Ok c) is out = inr (c, is, out)
   answered x y line text (Err f) is out = inl (f, out.0, is out.0, out.1, out.2)
 
-  pub stopped : (keep keep' : ℕ) (x y : Held) (line : List ℕ) (read : Result Command CmdFault) → IsReadAs Says SaysNothing x line read → HaltsFrom keep keep' read x y → LeftBy (WhereRose keep keep' (StopsAt Says)) x line y
+  pub stopped : (keep keep' : ℕ) (x y : Held) (line : List ℕ) (read : Result Command CmdFault) → IsReadAs Says SaysNothing x line read → HaltsFrom keep keep' read x y → LeftBy (MayLeave keep keep' (StopsAt Says) (LacksAt Says)) x line y
   stopped keep keep' x y line (Ok c) is halts = elim halts [
     | inl same ↦ inl same
-    | inr failed ↦ inr (failed.0, (failed.1.0, subst (Says x line) failed.1.1 is, failed.1.2))
+    | inr left ↦ inr (elim left [
+      | inl failed ↦ inl (failed.0, (failed.1.0, subst (Says x line) failed.1.1 is, failed.1.2))
+      | inr short ↦ inr (c, is, short)
+    ])
   ]
   stopped keep keep' x y line (Err f) is same = inl same
 

@@ -21,15 +21,15 @@ others_stay E (Some old) None name bytes e k = absurd k
 others_stay E (Some old) (Some new) name bytes e k = k
 
 module _ (E : Type 0) (r : Rulebase) (c : CaseView) (n : ℕ) (old new : Option Files) (name bytes : List ℕ) (is : bytes ≡ saved_text r.model c) where
-  pub saves : (u : Unit {0}) (text : List ℕ) → text ≡ codes "saved" ++ 10 ∷ [] → Keeps {E = E} old new name bytes (Ok u) → (hearers : List Hearer) → Saves (held r c n hearers old) name text (held r c n hearers new)
-  saves u text says k hearers = record { says = says; others = refl; kept = subst (λ b. HasKept name b old new) is (has_kept E old new name bytes u k) }
+  pub saves : (u : Unit {0}) (text : List ℕ) → text ≡ codes "saved" ++ 10 ∷ [] → Keeps {E = E} old new name bytes (Ok u) → (hearers : List Hearer) (steps : ℕ) → Saves (held r c n hearers old steps) name text (held r c n hearers new steps)
+  saves u text says k hearers steps = record { says = says; others = refl; kept = subst (λ b. HasKept name b old new) is (has_kept E old new name bytes u k) }
 
 module _ (keep keep' : ℕ) where
   pub halts : (E : Type 0) (r : Rulebase) (c : CaseView) (n : ℕ) (old new : Option Files) (name bytes : List ℕ) (e : E) → Keeps {E = E} old new name bytes (Err e) → Rose keep keep'
-      → (hearers : List Hearer) → HaltsAt keep keep' (command.Save name) (held r c n hearers old) (held r c n hearers new)
-  halts E r c n old new name bytes e k rose hearers = inr (rose, (name, refl, (refl, others_stay E old new name bytes e k)))
+      → (hearers : List Hearer) (steps : ℕ) → HaltsAt keep keep' (command.Save name) (held r c n hearers old steps) (held r c n hearers new steps)
+  halts E r c n old new name bytes e k rose hearers steps = inr (inl (rose, (name, refl, (refl, others_stay E old new name bytes e k))))
 
-  pub as_it_was : (r : Rulebase) (c : CaseView) (n : ℕ) (files : Option Files) (name : List ℕ) → (hearers : List Hearer) → HaltsAt keep keep' (command.Save name) (held r c n hearers files) (held r c n hearers files)
-  as_it_was r c n files name hearers = inl refl
+  pub as_it_was : (r : Rulebase) (c : CaseView) (n : ℕ) (files : Option Files) (name : List ℕ) → (hearers : List Hearer) (steps : ℕ) → HaltsAt keep keep' (command.Save name) (held r c n hearers files steps) (held r c n hearers files steps)
+  as_it_was r c n files name hearers steps = inl refl
 
 pub ruleset saving = (saves, halts, as_it_was)

@@ -15,7 +15,7 @@ use Rattle.opa_need.specs.Goals.{next_of}
 use Rattle.opa_told.specs.Asking.{prompt_told, is_over}
 use Rattle.opa_reply.specs.Held.{Held}
 use Rattle.opa_reply.specs.Lines.{LONGEST, bytes_of, text_of}
-use Rattle.opa_reply.specs.Replies.{Answers, StopsAt}
+use Rattle.opa_reply.specs.Replies.{Answers, LacksAt, StopsAt}
 
 -- a text that is blank or a comment, also behind a slash
 abbrev pub idle_behind : Option (List ℕ) → List ℕ → Bool
@@ -60,6 +60,10 @@ RepliesAsked = Answers Tells TellsNothing
 -- what a line that saves the case leaves where keeping the file failed
 abbrev pub StopsAsked : Held → List ℕ → Held → Type 0
 StopsAsked = StopsAt Tells
+
+-- what a line leaves for want of memory
+abbrev pub LacksAsked : Held → List ℕ → Held → Type 0
+LacksAsked = LacksAt Tells
 
 -- The rule of an interview.
 abbrev pub interview : Rule Held

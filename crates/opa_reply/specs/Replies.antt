@@ -1,5 +1,5 @@
 -- What a line prints, and what is held after it.
-use Rattle.std.specs.Prelude.{◌≡◌, ◌≢◌, ◌⊎◌, ℕ, true, false, List, [], ◌∷◌, ◌++◌, codes, map, Option, None, Some, Result, Ok, Err, MatchResult}
+use Rattle.std.specs.Prelude.{◌≡◌, ◌≢◌, ◌⊎◌, ◌≤◌, ◌+◌, ℕ, true, false, List, [], ◌∷◌, ◌++◌, codes, map, Option, None, Some, Result, Ok, Err, MatchResult}
 use Rattle.std.specs.FinMap as files
 use Rattle.opa_io.specs.Outside.{Files, Rose, SameBut}
 use Rattle.opa_talk.specs.Transcript.{Rule}
@@ -23,18 +23,19 @@ use Rattle.opa_told.specs.Goals.{goals_told}
 use Rattle.opa_told.specs.Reports.{IsReportTold}
 use Rattle.opa_told.specs.Shown.{value_told, names_told}
 use Rattle.opa_told.specs.Stats.{stats_told}
+use Rattle.opa_tree.specs.declared.rulebase.Rulebase.{Rulebase}
 use Rattle.opa_reply.specs.Lines.{text_of, is_too_long}
-use Rattle.opa_reply.specs.Held.{Held, held, with_hearers, with_files}
+use Rattle.opa_reply.specs.Held.{Held, held, with_hearers, with_files, with_derived}
 use Rattle.opa_reply.specs.Dismissals.{IsDismissed}
 use Rattle.opa_reply.specs.Refused.{refused_command, refused_change}
 use Rattle.opa_reply.specs.Loads.{Loads}
 
--- Another case comes in: its number of slots that the change reaches is held with it, and each listener keeps those of the
--- changes that it watches, in order.
+-- Another case comes in: its number of slots that the change reaches is held with it, so many lines were derived, and each
+-- listener keeps those of the changes that it watches, in order.
 pub record Comes (x : Held) (c : CaseView) (y : Held) : Type 0 where
   pub told : List Change
   pub changes : AreChanges x.rules x.case c told
-  pub after : y ≡ held x.rules c (reached x.rules x.case c) (map (hearing told) x.hearers) x.files
+  pub after : y ≡ held x.rules c (reached x.rules x.case c) (map (hearing told) x.hearers) x.files (x.derived + reached x.rules x.case c)
 
 -- A change is made whole and prints nothing, or is refused.
 abbrev pub Changes : Held → ChangeCommand → List ℕ → Held → Type 0
@@ -125,9 +126,44 @@ StopsAt Says x line y = (name : List ℕ) × Says x line (command.Save name) × 
 abbrev pub Stops : Held → List ℕ → Held → Type 0
 Stops = StopsAt Asks
 
--- Where a command halts, all is held as it was; but where keeping a file failed, for its name.
+-- a command would bring this case in: a change that is accepted, or a file that is loaded
+abbrev pub Brings : Held → Command → CaseView → Type 0
+Brings x command.Nothing c = ⊥
+Brings x (command.Change k) c = step (shape_of x.rules.model) x.rules.ruled x.case k ≡ Ok c
+Brings x (command.ShowAttr a i) c = ⊥
+Brings x (command.ShowMembers r i) c = ⊥
+Brings x (command.Save name) c = ⊥
+Brings x (command.Load name) c = (text : List ℕ) × Loads x.rules x.files name text (Some c)
+Brings x command.Goals c = ⊥
+Brings x command.Next c = ⊥
+Brings x command.Screen c = ⊥
+Brings x (command.Report a i d) c = ⊥
+Brings x command.Stats c = ⊥
+Brings x (command.Dismiss n) c = ⊥
+
+-- Memory ran out while a case was to come in: no more lines were derived than it reaches, and all else is held as it was.
+pub record RunsShort (k : Command) (x y : Held) : Type 0 where
+  pub case : CaseView
+  pub brings : Brings x k case
+  pub few : y.derived ≤ x.derived + reached x.rules x.case case
+  pub others : y ≡ with_derived x y.derived
+
+-- there is a case, and no more lines were derived than it reaches
+abbrev pub ReachesAll : Rulebase → CaseView → ℕ → ℕ → Option CaseView → Type 0
+ReachesAll r c before now None = ⊥
+ReachesAll r c before now (Some next) = now ≤ before + reached r c next
+
+-- what a line leaves for want of memory
+abbrev pub LacksAt : (Held → List ℕ → Command → Type 0) → Held → List ℕ → Held → Type 0
+LacksAt Says x line y = (c : Command) × Says x line c × RunsShort c x y
+
+abbrev pub Lacks : Held → List ℕ → Held → Type 0
+Lacks = LacksAt Asks
+
+-- Where a command halts, all is held as it was; but where keeping a file failed, for its name, and where memory ran out, for the
+-- lines that were derived.
 abbrev pub HaltsAt : ℕ → ℕ → Command → Held → Held → Type 0
-HaltsAt keep keep' c x y = (y ≡ x) ⊎ (Rose keep keep' × ((name : List ℕ) × (c ≡ command.Save name) × FailsToKeep name x y))
+HaltsAt keep keep' c x y = (y ≡ x) ⊎ ((Rose keep keep' × ((name : List ℕ) × (c ≡ command.Save name) × FailsToKeep name x y)) ⊎ RunsShort c x y)
 
 -- what a line that was read prints and leaves: it is refused, or carried out
 abbrev pub Responds : Result Command CmdFault → Held → List ℕ → Held → Type 0

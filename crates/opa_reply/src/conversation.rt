@@ -1,19 +1,21 @@
 // A session as what answers the lines of a run.
-ghost use Rattle.std.specs.Prelude.{◌≡◌, List, Option, IfOk};
+ghost use Rattle.std.specs.Prelude.{◌≡◌, ◌≤◌, ◌+◌, List, Option, IfOk};
+ghost use Rattle.opa_infer.specs.Sessions.{first_slots};
 ghost use Rattle.opa_io.specs.Outside.{Files};
 ghost use Rattle.opa_listen.specs.Hearing.{Hearer};
 ghost use Rattle.opa_reply.specs.Held.{Held as Holding, beside, at_first};
-ghost use Rattle.opa_reply.specs.Replies.{conversation, Stops};
+ghost use Rattle.opa_reply.specs.Replies.{conversation, Lacks, Stops};
 
 use crate::carrying::respond;
 use crate::replying::asked;
 use opa_infer::Session;
-use opa_io::{NoMemory, Shelf};
+use opa_io::{NoMemory, Shelf, Steps};
 use opa_listen::Listener;
 use opa_mean::Held;
 use opa_talk::{Halt, Prompt, Replier};
 use opa_tree::Rulebase;
 use std::alloc::Global;
+use std::sync::ledger::Ledger;
 
 /// A session that answers lines: each is a command.
 #[derive(Drop)]
@@ -23,10 +25,11 @@ pub struct Conversation {
 
 impl Conversation {
     /// Nothing is known of the case.
-    pub fn start(alloc: Global, base: Rulebase) -> Result<Conversation, NoMemory>
-        ensures { IfOk result (λ c. (hearers : List Hearer) (files : Option Files) → ⟦<Conversation as Replier>⟧.held c hearers files ≡ at_first base hearers files) }
+    pub fn start<L: Ledger>(alloc: Global, base: Rulebase, steps: &mut Steps<L>) -> Result<Conversation, NoMemory>
+        ensures first { IfOk result (λ c. (hearers : List Hearer) (files : Option Files) → ⟦<Conversation as Replier>⟧.held c hearers files steps.new ≡ at_first base hearers files steps.old) }
+        ensures bound { steps.new ≤ steps.old + first_slots base }
     {
-        let session = Session::start(alloc, base)?;
+        let session = Session::start(alloc, base, steps)?;
         Ok(Conversation { session })
     }
 }
@@ -38,7 +41,9 @@ impl Replier for Conversation {
 
     ghost Stops = { Stops };
 
-    ghost held = { λ c hearers files. beside c.session hearers files };
+    ghost Lacks = { Lacks };
+
+    ghost held = { λ c hearers files steps. beside c.session hearers files steps };
 
     fn prompt(&self, alloc: Global) -> Result<Prompt, NoMemory> {
         Ok(Prompt {
@@ -48,14 +53,15 @@ impl Replier for Conversation {
     }
 
     #[tactic(auto, using(crate::proofs::ReplyLaws::replying))]
-    fn reply<F: Shelf>(
+    fn reply<F: Shelf, L: Ledger>(
         &mut self,
         alloc: Global,
         shelf: &mut F,
         listeners: &mut Vec<Box<dyn Listener>>,
+        steps: &mut Steps<L>,
         line: &[u8],
     ) -> Result<Vec<u8>, Halt> {
         let read = asked(alloc, &self.session.base().model, line);
-        respond(alloc, &mut self.session, shelf, listeners, read)
+        respond(alloc, &mut self.session, shelf, listeners, steps, read)
     }
 }

@@ -1,5 +1,5 @@
 // A case is kept under a name.
-ghost use Rattle.std.specs.Prelude.{◌≡◌, ◌≤◌, List, IfOk, OnErr, IfErr};
+ghost use Rattle.std.specs.Prelude.{◌≡◌, ◌≤◌, ℕ, List, IfOk, OnErr, IfErr};
 ghost use Rattle.opa_talk.specs.Halt.{IsReplyCause};
 ghost use Rattle.opa_listen.specs.Hearing.{Hearer};
 ghost use Rattle.opa_script.specs.declared.command.Command.TheVariants as commands;
@@ -21,8 +21,8 @@ pub(crate) fn save<F: Shelf>(
     shelf: &mut F,
     name: &Txt,
 ) -> Result<Vec<u8>, Halt>
-    ensures ok { IfOk result (λ t. (hearers : List Hearer) → CarriesOut (commands.Save name.now) (beside session.now hearers (F.files shelf.old)) t.items (beside session.now hearers (F.files shelf.new))) }
-    ensures err { OnErr result ((hearers : List Hearer) → HaltsAt (F.keep_faults shelf.old) (F.keep_faults shelf.new) (commands.Save name.now) (beside session.now hearers (F.files shelf.old)) (beside session.now hearers (F.files shelf.new))) }
+    ensures ok { IfOk result (λ t. (hearers : List Hearer) (steps : ℕ) → CarriesOut (commands.Save name.now) (beside session.now hearers (F.files shelf.old) steps) t.items (beside session.now hearers (F.files shelf.new) steps)) }
+    ensures err { OnErr result ((hearers : List Hearer) (steps : ℕ) → HaltsAt (F.keep_faults shelf.old) (F.keep_faults shelf.new) (commands.Save name.now) (beside session.now hearers (F.files shelf.old) steps) (beside session.now hearers (F.files shelf.new) steps)) }
     ensures cause { IfErr result (IsReplyCause (F.take_faults shelf.old) (F.take_faults shelf.new) (F.keep_faults shelf.old) (F.keep_faults shelf.new)) }
     ensures later_take { F.take_faults shelf.old ≤ F.take_faults shelf.new }
     ensures later_keep { F.keep_faults shelf.old ≤ F.keep_faults shelf.new }

@@ -1,13 +1,13 @@
 // A session as what asks, and answers the lines of an interview.
-ghost use Rattle.std.specs.Prelude.{◌≡◌, List, Option, IfOk, IfErr, IfSome, Some};
-ghost use Rattle.opa_infer.specs.Sessions.{rules_of, held_of};
+ghost use Rattle.std.specs.Prelude.{◌≡◌, ◌≤◌, ◌+◌, List, Option, IfOk, IfErr, IfSome, Some};
+ghost use Rattle.opa_infer.specs.Sessions.{rules_of, held_of, first_slots};
 ghost use Rattle.opa_io.specs.Outside.{Files};
 ghost use Rattle.opa_listen.specs.Hearing.{Hearer};
 ghost use Rattle.opa_need.specs.Goals.{next_of};
 ghost use Rattle.opa_script.specs.Laws.{IsInRange};
 ghost use Rattle.opa_text.specs.Points.{HasAsked};
 ghost use Rattle.opa_reply.specs.Held.{Held as Holding, beside, at_first};
-ghost use Rattle.opa_reply.specs.Interviews.{interview, StopsAsked, IsTold, IsNotTold};
+ghost use Rattle.opa_reply.specs.Interviews.{interview, LacksAsked, StopsAsked, IsTold, IsNotTold};
 
 use crate::carrying::respond;
 use crate::lines::{is_long_reply, text_of};
@@ -15,7 +15,7 @@ use crate::replying::is_well_formed;
 use opa_case::Question;
 use opa_goals::next_is_declared;
 use opa_infer::Session;
-use opa_io::{NoMemory, Shelf};
+use opa_io::{NoMemory, Shelf, Steps};
 use opa_listen::Listener;
 use opa_mean::Held;
 use opa_model::Model;
@@ -25,6 +25,7 @@ use opa_talk::{Halt, Prompt, Replier};
 use opa_told::prompt_told;
 use opa_tree::Rulebase;
 use std::alloc::Global;
+use std::sync::ledger::Ledger;
 
 /// A session that asks: each line replies to the question that is asked, or is a command behind a slash.
 #[derive(Drop)]
@@ -34,10 +35,11 @@ pub struct Interview {
 
 impl Interview {
     /// Nothing is known of the case.
-    pub fn start(alloc: Global, base: Rulebase) -> Result<Interview, NoMemory>
-        ensures { IfOk result (λ c. (hearers : List Hearer) (files : Option Files) → ⟦<Interview as Replier>⟧.held c hearers files ≡ at_first base hearers files) }
+    pub fn start<L: Ledger>(alloc: Global, base: Rulebase, steps: &mut Steps<L>) -> Result<Interview, NoMemory>
+        ensures first { IfOk result (λ c. (hearers : List Hearer) (files : Option Files) → ⟦<Interview as Replier>⟧.held c hearers files steps.new ≡ at_first base hearers files steps.old) }
+        ensures bound { steps.new ≤ steps.old + first_slots base }
     {
-        let session = Session::start(alloc, base)?;
+        let session = Session::start(alloc, base, steps)?;
         Ok(Interview { session })
     }
 }
@@ -91,7 +93,9 @@ impl Replier for Interview {
 
     ghost Stops = { StopsAsked };
 
-    ghost held = { λ c hearers files. beside c.session hearers files };
+    ghost Lacks = { LacksAsked };
+
+    ghost held = { λ c hearers files steps. beside c.session hearers files steps };
 
     fn prompt(&self, alloc: Global) -> Result<Prompt, NoMemory> {
         let told = prompt_told(alloc, &self.session, self.session.frees())?;
@@ -102,15 +106,16 @@ impl Replier for Interview {
     }
 
     #[tactic(auto, using(crate::proofs::ReplyLaws::replying))]
-    fn reply<F: Shelf>(
+    fn reply<F: Shelf, L: Ledger>(
         &mut self,
         alloc: Global,
         shelf: &mut F,
         listeners: &mut Vec<Box<dyn Listener>>,
+        steps: &mut Steps<L>,
         line: &[u8],
     ) -> Result<Vec<u8>, Halt> {
         let asked = question(alloc, &self.session)?;
         let read = told(alloc, &self.session.base().model, &asked, line);
-        respond(alloc, &mut self.session, shelf, listeners, read)
+        respond(alloc, &mut self.session, shelf, listeners, steps, read)
     }
 }

@@ -10,18 +10,20 @@ ghost use Rattle.opa_saved.specs.declared.fault.LoadFault.TheVariants as faults;
 ghost use Rattle.opa_saved.specs.Faults.{fault_number};
 ghost use Rattle.opa_reply.specs.Held.{beside};
 ghost use Rattle.opa_reply.specs.Loads.{loaded_text as origin_text, refused_load as load_text, LoadsBytes, Loads};
-ghost use Rattle.opa_reply.specs.Replies.{Settles, LoadsFile};
+ghost use Rattle.opa_reply.specs.Replies.{Settles, LoadsFile, HaltsAt, ReachesAll};
+ghost use Rattle.opa_script.specs.declared.command.Command.TheVariants as commands;
 
 use crate::refused::refused;
 use opa_case::Case;
 use opa_infer::Session;
-use opa_io::{NoMemory, Shelf, TakeFault, Txt};
+use opa_io::{NoMemory, Shelf, Steps, TakeFault, Txt};
 use opa_listen::Listener;
 use opa_mean::Held;
 use opa_saved::{LoadFault, Origin, load};
 use opa_talk::Halt;
 use opa_tree::Rulebase;
 use std::alloc::Global;
+use std::sync::ledger::Ledger;
 
 /// How many bytes a saved case may have.
 const FILE_MOST: u64 = 8_388_608;
@@ -124,15 +126,17 @@ fn read_file<F: Shelf>(
 
 /// Puts a case that was loaded in the place of the one that is held.
 #[tactic(auto, using(crate::proofs::Settling::settling))]
-fn settle(
+fn settle<L: Ledger>(
     alloc: Global,
     session: &mut Session,
     listeners: &mut Vec<Box<dyn Listener>>,
+    steps: &mut Steps<L>,
     case: Option<Case>,
 ) -> Result<(), NoMemory>
     requires fits { IfSome case (Fits (shape_of (rules_of session.old).model) (rules_of session.old).ruled) }
     requires fewer { length listeners.old.items < 2 ^ 64 }
-    ensures ok { IfOk result (λ _. (files : Option Files) → Settles (beside session.old (map (λ l. hearer (state l)) listeners.old.items) files) case (beside session.new (map (λ l. hearer (state l)) listeners.new.items) files)) }
+    ensures ok { IfOk result (λ _. (files : Option Files) → Settles (beside session.old (map (λ l. hearer (state l)) listeners.old.items) files steps.old) case (beside session.new (map (λ l. hearer (state l)) listeners.new.items) files steps.new)) }
+    ensures few { OnErr result (ReachesAll (rules_of session.old) (held_of session.old) steps.old steps.new case) }
     ensures case { OnErr result (held_of session.new ≡ held_of session.old) }
     ensures still { OnErr result (reached_of session.new ≡ reached_of session.old) }
     ensures quiet { OnErr result (map (λ l. hearer (state l)) listeners.new.items ≡ map (λ l. hearer (state l)) listeners.old.items) }
@@ -141,30 +145,31 @@ fn settle(
     match case {
         None => Ok(()),
         Some(case) => {
-            session.replace_case(alloc, case, listeners)?;
+            session.replace_case(alloc, case, listeners, steps)?;
             Ok(())
         }
     }
 }
 
 /// Loads a case from the file of this name, and answers what is printed of it.
-#[tactic(auto, using(crate::proofs::Settling::loads_file))]
-pub(crate) fn load_file<F: Shelf>(
+#[tactic(auto, using(crate::proofs::Settling::loading))]
+pub(crate) fn load_file<F: Shelf, L: Ledger>(
     alloc: Global,
     session: &mut Session,
     shelf: &mut F,
     listeners: &mut Vec<Box<dyn Listener>>,
+    steps: &mut Steps<L>,
     name: &Txt,
 ) -> Result<Vec<u8>, Halt>
     requires fewer { length listeners.old.items < 2 ^ 64 }
-    ensures ok { IfOk result (λ t. LoadsFile (beside session.old (map (λ l. hearer (state l)) listeners.old.items) (F.files shelf.old)) name.now t.items (beside session.new (map (λ l. hearer (state l)) listeners.new.items) (F.files shelf.new))) }
-    ensures err { OnErr result (beside session.new (map (λ l. hearer (state l)) listeners.new.items) (F.files shelf.new) ≡ beside session.old (map (λ l. hearer (state l)) listeners.old.items) (F.files shelf.old)) }
+    ensures ok { IfOk result (λ t. LoadsFile (beside session.old (map (λ l. hearer (state l)) listeners.old.items) (F.files shelf.old) steps.old) name.now t.items (beside session.new (map (λ l. hearer (state l)) listeners.new.items) (F.files shelf.new) steps.new)) }
+    ensures err { OnErr result (HaltsAt (F.keep_faults shelf.old) (F.keep_faults shelf.new) (commands.Load name.now) (beside session.old (map (λ l. hearer (state l)) listeners.old.items) (F.files shelf.old) steps.old) (beside session.new (map (λ l. hearer (state l)) listeners.new.items) (F.files shelf.new) steps.new)) }
     ensures cause { IfErr result (IsReplyCause (F.take_faults shelf.old) (F.take_faults shelf.new) (F.keep_faults shelf.old) (F.keep_faults shelf.new)) }
     ensures later_take { F.take_faults shelf.old ≤ F.take_faults shelf.new }
     ensures later_keep { F.keep_faults shelf.old ≤ F.keep_faults shelf.new }
     ensures base { rules_of session.new ≡ rules_of session.old }
 {
     let loading = read_file(alloc, session.base(), shelf, name)?;
-    settle(alloc, session, listeners, loading.case)?;
+    settle(alloc, session, listeners, steps, loading.case)?;
     Ok(loading.text)
 }

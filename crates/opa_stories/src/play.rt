@@ -1,10 +1,14 @@
 // Plays a story: the public call over a shelf, a source and a sink in memory.
+ghost use Rattle.std.specs.Prelude.{◌≡◌, ◌<◌};
+
 use crate::story::{Fault, Story, StoryFile};
-use opa_io::{List, MemShelf, MemSink, MemSource, NoMemory};
+use opa_io::{List, MemShelf, MemSink, MemSource, NoMemory, Steps};
 use opa_listen::{Journal, Listener, Watch};
 use opa_model::AttrId;
 use opa_top::run;
 use std::alloc::Global;
+use std::marker::Brand;
+use std::sync::ledger::{Blank, Ledger};
 
 /// What a run did otherwise than its story says.
 #[derive(Drop)]
@@ -52,6 +56,20 @@ fn watch(alloc: Global, attribute: u32) -> Result<Watch, NoMemory> {
 
 /// Runs what the story asks for. Answers what differs, where something does.
 pub fn play(alloc: Global, story: &Story) -> Result<Option<Difference>, Fault> {
+    counted::<Brand>(alloc, Blank::new(1), story)
+}
+
+/// The same, with its steps on a ledger of its own.
+fn counted<L: Ledger>(
+    alloc: Global,
+    blank: Blank,
+    story: &Story,
+) -> Result<Option<Difference>, Fault>
+    requires name { blank.name ≡ L.name }
+    requires parts { blank.parts ≡ L.parts }
+    requires some { 0 < blank.parts }
+{
+    let mut steps: Steps<L> = Steps::open(blank);
     let failing = &story.failing;
     let takes = failing.takes.as_slice().to_vec(alloc)?;
     let keeps = failing.keeps.as_slice().to_vec(alloc)?;
@@ -73,6 +91,7 @@ pub fn play(alloc: Global, story: &Story) -> Result<Option<Difference>, Fault> {
         &mut source,
         &mut sink,
         &mut listeners,
+        &mut steps,
     )
     .number();
     if u64::from(status) != story.status {

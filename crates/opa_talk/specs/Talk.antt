@@ -13,9 +13,9 @@ pub record IsPrompt {X : Type 0} (rule : Rule X) (x : X) (text : List ℕ) (over
   pub text_is : text ≡ rule.prompt x
   pub over_is : over ≡ rule.is_over x
 
--- what a reply that halts may leave, where a count of faults rose
-abbrev pub WhereRose : {X : Type 0} → ℕ → ℕ → (X → List ℕ → X → Type 0) → X → List ℕ → X → Type 0
-WhereRose before now Stops x line x' = Rose before now × Stops x line x'
+-- What a reply that halts may leave: the one where a count of faults rose, and the other for want of memory.
+abbrev pub MayLeave : {X : Type 0} → ℕ → ℕ → (X → List ℕ → X → Type 0) → (X → List ℕ → X → Type 0) → X → List ℕ → X → Type 0
+MayLeave before now Stops Lacks x line x' = (Rose before now × Stops x line x') ⊎ Lacks x line x'
 
 -- Where the reply to a line halts, all is held as it was, or what such a halt may leave.
 abbrev pub LeftBy : {X : Type 0} → (X → List ℕ → X → Type 0) → X → List ℕ → X → Type 0

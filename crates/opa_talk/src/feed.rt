@@ -6,15 +6,16 @@ ghost use Rattle.opa_listen.specs.Hearing.{hearer};
 ghost use Rattle.opa_talk.specs.Halt.{IsCause};
 ghost use Rattle.opa_talk.specs.Lines.{IsPart};
 ghost use Rattle.opa_talk.specs.Transcript.{IsGoing, CutsAnywhere, HasOneTranscript};
-ghost use Rattle.opa_talk.specs.Talk.{Converses, Halts, WhereRose};
+ghost use Rattle.opa_talk.specs.Talk.{Converses, Halts, MayLeave};
 ghost use Rattle.opa_talk.specs.Points.{point_of, fresh_point, Probes, TakesTurn, TakesLines, BreaksPart, Feeds, FeedBreaks};
 
 use crate::halt::Halt;
 use crate::replier::Replier;
 use crate::talk::{Pending, ask, finish, take_piece};
-use opa_io::{Failed, Shelf, Sink, Source};
+use opa_io::{Failed, Shelf, Sink, Source, Steps};
 use opa_listen::Listener;
 use std::alloc::{AllocError, Global};
+use std::sync::ledger::Ledger;
 
 /// How many bytes an input may have.
 const LIMIT: usize = 67_108_864;
@@ -50,21 +51,22 @@ fn read_into<S: Source>(input: &mut S, buf: &mut Vec<u8>) -> Result<usize, Faile
 }
 
 /// Reads a piece of the input, and carries out the lines that are whole then.
-fn take_turn<T: Replier, F: Shelf, S: Source, K: Sink>(
+fn take_turn<T: Replier, F: Shelf, S: Source, K: Sink, L: Ledger>(
     alloc: Global,
     replier: &mut T,
     shelf: &mut F,
     listeners: &mut Vec<Box<dyn Listener>>,
+    steps: &mut Steps<L>,
     pending: &mut Pending,
     buf: &mut Vec<u8>,
     input: &mut S,
     out: &mut K,
 ) -> Result<Turn, Halt>
-    requires going { IsGoing T.rule (T.held replier.old (map (λ l. hearer (state l)) listeners.old.items) (F.files shelf.old)) }
+    requires going { IsGoing T.rule (T.held replier.old (map (λ l. hearer (state l)) listeners.old.items) (F.files shelf.old) steps.old) }
     requires part { IsPart pending.old.bytes.items }
     requires room { 0 < vec_len buf.old }
-    ensures ok { IfOk result (TakesTurn T.rule (point_of (T.held replier.old (map (λ l. hearer (state l)) listeners.old.items) (F.files shelf.old)) pending.old) (point_of (T.held replier.new (map (λ l. hearer (state l)) listeners.new.items) (F.files shelf.new)) pending.new) (vec_len buf.old) (S.left input.old) (S.left input.new) (K.written out.old) (K.written out.new)) }
-    ensures err { IfErr result (BreaksPart T.rule (WhereRose (F.keep_faults shelf.old) (F.keep_faults shelf.new) T.Stops) (point_of (T.held replier.old (map (λ l. hearer (state l)) listeners.old.items) (F.files shelf.old)) pending.old) (point_of (T.held replier.new (map (λ l. hearer (state l)) listeners.new.items) (F.files shelf.new)) pending.new) (vec_len buf.old) (S.left input.old) (S.left input.new) (K.written out.old) (K.written out.new)) }
+    ensures ok { IfOk result (TakesTurn T.rule (point_of (T.held replier.old (map (λ l. hearer (state l)) listeners.old.items) (F.files shelf.old) steps.old) pending.old) (point_of (T.held replier.new (map (λ l. hearer (state l)) listeners.new.items) (F.files shelf.new) steps.new) pending.new) (vec_len buf.old) (S.left input.old) (S.left input.new) (K.written out.old) (K.written out.new)) }
+    ensures err { IfErr result (BreaksPart T.rule (MayLeave (F.keep_faults shelf.old) (F.keep_faults shelf.new) T.Stops T.Lacks) (point_of (T.held replier.old (map (λ l. hearer (state l)) listeners.old.items) (F.files shelf.old) steps.old) pending.old) (point_of (T.held replier.new (map (λ l. hearer (state l)) listeners.new.items) (F.files shelf.new) steps.new) pending.new) (vec_len buf.old) (S.left input.old) (S.left input.new) (K.written out.old) (K.written out.new)) }
     ensures cause { IfErr result (IsCause (F.take_faults shelf.old) (F.take_faults shelf.new) (F.keep_faults shelf.old) (F.keep_faults shelf.new) (K.faults out.old) (K.faults out.new) (S.faults input.old) (S.faults input.new)) }
     ensures later_input { S.faults input.old ≤ S.faults input.new }
     ensures later { K.faults out.old ≤ K.faults out.new }
@@ -83,6 +85,7 @@ fn take_turn<T: Replier, F: Shelf, S: Source, K: Sink>(
         replier,
         shelf,
         listeners,
+        steps,
         pending,
         &buf[..count],
         out,
@@ -95,21 +98,22 @@ fn take_turn<T: Replier, F: Shelf, S: Source, K: Sink>(
 }
 
 /// Reads the input up to its end, or to the most that is read, and carries out each line that is whole.
-fn take_lines<T: Replier, F: Shelf, S: Source, K: Sink>(
+fn take_lines<T: Replier, F: Shelf, S: Source, K: Sink, L: Ledger>(
     alloc: Global,
     replier: &mut T,
     shelf: &mut F,
     listeners: &mut Vec<Box<dyn Listener>>,
+    steps: &mut Steps<L>,
     pending: &mut Pending,
     buf: &mut Vec<u8>,
     input: &mut S,
     out: &mut K,
 ) -> Result<Ending, Halt>
-    requires going { IsGoing T.rule (T.held replier.old (map (λ l. hearer (state l)) listeners.old.items) (F.files shelf.old)) }
+    requires going { IsGoing T.rule (T.held replier.old (map (λ l. hearer (state l)) listeners.old.items) (F.files shelf.old) steps.old) }
     requires part { IsPart pending.old.bytes.items }
     requires room { 0 < vec_len buf.old }
-    ensures ok { IfOk result (TakesLines T.rule (point_of (T.held replier.old (map (λ l. hearer (state l)) listeners.old.items) (F.files shelf.old)) pending.old) (point_of (T.held replier.new (map (λ l. hearer (state l)) listeners.new.items) (F.files shelf.new)) pending.new) LIMIT (S.left input.old) (S.left input.new) (K.written out.old) (K.written out.new)) }
-    ensures err { IfErr result (BreaksPart T.rule (WhereRose (F.keep_faults shelf.old) (F.keep_faults shelf.new) T.Stops) (point_of (T.held replier.old (map (λ l. hearer (state l)) listeners.old.items) (F.files shelf.old)) pending.old) (point_of (T.held replier.new (map (λ l. hearer (state l)) listeners.new.items) (F.files shelf.new)) pending.new) LIMIT (S.left input.old) (S.left input.new) (K.written out.old) (K.written out.new)) }
+    ensures ok { IfOk result (TakesLines T.rule (point_of (T.held replier.old (map (λ l. hearer (state l)) listeners.old.items) (F.files shelf.old) steps.old) pending.old) (point_of (T.held replier.new (map (λ l. hearer (state l)) listeners.new.items) (F.files shelf.new) steps.new) pending.new) LIMIT (S.left input.old) (S.left input.new) (K.written out.old) (K.written out.new)) }
+    ensures err { IfErr result (BreaksPart T.rule (MayLeave (F.keep_faults shelf.old) (F.keep_faults shelf.new) T.Stops T.Lacks) (point_of (T.held replier.old (map (λ l. hearer (state l)) listeners.old.items) (F.files shelf.old) steps.old) pending.old) (point_of (T.held replier.new (map (λ l. hearer (state l)) listeners.new.items) (F.files shelf.new) steps.new) pending.new) LIMIT (S.left input.old) (S.left input.new) (K.written out.old) (K.written out.new)) }
     ensures cause { IfErr result (IsCause (F.take_faults shelf.old) (F.take_faults shelf.new) (F.keep_faults shelf.old) (F.keep_faults shelf.new) (K.faults out.old) (K.faults out.new) (S.faults input.old) (S.faults input.new)) }
     ensures later_input { S.faults input.old ≤ S.faults input.new }
     ensures later { K.faults out.old ≤ K.faults out.new }
@@ -119,7 +123,7 @@ fn take_lines<T: Replier, F: Shelf, S: Source, K: Sink>(
     let mut left = LIMIT;
     while left > 0 {
         buf.truncate(left);
-        match take_turn(alloc, replier, shelf, listeners, pending, buf, input, out)? {
+        match take_turn(alloc, replier, shelf, listeners, steps, pending, buf, input, out)? {
             Turn::End => return Ok(Ending::End),
             Turn::Over => return Ok(Ending::Over),
             Turn::Read(count) => left -= count,
@@ -146,36 +150,37 @@ fn buffer(alloc: Global) -> Result<Vec<u8>, AllocError>
 }
 
 /// Reads the input from a point on to where the talk ends, and writes what its lines print.
-fn go_on<T: Replier, F: Shelf, S: Source, K: Sink>(
+fn go_on<T: Replier, F: Shelf, S: Source, K: Sink, L: Ledger>(
     alloc: Global,
     replier: &mut T,
     shelf: &mut F,
     listeners: &mut Vec<Box<dyn Listener>>,
+    steps: &mut Steps<L>,
     pending: &mut Pending,
     buf: &mut Vec<u8>,
     input: &mut S,
     out: &mut K,
 ) -> Result<(), Halt>
-    requires going { IsGoing T.rule (T.held replier.old (map (λ l. hearer (state l)) listeners.old.items) (F.files shelf.old)) }
+    requires going { IsGoing T.rule (T.held replier.old (map (λ l. hearer (state l)) listeners.old.items) (F.files shelf.old) steps.old) }
     requires part { IsPart pending.old.bytes.items }
     requires room { 0 < vec_len buf.old }
-    ensures ok { OnOk result (Feeds T.rule (point_of (T.held replier.old (map (λ l. hearer (state l)) listeners.old.items) (F.files shelf.old)) pending.old) (T.held replier.new (map (λ l. hearer (state l)) listeners.new.items) (F.files shelf.new)) LIMIT (S.left input.old) (S.left input.new) (K.written out.old) (K.written out.new)) }
-    ensures err { IfErr result (FeedBreaks T.rule (WhereRose (F.keep_faults shelf.old) (F.keep_faults shelf.new) T.Stops) (point_of (T.held replier.old (map (λ l. hearer (state l)) listeners.old.items) (F.files shelf.old)) pending.old) (point_of (T.held replier.new (map (λ l. hearer (state l)) listeners.new.items) (F.files shelf.new)) pending.new) LIMIT (S.left input.old) (S.left input.new) (K.written out.old) (K.written out.new)) }
+    ensures ok { OnOk result (Feeds T.rule (point_of (T.held replier.old (map (λ l. hearer (state l)) listeners.old.items) (F.files shelf.old) steps.old) pending.old) (T.held replier.new (map (λ l. hearer (state l)) listeners.new.items) (F.files shelf.new) steps.new) LIMIT (S.left input.old) (S.left input.new) (K.written out.old) (K.written out.new)) }
+    ensures err { IfErr result (FeedBreaks T.rule (MayLeave (F.keep_faults shelf.old) (F.keep_faults shelf.new) T.Stops T.Lacks) (point_of (T.held replier.old (map (λ l. hearer (state l)) listeners.old.items) (F.files shelf.old) steps.old) pending.old) (point_of (T.held replier.new (map (λ l. hearer (state l)) listeners.new.items) (F.files shelf.new) steps.new) pending.new) LIMIT (S.left input.old) (S.left input.new) (K.written out.old) (K.written out.new)) }
     ensures cause { IfErr result (IsCause (F.take_faults shelf.old) (F.take_faults shelf.new) (F.keep_faults shelf.old) (F.keep_faults shelf.new) (K.faults out.old) (K.faults out.new) (S.faults input.old) (S.faults input.new)) }
     ensures later_input { S.faults input.old ≤ S.faults input.new }
     ensures later { K.faults out.old ≤ K.faults out.new }
     ensures later_take { F.take_faults shelf.old ≤ F.take_faults shelf.new }
     ensures later_keep { F.keep_faults shelf.old ≤ F.keep_faults shelf.new }
 {
-    match take_lines(alloc, replier, shelf, listeners, pending, buf, input, out)? {
+    match take_lines(alloc, replier, shelf, listeners, steps, pending, buf, input, out)? {
         Ending::Over => Ok(()),
-        Ending::End => finish(alloc, replier, shelf, listeners, pending, out),
+        Ending::End => finish(alloc, replier, shelf, listeners, steps, pending, out),
         Ending::Full => {
             let Ok(ended) = is_at_end(input) else {
                 return Err(Halt::Input);
             };
             if ended {
-                finish(alloc, replier, shelf, listeners, pending, out)
+                finish(alloc, replier, shelf, listeners, steps, pending, out)
             } else {
                 Err(Halt::Limit)
             }
@@ -185,17 +190,18 @@ fn go_on<T: Replier, F: Shelf, S: Source, K: Sink>(
 
 /// Reads the input to where the talk ends, and writes its transcript. `fewer` holds of each vector, and tells callers that
 /// no listener is made.
-pub fn converse<T: Replier, F: Shelf, S: Source, K: Sink>(
+pub fn converse<T: Replier, F: Shelf, S: Source, K: Sink, L: Ledger>(
     alloc: Global,
     replier: &mut T,
     shelf: &mut F,
     listeners: &mut Vec<Box<dyn Listener>>,
+    steps: &mut Steps<L>,
     input: &mut S,
     out: &mut K,
 ) -> Result<(), Halt>
     requires fewer { length listeners.old.items < 2 ^ 64 }
-    ensures ok { OnOk result (Converses T.rule (T.held replier.old (map (λ l. hearer (state l)) listeners.old.items) (F.files shelf.old)) (T.held replier.new (map (λ l. hearer (state l)) listeners.new.items) (F.files shelf.new)) LIMIT (S.left input.old) (S.left input.new) (K.written out.old) (K.written out.new)) }
-    ensures err { IfErr result (Halts T.rule (WhereRose (F.keep_faults shelf.old) (F.keep_faults shelf.new) T.Stops) (T.held replier.old (map (λ l. hearer (state l)) listeners.old.items) (F.files shelf.old)) (T.held replier.new (map (λ l. hearer (state l)) listeners.new.items) (F.files shelf.new)) LIMIT (S.left input.old) (S.left input.new) (K.written out.old) (K.written out.new)) }
+    ensures ok { OnOk result (Converses T.rule (T.held replier.old (map (λ l. hearer (state l)) listeners.old.items) (F.files shelf.old) steps.old) (T.held replier.new (map (λ l. hearer (state l)) listeners.new.items) (F.files shelf.new) steps.new) LIMIT (S.left input.old) (S.left input.new) (K.written out.old) (K.written out.new)) }
+    ensures err { IfErr result (Halts T.rule (MayLeave (F.keep_faults shelf.old) (F.keep_faults shelf.new) T.Stops T.Lacks) (T.held replier.old (map (λ l. hearer (state l)) listeners.old.items) (F.files shelf.old) steps.old) (T.held replier.new (map (λ l. hearer (state l)) listeners.new.items) (F.files shelf.new) steps.new) LIMIT (S.left input.old) (S.left input.new) (K.written out.old) (K.written out.new)) }
     ensures cause { IfErr result (IsCause (F.take_faults shelf.old) (F.take_faults shelf.new) (F.keep_faults shelf.old) (F.keep_faults shelf.new) (K.faults out.old) (K.faults out.new) (S.faults input.old) (S.faults input.new)) }
     ensures later_input { S.faults input.old ≤ S.faults input.new }
     ensures later { K.faults out.old ≤ K.faults out.new }
@@ -207,7 +213,7 @@ pub fn converse<T: Replier, F: Shelf, S: Source, K: Sink>(
         fresh: true,
     };
     let mut buf = buffer(alloc)?;
-    let over = ask(alloc, replier, shelf, listeners, out)?;
+    let over = ask(alloc, replier, shelf, listeners, steps, out)?;
     if over {
         return Ok(());
     }
@@ -216,6 +222,7 @@ pub fn converse<T: Replier, F: Shelf, S: Source, K: Sink>(
         replier,
         shelf,
         listeners,
+        steps,
         &mut pending,
         &mut buf,
         input,

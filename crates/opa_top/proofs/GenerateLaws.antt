@@ -41,6 +41,6 @@ module _ (number : List ℕ) (old new : Outside) (result : Status) where
 
 -- there was no memory to make them
 pub not_made : (n : ℕ) (old : Outside) → Generates n old old status.NoMemory
-not_made n old = inl (refl, Appends-none old.written, record { left = refl; files = refl; hearers = refl })
+not_made n old = inl (refl, Appends-none old.written, record { left = refl; files = refl; hearers = refl; steps = refl })
 
 pub ruleset numbers = (number_refused, number_taken)

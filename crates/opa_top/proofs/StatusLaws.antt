@@ -8,7 +8,7 @@ use Rattle.opa_io.specs.declared.fault.Status.{Status}
 use Rattle.opa_io.specs.declared.fault.Status.TheVariants as status
 use Rattle.opa_rulebase.specs.Loading.{Opens}
 use Rattle.opa_talk.specs.Lines.{EndsLine, input_lines}
-use Rattle.opa_talk.specs.Talk.{WhereRose}
+use Rattle.opa_talk.specs.Talk.{MayLeave}
 use Rattle.opa_talk.proofs.EndLaws.{among_whole}
 use Rattle.opa_tree.specs.declared.rulebase.Rulebase.{Rulebase}
 use Rattle.opa_top.specs.Checking.{IsOpened, IsTold, verdict_status}
@@ -90,7 +90,7 @@ module _ (way : Manner) (name : List ℕ) (old new : Outside) where
   whole_front : (base : Rulebase) (whole rest read : List ℕ) → whole ++ rest ≡ read → EndsLine whole → SaysAll way base old new whole → SaysFront way base old new read
   whole_front base whole rest read cut ends s = record {
     held = s.held;
-    halted = among_whole way.rule (WhereRose old.keeps new.keeps way.stops) _ _ whole rest read _ _ _ cut ends (record {
+    halted = among_whole way.rule (MayLeave old.keeps new.keeps way.stops way.lacks) _ _ whole rest read _ _ _ cut ends (record {
       done = input_lines whole;
       more = [];
       cut = append-nil _;

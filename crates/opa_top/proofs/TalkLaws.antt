@@ -1,14 +1,15 @@
 -- How a run ends, from what its parts ensure.
-use Rattle.std.proofs.Common.{◌≡◌, ◌≤◌, inl, inr, ℕ, true, false, List, Result, Ok, Err, OnOk, IfErr, refl, sym, subst, arith, ◌∙◌}
+use Rattle.std.proofs.Common.{◌≡◌, ◌≤◌, ◌+◌, inl, inr, ℕ, true, false, List, Result, Ok, Err, OnOk, IfErr, refl, sym, subst, arith, ◌∙◌}
 use Rattle.std.specs.Io.KnownBytes.{IsAtEnd}
 use Rattle.opa_io.specs.Outside.{Rose}
 use Rattle.opa_io.specs.declared.fault.Status.{Status}
 use Rattle.opa_io.specs.declared.fault.Status.TheVariants as status
+use Rattle.opa_infer.specs.Sessions.{first_slots}
 use Rattle.opa_model.specs.Models.{IsModel}
 use Rattle.opa_talk.specs.declared.halt.Halt.{Halt}
 use Rattle.opa_talk.specs.declared.halt.Halt.TheVariants as halt
 use Rattle.opa_talk.specs.Halt.{IsCause}
-use Rattle.opa_talk.specs.Talk.{Converses, Halts, HaltedAmong, Paused, WhereRose}
+use Rattle.opa_talk.specs.Talk.{Converses, Halts, HaltedAmong, Paused, MayLeave}
 use Rattle.opa_talk.proofs.EndLaws.{halts_memory}
 use Rattle.opa_tree.specs.declared.rulebase.Rulebase.{Rulebase}
 use Rattle.opa_reply.specs.Held.{Held}
@@ -20,15 +21,29 @@ module _ (way : Manner) (base : Rulebase) (old new : Outside) (s s' : Held) (is 
   talks_all (Ok u) h = let P : Held → Type 0 = λ x. Converses way.rule x s' MOST old.left new.left old.written new.written in (s', subst P is h, leaves)
   talks_all (Err e) h = tt
 
-  pub talks_part : {T : Type 0} (r : Result T Halt) → IfErr r (Halts way.rule (WhereRose old.keeps new.keeps way.stops) s s' MOST old.left new.left old.written new.written)
+  pub talks_part : {T : Type 0} (r : Result T Halt) → IfErr r (Halts way.rule (MayLeave old.keeps new.keeps way.stops way.lacks) s s' MOST old.left new.left old.written new.written)
       → IfErr r (TalksPart way base old new)
   talks_part (Ok u) h = tt
-  talks_part (Err e) h = let P : Held → Type 0 = λ x. Halts way.rule (WhereRose old.keeps new.keeps way.stops) x s' MOST old.left new.left old.written new.written e in (s', subst P is h, leaves)
+  talks_part (Err e) h = let P : Held → Type 0 = λ x. Halts way.rule (MayLeave old.keeps new.keeps way.stops way.lacks) x s' MOST old.left new.left old.written new.written e in (s', subst P is h, leaves)
+
+-- another count of steps
+abbrev pub with_steps : Outside → ℕ → Outside
+with_steps old steps = record {
+  files = old.files;
+  left = old.left;
+  written = old.written;
+  hearers = old.hearers;
+  takes = old.takes;
+  keeps = old.keeps;
+  reads = old.reads;
+  writes = old.writes;
+  steps = steps;
+}
 
 -- memory ran out before the first line
-pub talks_not : (way : Manner) (base : Rulebase) (old : Outside) → TalksPart way base old old halt.Memory
-talks_not way base old =
-    (beginning base old, halts_memory way.rule (WhereRose old.keeps old.keeps way.stops) (beginning base old) MOST old.left old.written, record { files = refl; hearers = refl })
+pub talks_not : (way : Manner) (base : Rulebase) (old : Outside) (steps : ℕ) → steps ≤ old.steps + first_slots base → TalksPart way base old (with_steps old steps) halt.Memory
+talks_not way base old steps few =
+    (beginning base old, halts_memory way.rule (MayLeave old.keeps old.keeps way.stops way.lacks) (beginning base old) MOST old.left old.written, record { files = refl; hearers = refl; steps = few })
 
 -- a count that rose later rose
 rose_later : (before mid now : ℕ) → before ≤ mid → Rose mid now → Rose before now
@@ -38,7 +53,7 @@ module _ (way : Manner) (base : Rulebase) (old new : Outside) (mid : ℕ) (less 
   whole : (y : Held) (read : List ℕ) → Paused way.rule (beginning base old) y read old.written new.written → Leaves new y → SaysWhole way base old new read
   whole y read p leaves = record { whole = p.whole; is_whole = p.is_whole; says = record { text = p.text; held = y; said = p.said; wrote = p.wrote; leaves = leaves }; going = p.going }
 
-  front : (y : Held) (read : List ℕ) → HaltedAmong way.rule (WhereRose old.keeps new.keeps way.stops) (beginning base old) y read new.left old.written new.written → Leaves new y → SaysFront way base old new read
+  front : (y : Held) (read : List ℕ) → HaltedAmong way.rule (MayLeave old.keeps new.keeps way.stops way.lacks) (beginning base old) y read new.left old.written new.written → Leaves new y → SaysFront way base old new read
   front y read h leaves = record { held = y; halted = h; leaves = leaves }
 
   pub fed : (r : Result (Unit {0}) Halt) → OnOk r (TalksAll way base old new) → IfErr r (TalksPart way base old new)

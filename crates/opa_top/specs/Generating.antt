@@ -28,7 +28,7 @@ generated_name = codes "generated.txt"
 abbrev pub generated_files : Files
 generated_files = map.from_entries ((generated_name, rules_text) ∷ [])
 
--- The generated rulebase and its input lie in memory. What is written, and whom a run over them tells, is outside of the program;
+-- The generated rulebase and its input lie in memory. What is written, whom a run over them tells, and the count of steps are outside of the program;
 -- its files and its input are as they were.
 pub record IsMade (n : ℕ) (old new before after : Outside) : Type 0 where
   pub files : before.files ≡ Some generated_files
@@ -39,6 +39,8 @@ pub record IsMade (n : ℕ) (old new before after : Outside) : Type 0 where
   pub hearers_after : after.hearers ≡ new.hearers
   pub writes_before : before.writes ≡ old.writes
   pub writes_after : after.writes ≡ new.writes
+  pub steps_before : before.steps ≡ old.steps
+  pub steps_after : after.steps ≡ new.steps
   pub kept : new.files ≡ old.files
   pub unread : new.left ≡ old.left
 

@@ -9,12 +9,12 @@ use Rattle.opa_talk.specs.declared.halt.Halt.{Halt}
 use Rattle.opa_talk.specs.declared.halt.Halt.TheVariants as halt
 use Rattle.opa_talk.specs.Lines.{input_lines, IsWhole}
 use Rattle.opa_talk.specs.Transcript.{Rule, IsGoing, IsOver, IsTranscript}
-use Rattle.opa_talk.specs.Talk.{HaltedAmong, Converses, Halts, WhereRose}
+use Rattle.opa_talk.specs.Talk.{HaltedAmong, Converses, Halts, MayLeave}
 use Rattle.opa_model.specs.Models.{IsModel}
 use Rattle.opa_tree.specs.declared.rulebase.Rulebase.{Rulebase}
 use Rattle.opa_reply.specs.Held.{Held, at_first}
-use Rattle.opa_reply.specs.Interviews.{interview, StopsAsked}
-use Rattle.opa_reply.specs.Replies.{conversation, Stops}
+use Rattle.opa_reply.specs.Interviews.{interview, LacksAsked, StopsAsked}
+use Rattle.opa_reply.specs.Replies.{conversation, Lacks, Stops}
 use Rattle.opa_top.specs.Checking.{IsOpened, IsTold}
 
 -- how many bytes an input may have
@@ -22,7 +22,7 @@ abbrev pub MOST : ℕ
 MOST = 67108864
 
 -- What is told of the outside: the files of the shelf, the bytes that are left of the input, those that were written, what
--- listeners watch and keep, and the counts of faults of taking and keeping files, of reading and of writing.
+-- listeners watch and keep, the counts of faults of taking and keeping files, of reading and of writing, and the count of steps.
 pub record Outside : Type 0 where
   pub files : Option Files
   pub left : Option (List ℕ)
@@ -32,9 +32,10 @@ pub record Outside : Type 0 where
   pub keeps : ℕ
   pub reads : ℕ
   pub writes : ℕ
+  pub steps : ℕ
 
-abbrev pub outside : {F S K : Type 0} → (F → Option Files) → (F → ℕ) → (F → ℕ) → (S → Option (List ℕ)) → (S → ℕ) → (K → Option (List ℕ)) → (K → ℕ) → F → List Hearer → S → K → Outside
-outside files takes keeps left reads written writes shelf hearers input out = record {
+abbrev pub outside : {F S K : Type 0} → (F → Option Files) → (F → ℕ) → (F → ℕ) → (S → Option (List ℕ)) → (S → ℕ) → (K → Option (List ℕ)) → (K → ℕ) → F → List Hearer → S → K → ℕ → Outside
+outside files takes keeps left reads written writes shelf hearers input out steps = record {
   files = files shelf;
   left = left input;
   written = written out;
@@ -43,28 +44,31 @@ outside files takes keeps left reads written writes shelf hearers input out = re
   keeps = keeps shelf;
   reads = reads input;
   writes = writes out;
+  steps = steps;
 }
 
--- How lines are answered: the rule, and what may be held where keeping a file failed.
+-- How lines are answered: the rule, and what may be held where keeping a file failed, and where memory ran out.
 pub record Manner : Type 1 where
   pub rule : Rule Held
   pub stops : Held → List ℕ → Held → Type 0
+  pub lacks : Held → List ℕ → Held → Type 0
 
 -- each line is a command; or each replies to a question that stands before it, or is a command behind a slash
 abbrev pub a_run : Manner
-a_run = record { rule = conversation; stops = Stops }
+a_run = record { rule = conversation; stops = Stops; lacks = Lacks }
 
 abbrev pub an_interview : Manner
-an_interview = record { rule = interview; stops = StopsAsked }
+an_interview = record { rule = interview; stops = StopsAsked; lacks = LacksAsked }
 
--- the files, and what listeners keep, are those that are held
+-- The files, and what listeners keep, are those that are held, and no more steps were counted than lines are held to be derived.
 pub record Leaves (new : Outside) (held : Held) : Type 0 where
   pub files : new.files ≡ held.files
   pub hearers : new.hearers ≡ held.hearers
+  pub steps : new.steps ≤ held.derived
 
 -- what is held before the first line
 abbrev pub beginning : Rulebase → Outside → Held
-beginning base old = at_first base old.hearers old.files
+beginning base old = at_first base old.hearers old.files old.steps
 
 module _ (way : Manner) (base : Rulebase) (old new : Outside) where
   -- The transcript of the bytes' lines was written, and the files and the listeners are those that the lines leave.
@@ -88,7 +92,7 @@ module _ (way : Manner) (base : Rulebase) (old new : Outside) where
   -- listeners are those that these lines leave; but where keeping a file failed, for the name under which the next line couldn't keep its text.
   pub record SaysFront (bytes : List ℕ) : Type 0 where
     pub held : Held
-    pub halted : HaltedAmong way.rule (WhereRose old.keeps new.keeps way.stops) (beginning base old) held bytes new.left old.written new.written
+    pub halted : HaltedAmong way.rule (MayLeave old.keeps new.keeps way.stops way.lacks) (beginning base old) held bytes new.left old.written new.written
     pub leaves : Leaves new held
 
   -- The lines whose line feed is among the bytes were carried out, and a further line would be taken.
@@ -112,11 +116,12 @@ module _ (way : Manner) (base : Rulebase) (old new : Outside) where
   Talks status.NoMemory = ReadsSome SaysFront
   Talks status.InputLimit = (read : List ℕ) × Consumes old.left new.left read × (length read ≡ MOST + 1) × SaysWhole (take MOST read)
 
--- nothing was read, nothing was kept, and nobody was told
+-- nothing was read, nothing was kept, nobody was told, and no line was derived
 pub record IsUnused (old new : Outside) : Type 0 where
   pub left : new.left ≡ old.left
   pub files : new.files ≡ old.files
   pub hearers : new.hearers ≡ old.hearers
+  pub steps : new.steps ≡ old.steps
 
 -- A run over what the name opens: the rulebase is accepted, and the lines of the input are carried out; or it is refused, which is
 -- printed; or nothing was loaded, for a fault of the shelf or for want of memory.
@@ -134,7 +139,7 @@ TalksAll way base old new = (y : Held) × Converses way.rule (beginning base old
 
 -- some of the input was read, and the talk halts there
 abbrev pub TalksPart : Manner → Rulebase → Outside → Outside → Halt → Type 0
-TalksPart way base old new halt = (y : Held) × Halts way.rule (WhereRose old.keeps new.keeps way.stops) (beginning base old) y MOST old.left new.left old.written new.written halt × Leaves new y
+TalksPart way base old new halt = (y : Held) × Halts way.rule (MayLeave old.keeps new.keeps way.stops way.lacks) (beginning base old) y MOST old.left new.left old.written new.written halt × Leaves new y
 
 -- how a run ends that was fed
 abbrev pub end_of : Result (Unit {0}) Halt → Status

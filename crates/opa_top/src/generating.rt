@@ -7,11 +7,12 @@ ghost use Rattle.opa_top.specs.Running.{outside, Runs, a_run};
 
 use crate::check::tell;
 use crate::talk::open_and_talk;
-use opa_io::{MemShelf, MemSource, NoMemory, Shelf, Sink, Source, Status};
+use opa_io::{MemShelf, MemSource, NoMemory, Shelf, Sink, Source, Status, Steps};
 use opa_listen::Listener;
 use opa_script::generate;
 use opa_value::Number;
 use std::alloc::Global;
+use std::sync::ledger::Ledger;
 
 /// The name of the generated rulebase.
 const NAME: &str = "generated.txt";
@@ -74,46 +75,48 @@ fn make_example(alloc: Global, size: u32) -> Result<Example, NoMemory>
 }
 
 /// Carries out the generated input over the generated rulebase.
-fn talk_over<S: Source, F: Shelf, K: Sink>(
+fn talk_over<S: Source, F: Shelf, K: Sink, L: Ledger>(
     alloc: Global,
     size: u32,
     shelf: &F,
     input: &S,
     out: &mut K,
     listeners: &mut Vec<Box<dyn Listener>>,
+    steps: &mut Steps<L>,
 ) -> Status
     requires least { 1 ≤ size }
     requires most { size ≤ 1000 }
     requires fewer { length listeners.old.items < 2 ^ 64 }
     ensures { Generates size
-        (outside F.files F.take_faults F.keep_faults S.left S.faults K.written K.faults shelf.now (map (λ l. hearer (state l)) listeners.old.items) input.now out.old)
-        (outside F.files F.take_faults F.keep_faults S.left S.faults K.written K.faults shelf.now (map (λ l. hearer (state l)) listeners.new.items) input.now out.new) result }
+        (outside F.files F.take_faults F.keep_faults S.left S.faults K.written K.faults shelf.now (map (λ l. hearer (state l)) listeners.old.items) input.now out.old steps.old)
+        (outside F.files F.take_faults F.keep_faults S.left S.faults K.written K.faults shelf.now (map (λ l. hearer (state l)) listeners.new.items) input.now out.new steps.new) result }
 {
     let Ok(found) = make_example(alloc, size) else {
         return Status::NoMemory;
     };
     let mut rules = found.shelf;
     let mut lines = found.input;
-    open_and_talk(alloc, NAME, &mut rules, listeners, &mut lines, out)
+    open_and_talk(alloc, NAME, &mut rules, listeners, steps, &mut lines, out)
 }
 
 /// The transcript of the generated rulebase and its input, or the refusal of a number.
 #[tactic(auto, using(crate::proofs::GenerateLaws::numbers))]
-pub(crate) fn generated<S: Source, F: Shelf, K: Sink>(
+pub(crate) fn generated<S: Source, F: Shelf, K: Sink, L: Ledger>(
     alloc: Global,
     number: &str,
     shelf: &F,
     input: &S,
     out: &mut K,
     listeners: &mut Vec<Box<dyn Listener>>,
+    steps: &mut Steps<L>,
 ) -> Status
     requires fewer { length listeners.old.items < 2 ^ 64 }
     ensures { IsGenerated number.now
-        (outside F.files F.take_faults F.keep_faults S.left S.faults K.written K.faults shelf.now (map (λ l. hearer (state l)) listeners.old.items) input.now out.old)
-        (outside F.files F.take_faults F.keep_faults S.left S.faults K.written K.faults shelf.now (map (λ l. hearer (state l)) listeners.new.items) input.now out.new) result }
+        (outside F.files F.take_faults F.keep_faults S.left S.faults K.written K.faults shelf.now (map (λ l. hearer (state l)) listeners.old.items) input.now out.old steps.old)
+        (outside F.files F.take_faults F.keep_faults S.left S.faults K.written K.faults shelf.now (map (λ l. hearer (state l)) listeners.new.items) input.now out.new steps.new) result }
 {
     match size_of(number) {
         None => tell(Status::Refused, out, "refused: number\n"),
-        Some(size) => talk_over(alloc, size, shelf, input, out, listeners),
+        Some(size) => talk_over(alloc, size, shelf, input, out, listeners, steps),
     }
 }

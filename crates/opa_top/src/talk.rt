@@ -6,34 +6,36 @@ ghost use Rattle.opa_talk.specs.Halt.{IsCause};
 ghost use Rattle.opa_top.specs.Running.{outside, Runs, TalksAll, TalksPart, a_run, end_of};
 
 use crate::check::tell;
-use opa_io::{Shelf, Sink, Source, Status};
+use opa_io::{Shelf, Sink, Source, Status, Steps};
 use opa_listen::Listener;
 use opa_reply::Conversation;
 use opa_rulebase::{LoadError, load_rulebase};
 use opa_talk::{Halt, converse};
 use opa_tree::Rulebase;
 use std::alloc::Global;
+use std::sync::ledger::Ledger;
 
 /// Carries out the lines of the input over a rulebase.
-fn talk<S: Source, F: Shelf, K: Sink>(
+fn talk<S: Source, F: Shelf, K: Sink, L: Ledger>(
     alloc: Global,
     base: Rulebase,
     shelf: &mut F,
     listeners: &mut Vec<Box<dyn Listener>>,
+    steps: &mut Steps<L>,
     input: &mut S,
     out: &mut K,
 ) -> Result<(), Halt>
     requires fewer { length listeners.old.items < 2 ^ 64 }
     ensures all { OnOk result (TalksAll a_run base
-        (outside F.files F.take_faults F.keep_faults S.left S.faults K.written K.faults shelf.old (map (λ l. hearer (state l)) listeners.old.items) input.old out.old)
-        (outside F.files F.take_faults F.keep_faults S.left S.faults K.written K.faults shelf.new (map (λ l. hearer (state l)) listeners.new.items) input.new out.new)) }
+        (outside F.files F.take_faults F.keep_faults S.left S.faults K.written K.faults shelf.old (map (λ l. hearer (state l)) listeners.old.items) input.old out.old steps.old)
+        (outside F.files F.take_faults F.keep_faults S.left S.faults K.written K.faults shelf.new (map (λ l. hearer (state l)) listeners.new.items) input.new out.new steps.new)) }
     ensures part { IfErr result (TalksPart a_run base
-        (outside F.files F.take_faults F.keep_faults S.left S.faults K.written K.faults shelf.old (map (λ l. hearer (state l)) listeners.old.items) input.old out.old)
-        (outside F.files F.take_faults F.keep_faults S.left S.faults K.written K.faults shelf.new (map (λ l. hearer (state l)) listeners.new.items) input.new out.new)) }
+        (outside F.files F.take_faults F.keep_faults S.left S.faults K.written K.faults shelf.old (map (λ l. hearer (state l)) listeners.old.items) input.old out.old steps.old)
+        (outside F.files F.take_faults F.keep_faults S.left S.faults K.written K.faults shelf.new (map (λ l. hearer (state l)) listeners.new.items) input.new out.new steps.new)) }
     ensures cause { IfErr result (IsCause (F.take_faults shelf.old) (F.take_faults shelf.new) (F.keep_faults shelf.old) (F.keep_faults shelf.new) (K.faults out.old) (K.faults out.new) (S.faults input.old) (S.faults input.new)) }
 {
-    let mut conversation = Conversation::start(alloc, base)?;
-    converse(alloc, &mut conversation, shelf, listeners, input, out)
+    let mut conversation = Conversation::start(alloc, base, steps)?;
+    converse(alloc, &mut conversation, shelf, listeners, steps, input, out)
 }
 
 /// What a rulebase declares is a model.
@@ -59,23 +61,24 @@ pub(crate) fn end_of(fed: Result<(), Halt>) -> Status
 }
 
 /// Loads a rulebase, and carries out the lines of the input over it.
-pub(crate) fn open_and_talk<S: Source, F: Shelf, K: Sink>(
+pub(crate) fn open_and_talk<S: Source, F: Shelf, K: Sink, L: Ledger>(
     alloc: Global,
     name: &str,
     shelf: &mut F,
     listeners: &mut Vec<Box<dyn Listener>>,
+    steps: &mut Steps<L>,
     input: &mut S,
     out: &mut K,
 ) -> Status
     requires fewer { length listeners.old.items < 2 ^ 64 }
     ensures { Runs a_run name.now
-        (outside F.files F.take_faults F.keep_faults S.left S.faults K.written K.faults shelf.old (map (λ l. hearer (state l)) listeners.old.items) input.old out.old)
-        (outside F.files F.take_faults F.keep_faults S.left S.faults K.written K.faults shelf.new (map (λ l. hearer (state l)) listeners.new.items) input.new out.new) result }
+        (outside F.files F.take_faults F.keep_faults S.left S.faults K.written K.faults shelf.old (map (λ l. hearer (state l)) listeners.old.items) input.old out.old steps.old)
+        (outside F.files F.take_faults F.keep_faults S.left S.faults K.written K.faults shelf.new (map (λ l. hearer (state l)) listeners.new.items) input.new out.new steps.new) result }
 {
     match load_rulebase(alloc, shelf, name) {
         Ok(base) => {
             declares_a_model(&base);
-            end_of(talk(alloc, base, shelf, listeners, input, out))
+            end_of(talk(alloc, base, shelf, listeners, steps, input, out))
         }
         Err(error) => match error {
             LoadError::Refused { text, .. } => tell(Status::Refused, out, text.as_str()),

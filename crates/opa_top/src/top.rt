@@ -15,46 +15,48 @@ use crate::generating::generated;
 use crate::meaning::shown_is_meant;
 use crate::talk::open_and_talk;
 use opa_decided::{one_opening, one_transcript};
-use opa_io::{Shelf, Sink, Source, Status};
+use opa_io::{Shelf, Sink, Source, Status, Steps};
 use opa_listen::Listener;
 use opa_usage::{Mode, WordsFault, read_words};
 use std::alloc::Global;
+use std::sync::ledger::Ledger;
 
 const USAGE: &str = "usage: opa MODE NAME [NAME]\n";
 
 /// Does what the words of the command line say.
-fn run_words<S: Source, F: Shelf, K: Sink>(
+fn run_words<S: Source, F: Shelf, K: Sink, L: Ledger>(
     alloc: Global,
     words: &[String],
     shelf: &mut F,
     input: &mut S,
     out: &mut K,
     listeners: &mut Vec<Box<dyn Listener>>,
+    steps: &mut Steps<L>,
 ) -> Status
     requires fewer { length listeners.old.items < 2 ^ 64 }
     ensures usage { asked_of (words_of words.now) ≡ None → SaysUsage
-        (outside F.files F.take_faults F.keep_faults S.left S.faults K.written K.faults shelf.old (map (λ l. hearer (state l)) listeners.old.items) input.old out.old)
-        (outside F.files F.take_faults F.keep_faults S.left S.faults K.written K.faults shelf.new (map (λ l. hearer (state l)) listeners.new.items) input.new out.new) result }
+        (outside F.files F.take_faults F.keep_faults S.left S.faults K.written K.faults shelf.old (map (λ l. hearer (state l)) listeners.old.items) input.old out.old steps.old)
+        (outside F.files F.take_faults F.keep_faults S.left S.faults K.written K.faults shelf.new (map (λ l. hearer (state l)) listeners.new.items) input.new out.new steps.new) result }
     ensures checked { (name : List ℕ) → Asks words.now modes.Check name → Checks (F.files shelf.old) name (K.written out.old) (K.written out.new) (F.take_faults shelf.old) (F.take_faults shelf.new) (K.faults out.old) (K.faults out.new) result }
     ensures unused { (name : List ℕ) → Asks words.now modes.Check name → IsUnused
-        (outside F.files F.take_faults F.keep_faults S.left S.faults K.written K.faults shelf.old (map (λ l. hearer (state l)) listeners.old.items) input.old out.old)
-        (outside F.files F.take_faults F.keep_faults S.left S.faults K.written K.faults shelf.new (map (λ l. hearer (state l)) listeners.new.items) input.new out.new) }
+        (outside F.files F.take_faults F.keep_faults S.left S.faults K.written K.faults shelf.old (map (λ l. hearer (state l)) listeners.old.items) input.old out.old steps.old)
+        (outside F.files F.take_faults F.keep_faults S.left S.faults K.written K.faults shelf.new (map (λ l. hearer (state l)) listeners.new.items) input.new out.new steps.new) }
     ensures runs { (name : List ℕ) → Asks words.now modes.Run name → Runs a_run name
-        (outside F.files F.take_faults F.keep_faults S.left S.faults K.written K.faults shelf.old (map (λ l. hearer (state l)) listeners.old.items) input.old out.old)
-        (outside F.files F.take_faults F.keep_faults S.left S.faults K.written K.faults shelf.new (map (λ l. hearer (state l)) listeners.new.items) input.new out.new) result }
+        (outside F.files F.take_faults F.keep_faults S.left S.faults K.written K.faults shelf.old (map (λ l. hearer (state l)) listeners.old.items) input.old out.old steps.old)
+        (outside F.files F.take_faults F.keep_faults S.left S.faults K.written K.faults shelf.new (map (λ l. hearer (state l)) listeners.new.items) input.new out.new steps.new) result }
     ensures asks { (name : List ℕ) → Asks words.now modes.Interview name → Runs an_interview name
-        (outside F.files F.take_faults F.keep_faults S.left S.faults K.written K.faults shelf.old (map (λ l. hearer (state l)) listeners.old.items) input.old out.old)
-        (outside F.files F.take_faults F.keep_faults S.left S.faults K.written K.faults shelf.new (map (λ l. hearer (state l)) listeners.new.items) input.new out.new) result }
+        (outside F.files F.take_faults F.keep_faults S.left S.faults K.written K.faults shelf.old (map (λ l. hearer (state l)) listeners.old.items) input.old out.old steps.old)
+        (outside F.files F.take_faults F.keep_faults S.left S.faults K.written K.faults shelf.new (map (λ l. hearer (state l)) listeners.new.items) input.new out.new steps.new) result }
     ensures generated { (number : List ℕ) → Asks words.now modes.Generate number → IsGenerated number
-        (outside F.files F.take_faults F.keep_faults S.left S.faults K.written K.faults shelf.old (map (λ l. hearer (state l)) listeners.old.items) input.old out.old)
-        (outside F.files F.take_faults F.keep_faults S.left S.faults K.written K.faults shelf.new (map (λ l. hearer (state l)) listeners.new.items) input.new out.new) result }
+        (outside F.files F.take_faults F.keep_faults S.left S.faults K.written K.faults shelf.old (map (λ l. hearer (state l)) listeners.old.items) input.old out.old steps.old)
+        (outside F.files F.take_faults F.keep_faults S.left S.faults K.written K.faults shelf.new (map (λ l. hearer (state l)) listeners.new.items) input.new out.new steps.new) result }
 {
     match read_words(alloc, words) {
         Ok(asked) => match asked.mode {
-            Mode::Run => open_and_talk(alloc, asked.name, shelf, listeners, input, out),
-            Mode::Interview => open_and_ask(alloc, asked.name, shelf, listeners, input, out),
+            Mode::Run => open_and_talk(alloc, asked.name, shelf, listeners, steps, input, out),
+            Mode::Interview => open_and_ask(alloc, asked.name, shelf, listeners, steps, input, out),
             Mode::Check => check(alloc, asked.name, shelf, out),
-            Mode::Generate => generated(alloc, asked.name, shelf, input, out, listeners),
+            Mode::Generate => generated(alloc, asked.name, shelf, input, out, listeners, steps),
         },
         Err(WordsFault::Usage) => tell(Status::Usage, out, USAGE),
         Err(WordsFault::NoMemory) => Status::NoMemory,
@@ -62,23 +64,24 @@ fn run_words<S: Source, F: Shelf, K: Sink>(
 }
 
 /// Does what the words of the command line say, and answers how it ended.
-pub fn run<S: Source, F: Shelf, K: Sink>(
+pub fn run<S: Source, F: Shelf, K: Sink, L: Ledger>(
     alloc: Global,
     words: &[String],
     shelf: &mut F,
     input: &mut S,
     out: &mut K,
     listeners: &mut Vec<Box<dyn Listener>>,
+    steps: &mut Steps<L>,
 ) -> Status
     // It holds of each vector, and tells the checker that no listener is made here.
     requires fewer { length listeners.old.items < 2 ^ 64 }
     // Usage, transcript, causes and completeness: specs/Promises, field by field.
     ensures promises { Promises words.now
-        (outside F.files F.take_faults F.keep_faults S.left S.faults K.written K.faults shelf.old (map (λ l. hearer (state l)) listeners.old.items) input.old out.old)
-        (outside F.files F.take_faults F.keep_faults S.left S.faults K.written K.faults shelf.new (map (λ l. hearer (state l)) listeners.new.items) input.new out.new) result }
+        (outside F.files F.take_faults F.keep_faults S.left S.faults K.written K.faults shelf.old (map (λ l. hearer (state l)) listeners.old.items) input.old out.old steps.old)
+        (outside F.files F.take_faults F.keep_faults S.left S.faults K.written K.faults shelf.new (map (λ l. hearer (state l)) listeners.new.items) input.new out.new steps.new) result }
 {
     shown_is_meant();
     one_opening();
     one_transcript();
-    run_words(alloc, words, shelf, input, out, listeners)
+    run_words(alloc, words, shelf, input, out, listeners, steps)
 }

@@ -11,12 +11,12 @@ use Rattle.opa_mean.specs.Derivations.{MayDerive}
 use Rattle.opa_mean.specs.Given.{base_of, facts_of, line_value}
 use Rattle.opa_mean.specs.Mean.{look_of}
 use Rattle.opa_mean.specs.Rulebases.{IsOf}
-use Rattle.opa_fresh.specs.Slots.{IsSlot}
-use Rattle.opa_fresh.proofs.Allowing.{parts_of}
-use Rattle.opa_fresh.proofs.Kinded.{line_kind}
-use Rattle.opa_fresh.proofs.Rising.{rises, listed_rise, to_one}
+use Rattle.opa_mean.specs.Slots.{is_slot}
+use Rattle.opa_dirty.proofs.Parted.{parts_of}
+use Rattle.opa_dirty.proofs.Rising.{rises, listed_rise, to_one}
+use Rattle.opa_infer.proofs.Kinded.{line_kind}
 
-pub may_derive : (r : Rulebase) (c : CaseView) → IsOf r c → (a : AttrId) (i : InstanceId) → IsSlot r c a i → MayDerive (base_of r) (look_of (facts_of c) (facts_of c).answer) a i
+pub may_derive : (r : Rulebase) (c : CaseView) → IsOf r c → (a : AttrId) (i : InstanceId) → is_slot r c a i ≡ true → MayDerive (base_of r) (look_of (facts_of c) (facts_of c).answer) a i
 may_derive r c is a i slot =
     let parts = parts_of r c a i slot in
     record {

@@ -1,7 +1,7 @@
 // Rules that are carried out day by day and as code: both give one line.
-ghost use Rattle.std.specs.Prelude.{◌≡◌};
-ghost use Rattle.opa_fresh.specs.Slots.{IsSlot, is_slot};
+ghost use Rattle.std.specs.Prelude.{◌≡◌, true};
 ghost use Rattle.opa_mean.specs.Rulebases.{IsOf};
+ghost use Rattle.opa_mean.specs.Slots.{is_slot};
 ghost use Rattle.opa_infer.specs.Sessions.{rules_of, held_of};
 
 use crate::points::{attribute, instance};
@@ -21,7 +21,7 @@ use std::test::Fail;
 use tests_samples::texts;
 
 /// Whether the attribute has a rule, and the instance is live and of its entity.
-fn is_slot(session: &Session, attr: AttrId, inst: &InstanceId) -> bool
+pub(crate) fn is_slot(session: &Session, attr: AttrId, inst: &InstanceId) -> bool
     ensures { result ≡ is_slot (rules_of session.now) (held_of session.now) attr inst.now }
 {
     session.has_place(attr, inst) && session.base().rules.of(attr).is_some()
@@ -38,7 +38,7 @@ fn rule_line<D: Derive>(
 ) -> Result<Line<Value>, NoMemory>
     requires code { D.stands_for code.now ≡ base.now }
     requires fits { IsOf base.now case.now }
-    requires slot { IsSlot base.now case.now attr inst.now }
+    requires slot { is_slot base.now case.now attr inst.now ≡ true }
 {
     code.evaluate(alloc, attr, inst, case)
 }
@@ -52,7 +52,7 @@ fn plain_line(
     inst: &InstanceId,
 ) -> Result<Line<Value>, NoMemory>
     requires fits { IsOf base.now case.now }
-    requires slot { IsSlot base.now case.now attr inst.now }
+    requires slot { is_slot base.now case.now attr inst.now ≡ true }
 {
     rule_line(alloc, &Plain::new(base), base, case, attr, inst)
 }
@@ -66,7 +66,7 @@ fn coded_line(
     inst: &InstanceId,
 ) -> Result<Line<Value>, NoMemory>
     requires fits { IsOf base.now case.now }
-    requires slot { IsSlot base.now case.now attr inst.now }
+    requires slot { is_slot base.now case.now attr inst.now ≡ true }
 {
     let code = compile(alloc, base)?;
     rule_line(alloc, &code, base, case, attr, inst)

@@ -1,4 +1,5 @@
 // Changes that are made by hand.
+use crate::counted::applied;
 use crate::points::{attribute, instance};
 use crate::told::after;
 use opa_case::{ChangeCommand, InstanceId, Refusal};
@@ -25,8 +26,7 @@ fn alternating(alloc: Global, count: u32) -> Result<Line<Value>, Fail> {
 /// Makes a change of something that is declared.
 fn made(alloc: Global, session: &mut Session, change: ChangeCommand) -> Result<(), Refusal> {
     if session.declares(&change) {
-        let mut nobody = Vec::new(alloc);
-        session.apply(alloc, change, &mut nobody)?;
+        applied(alloc, session, change)?;
         Ok(())
     } else {
         Err(Refusal::Name)

@@ -2,9 +2,13 @@
 #![tactic(auto)]
 
 #[cfg(test)]
+mod before;
+#[cfg(test)]
 mod carried;
 #[cfg(test)]
 mod changed;
+#[cfg(test)]
+mod counted;
 #[cfg(test)]
 mod looked;
 #[cfg(test)]
@@ -17,3 +21,7 @@ mod points;
 mod printed;
 #[cfg(test)]
 mod told;
+#[cfg(test)]
+mod walked;
+#[cfg(test)]
+mod wandering;

@@ -1,4 +1,8 @@
 // What a session answers to lines of input.
+ghost use Rattle.std.specs.Prelude.{◌≡◌};
+ghost use Rattle.opa_infer.specs.Sessions.{rules_of};
+
+use crate::counted::{applied, started};
 use crate::printed::line_words;
 use opa_case::{ChangeCommand, InstanceId};
 use opa_infer::Session;
@@ -19,7 +23,7 @@ pub(crate) fn after(
     input: &[&str],
 ) -> Result<Session, Fail> {
     let base = load(alloc, files)?;
-    let mut session = Session::start(alloc, base)?;
+    let mut session = started(alloc, base)?;
     for line in input {
         let found = reply(alloc, &mut session, line)?;
         if !found.is_empty() {
@@ -29,8 +33,10 @@ pub(crate) fn after(
     Ok(session)
 }
 
-/// What a line of input prints.
-fn reply(alloc: Global, session: &mut Session, line: &str) -> Result<String, Fail> {
+/// What a line of input prints. The rulebase stays.
+pub(crate) fn reply(alloc: Global, session: &mut Session, line: &str) -> Result<String, Fail>
+    ensures { rules_of session.new ≡ rules_of session.old }
+{
     match read_command(alloc, &session.base().model, line.as_bytes()) {
         Ok(command) => carry_out(alloc, session, command),
         Err(fault) => refused_command(alloc, fault),
@@ -47,7 +53,9 @@ fn refused_command(alloc: Global, fault: CmdFault) -> Result<String, Fail> {
     Ok(format!(in alloc; "refused: command {number}")?)
 }
 
-fn carry_out(alloc: Global, session: &mut Session, command: Command) -> Result<String, Fail> {
+fn carry_out(alloc: Global, session: &mut Session, command: Command) -> Result<String, Fail>
+    ensures { rules_of session.new ≡ rules_of session.old }
+{
     match command {
         Command::Change(change) => changed(alloc, session, change),
         Command::ShowAttr(attr, inst) => shown(alloc, session, attr, &inst),
@@ -57,12 +65,13 @@ fn carry_out(alloc: Global, session: &mut Session, command: Command) -> Result<S
 }
 
 /// Makes a change: nothing is printed, or why it is refused.
-fn changed(alloc: Global, session: &mut Session, change: ChangeCommand) -> Result<String, Fail> {
+fn changed(alloc: Global, session: &mut Session, change: ChangeCommand) -> Result<String, Fail>
+    ensures { rules_of session.new ≡ rules_of session.old }
+{
     if !session.declares(&change) {
         return Ok(String::from_str(alloc, "undeclared")?);
     }
-    let mut nobody = Vec::new(alloc);
-    match session.apply(alloc, change, &mut nobody) {
+    match applied(alloc, session, change) {
         Ok(_) => Ok(String::new(alloc)),
         Err(refusal) => {
             let number = refusal.number();

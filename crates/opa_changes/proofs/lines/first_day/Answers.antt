@@ -10,7 +10,7 @@ use Rattle.opa_changes.proofs.lines.first_day.Goals as goal
 pub returns : goal.returns
 returns g c =
     let a = c.args.attr in let i = c.args.inst.now in
-    let r = g.H.Held.rules c.args.old.now in let k = g.H.Held.held c.args.old.now in
-    let s = g.K.Held.rules c.args.new.now in let m = g.K.Held.held c.args.new.now in
+    let r = g.H.Lined.rules c.args.old.now in let k = g.H.Lined.over c.args.old.now in
+    let s = g.K.Lined.rules c.args.new.now in let m = g.K.Lined.over c.args.new.now in
     c.in_ok-day.ensures ∙ same_first DAYS (line_value (option_copied c.line-before.result)) (held_value r k a i) (line_value (option_copied c.line-after.result)) (held_value s m a i)
     (held_line r k a i c.line-before.result c.line-before.ensures.value c.line-before.ensures.none) (held_line s m a i c.line-after.result c.line-after.ensures.value c.line-after.ensures.none)

@@ -8,6 +8,6 @@ use Rattle.opa_changes.proofs.tell.add_change.Goals as goal
 
 pub returns-in_ok-push-in-Some : goal.returns-in_ok-push-in-Some
 returns-in_ok-push-in-Some g c = λ xs told.
-    let m = (g.K.Held.rules c.args.new.now).model in
-    let o = change_of (base_of (g.K.Held.rules c.args.new.now)) (facts_of (g.H.Held.held c.args.old.now)) (facts_of (g.K.Held.held c.args.new.now)) c.args.attr c.args.inst.now in
+    let m = (g.K.Lined.rules c.args.new.now).model in
+    let o = change_of (base_of (g.K.Lined.rules c.args.new.now)) (facts_of (g.H.Lined.over c.args.old.now)) (facts_of (g.K.Lined.over c.args.new.now)) c.args.attr c.args.inst.now in
     adds_some m xs c.args.told.now.items c.push.new.self.items o c.in-Some.change (subst (λ (x : Option Change). TellsAny m o x) c.in-Some.is c.in_ok-change.ensures) c.in_ok-push-in-Some.ensures.items told

@@ -1,7 +1,7 @@
 use Rattle.std.proofs.Common.{◌≤◌, [], refl, arith, vec_len}
 use Rattle.std.proofs.lemmas.Result.{err_from_is_err_and}
 use Rattle.opa_io.proofs.Appended.{Consumes-none}
-use Rattle.opa_talk.specs.Talk.{WhereRose}
+use Rattle.opa_talk.specs.Talk.{MayLeave}
 use Rattle.opa_talk.specs.Points.{point_of}
 use Rattle.opa_talk.proofs.PointsLaws.{carries_none}
 use Rattle.opa_talk.proofs.FeedLaws.{read_more, read_end, read_over, read_breaks}
@@ -23,8 +23,8 @@ returns-in_err-take_turn-clause-err g c =
     let p = err_from_is_err_and c.from_residual.result c.from_residual.ensures.1 in
     let less : vec_len c.truncate.new.self ≤ c.loop-left.left = omega arith in
     rw (p.1, p.2) (read_breaks g.T.Replier.rule (point_of _ c.args.pending.now) (point_of _ c.loop-left.pending) 67108864 c.loop-left.left _ _ _ _ _ _ c.loop-left.invariant.talked
-    (point_of _ c.take_turn.new.pending) _ less (WhereRose (g.F.Shelf.keep_faults c.args.shelf.now) (g.F.Shelf.keep_faults c.take_turn.new.shelf) g.T.Replier.Stops) _
-    (part_later g.T.Replier.rule g.T.Replier.Stops _ (g.F.Shelf.keep_faults c.loop-left.shelf) _ c.loop-left.invariant.later_keep _ _ _ _ _ _ _ _ c.in_err-take_turn.ensures.err))
+    (point_of _ c.take_turn.new.pending) _ less (MayLeave (g.F.Shelf.keep_faults c.args.shelf.now) (g.F.Shelf.keep_faults c.take_turn.new.shelf) g.T.Replier.Stops g.T.Replier.Lacks) _
+    (part_later g.T.Replier.rule g.T.Replier.Stops g.T.Replier.Lacks _ (g.F.Shelf.keep_faults c.loop-left.shelf) _ c.loop-left.invariant.later_keep _ _ _ _ _ _ _ _ c.in_err-take_turn.ensures.err))
 
 pub returns-in-End-clause-ok : goal.returns-in-End-clause-ok
 returns-in-End-clause-ok g c =

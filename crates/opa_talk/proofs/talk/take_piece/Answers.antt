@@ -2,7 +2,7 @@ use Rattle.std.proofs.Common.{◌≡◌, ◌∷◌, ◌++◌, [], arith, ◌∙�
 use Rattle.std.specs.Prelude.{◌==◌}
 use Rattle.std.proofs.lemmas.Result.{err_from_is_err_and}
 use Rattle.std.proofs.lemmas.List.Elements.{All-append}
-use Rattle.opa_talk.specs.Talk.{WhereRose}
+use Rattle.opa_talk.specs.Talk.{MayLeave}
 use Rattle.opa_talk.specs.Points.{point_of}
 use Rattle.opa_talk.proofs.PointsLaws.{joined, joined_whole, carries_none, carries-append, goes_part, breaks_none, breaks_after, breaks_more, breaks_is}
 use Rattle.opa_talk.proofs.RoseLaws.{within_later}
@@ -52,17 +52,17 @@ pub returns-in_err-over-clause-err : goal.returns-in_err-over-clause-err
 returns-in_err-over-clause-err g c =
     let done = c.loop-bytes.invariant.done in
     let p = err_from_is_err_and c.from_residual.result c.from_residual.ensures.1 in
-    rw p.1 (breaks_is g.T.Replier.rule (WhereRose (g.F.Shelf.keep_faults c.args.shelf.now) (g.F.Shelf.keep_faults c.take_line.new.shelf) g.T.Replier.Stops) _ _ _ _ _ _ (joined_whole done.0 _ _ _ _ done.1 c.in-Some.ensures.1)
-    (breaks_after g.T.Replier.rule (WhereRose (g.F.Shelf.keep_faults c.args.shelf.now) (g.F.Shelf.keep_faults c.take_line.new.shelf) g.T.Replier.Stops) _ (point_of _ c.loop-bytes.pending) _ _ _ _ _ _ done.2
-    (breaks_more g.T.Replier.rule (WhereRose (g.F.Shelf.keep_faults c.args.shelf.now) (g.F.Shelf.keep_faults c.take_line.new.shelf) g.T.Replier.Stops) _ _ _ c.in-Some.after.now _ _ (within_later g.T.Replier.rule g.T.Replier.Stops _ (g.F.Shelf.keep_faults c.loop-bytes.shelf) _ c.loop-bytes.invariant.later_keep _ _ _ _ _ c.in_err-over.ensures.err))))
+    rw p.1 (breaks_is g.T.Replier.rule (MayLeave (g.F.Shelf.keep_faults c.args.shelf.now) (g.F.Shelf.keep_faults c.take_line.new.shelf) g.T.Replier.Stops g.T.Replier.Lacks) _ _ _ _ _ _ (joined_whole done.0 _ _ _ _ done.1 c.in-Some.ensures.1)
+    (breaks_after g.T.Replier.rule (MayLeave (g.F.Shelf.keep_faults c.args.shelf.now) (g.F.Shelf.keep_faults c.take_line.new.shelf) g.T.Replier.Stops g.T.Replier.Lacks) _ (point_of _ c.loop-bytes.pending) _ _ _ _ _ _ done.2
+    (breaks_more g.T.Replier.rule (MayLeave (g.F.Shelf.keep_faults c.args.shelf.now) (g.F.Shelf.keep_faults c.take_line.new.shelf) g.T.Replier.Stops g.T.Replier.Lacks) _ _ _ c.in-Some.after.now _ _ (within_later g.T.Replier.rule g.T.Replier.Stops g.T.Replier.Lacks _ (g.F.Shelf.keep_faults c.loop-bytes.shelf) _ c.loop-bytes.invariant.later_keep _ _ _ _ _ c.in_err-over.ensures.err))))
 
 pub returns-in_err-extend_from_slice-clause-err : goal.returns-in_err-extend_from_slice-clause-err
 returns-in_err-extend_from_slice-clause-err g c =
     let done = c.loop-bytes.invariant.done in
     let p = err_from_is_err_and c.from_residual-in_err-extend_from_slice.result c.from_residual-in_err-extend_from_slice.ensures.1 in
-    rw p.1 (breaks_is g.T.Replier.rule (WhereRose (g.F.Shelf.keep_faults c.args.shelf.now) (g.F.Shelf.keep_faults c.loop-bytes.shelf) g.T.Replier.Stops) _ _ _ _ _ _ done.1
-    (breaks_after g.T.Replier.rule (WhereRose (g.F.Shelf.keep_faults c.args.shelf.now) (g.F.Shelf.keep_faults c.loop-bytes.shelf) g.T.Replier.Stops) _ (point_of _ c.loop-bytes.pending) _ _ _ _ _ _ done.2
-    (breaks_none g.T.Replier.rule (WhereRose (g.F.Shelf.keep_faults c.args.shelf.now) (g.F.Shelf.keep_faults c.loop-bytes.shelf) g.T.Replier.Stops) (point_of _ c.loop-bytes.pending) c.loop-bytes.rest.now _)))
+    rw p.1 (breaks_is g.T.Replier.rule (MayLeave (g.F.Shelf.keep_faults c.args.shelf.now) (g.F.Shelf.keep_faults c.loop-bytes.shelf) g.T.Replier.Stops g.T.Replier.Lacks) _ _ _ _ _ _ done.1
+    (breaks_after g.T.Replier.rule (MayLeave (g.F.Shelf.keep_faults c.args.shelf.now) (g.F.Shelf.keep_faults c.loop-bytes.shelf) g.T.Replier.Stops g.T.Replier.Lacks) _ (point_of _ c.loop-bytes.pending) _ _ _ _ _ _ done.2
+    (breaks_none g.T.Replier.rule (MayLeave (g.F.Shelf.keep_faults c.args.shelf.now) (g.F.Shelf.keep_faults c.loop-bytes.shelf) g.T.Replier.Stops g.T.Replier.Lacks) (point_of _ c.loop-bytes.pending) c.loop-bytes.rest.now _)))
 
 pub returns-clause-ok : goal.returns-clause-ok
 returns-clause-ok g c =

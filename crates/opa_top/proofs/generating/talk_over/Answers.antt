@@ -15,6 +15,8 @@ returns g c = inr (
     hearers_after = refl;
     writes_before = refl;
     writes_after = refl;
+    steps_before = refl;
+    steps_after = refl;
     kept = refl;
     unread = refl;
   },

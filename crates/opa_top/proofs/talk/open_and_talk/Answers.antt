@@ -16,13 +16,13 @@ returns-in-Refused g c =
     Runs.refuses c.in-Refused.text
     (refusal_opened (g.F.Shelf.files c.args.shelf.now) c.args.name.now (g.K.Sink.written c.args.out.now) (g.K.Sink.written c.tell.new.out) (g.F.Shelf.take_faults c.args.shelf.now) (g.F.Shelf.take_faults c.load_rulebase.new.shelf) (g.K.Sink.faults c.args.out.now)
     (g.K.Sink.faults c.tell.new.out) c.in-Err.error c.in-Refused.fault c.in-Refused.text c.in-Refused.is c.in-Err.ensures.refused)
-    (record { left = refl; files = c.in-Err.ensures.files; hearers = refl }) (rw c.as_str.ensures at c.tell.ensures)
+    (record { left = refl; files = c.in-Err.ensures.files; hearers = refl; steps = refl }) (rw c.as_str.ensures at c.tell.ensures)
 
 pub returns-in-ReadFault : goal.returns-in-ReadFault
 returns-in-ReadFault g c =
     Runs.cannot_take
     (subst (HasLoadError (g.F.Shelf.files c.args.shelf.now) c.args.name.now (g.F.Shelf.take_faults c.args.shelf.now) (g.F.Shelf.take_faults c.load_rulebase.new.shelf)) c.in-ReadFault.is c.in-Err.ensures.refused)
-    (record { left = refl; files = c.in-Err.ensures.files; hearers = refl }) (Appends-none _)
+    (record { left = refl; files = c.in-Err.ensures.files; hearers = refl; steps = refl }) (Appends-none _)
 
 pub returns : goal.returns
-returns g c = Runs.cannot_hold (record { left = refl; files = c.in-Err.ensures.files; hearers = refl }) (Appends-none _)
+returns g c = Runs.cannot_hold (record { left = refl; files = c.in-Err.ensures.files; hearers = refl; steps = refl }) (Appends-none _)

@@ -9,10 +9,10 @@ pub returns-in-Err-NoMemory-clause-checked : goal.returns-in-Err-NoMemory-clause
 returns-in-Err-NoMemory-clause-checked g c = λ name asks. not_held (g.F.Shelf.files c.args.shelf.now) name _ _ _ _
 
 pub returns-in-Err-NoMemory-clause-runs : goal.returns-in-Err-NoMemory-clause-runs
-returns-in-Err-NoMemory-clause-runs g c = λ name asks. Runs.cannot_hold (record { left = refl; files = refl; hearers = refl }) (Appends-none _)
+returns-in-Err-NoMemory-clause-runs g c = λ name asks. Runs.cannot_hold (record { left = refl; files = refl; hearers = refl; steps = refl }) (Appends-none _)
 
 pub returns-in-Err-NoMemory-clause-asks : goal.returns-in-Err-NoMemory-clause-asks
-returns-in-Err-NoMemory-clause-asks g c = λ name asks. Runs.cannot_hold (record { left = refl; files = refl; hearers = refl }) (Appends-none _)
+returns-in-Err-NoMemory-clause-asks g c = λ name asks. Runs.cannot_hold (record { left = refl; files = refl; hearers = refl; steps = refl }) (Appends-none _)
 
 pub returns-in-Err-NoMemory-clause-generated : goal.returns-in-Err-NoMemory-clause-generated
-returns-in-Err-NoMemory-clause-generated g c = λ number asks. number_dropped number _ _ _ refl (Appends-none _) (record { left = refl; files = refl; hearers = refl })
+returns-in-Err-NoMemory-clause-generated g c = λ number asks. number_dropped number _ _ _ refl (Appends-none _) (record { left = refl; files = refl; hearers = refl; steps = refl })

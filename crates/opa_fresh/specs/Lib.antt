@@ -1,4 +1,0 @@
-pub mod Findings
-pub mod Instances
-pub mod Samples
-pub mod Slots

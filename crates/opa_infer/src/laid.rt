@@ -1,0 +1,115 @@
+// The lines that are kept, and those that are staged over them, as what tells lines.
+ghost use Rattle.std.specs.Prelude.{◌≡◌, cond, None};
+ghost use Rattle.std.specs.Option.{option_copied};
+ghost use Rattle.std.proofs.Props.{props};
+ghost use Rattle.opa_cells.specs.Instances.{coded_instance};
+ghost use Rattle.opa_case.specs.Cases.{coded_lists, coded_population};
+ghost use Rattle.opa_case.specs.Fits.{Fits};
+ghost use Rattle.opa_case.specs.Shapes.{shape_of};
+ghost use Rattle.opa_dirty.specs.Settling.{AreCurrent, laid_over};
+ghost use Rattle.opa_mean.specs.Rulebases.{IsOf};
+ghost use Rattle.opa_store.specs.Stores.{kept_of, staged_of};
+ghost use Rattle.opa_value.specs.contracts.value.Value as each;
+
+use crate::told::told_line;
+use opa_case::{Case, InstanceId};
+use opa_changes::Lined;
+use opa_line::Line;
+use opa_model::AttrId;
+use opa_store::{Next, Store};
+use opa_tree::Rulebase;
+use opa_value::Value;
+
+/// The kept lines, over the case that is held.
+#[derive(Clone, Copy)]
+pub(crate) struct Kept<'a> {
+    base: &'a Rulebase,
+    case: &'a Case,
+    store: &'a Store,
+    ghost fits: { Fits (shape_of base.now.model) base.now.ruled case.now } by { Prim.hlevel (props, coded_lists, coded_population, coded_instance) },
+    ghost current: { AreCurrent base.now case.now (kept_of store.now) } by { Prim.hlevel (props, each.the_row.coded) },
+}
+
+impl<'a> Kept<'a> {
+    pub(crate) fn new(base: &'a Rulebase, case: &'a Case, store: &'a Store) -> Kept<'a>
+        requires fits { IsOf base.now case.now }
+        requires current { AreCurrent base.now case.now (kept_of store.now) }
+        ensures base { result.base.now ≡ base.now }
+        ensures case { result.case.now ≡ case.now }
+    {
+        Kept { base, case, store }
+    }
+}
+
+impl<'a> Lined for Kept<'a> {
+    ghost rules = { λ k. k.base.now };
+
+    ghost over = { λ k. k.case.now };
+
+    fn base(&self) -> &Rulebase {
+        // The count shows the model's form.
+        let _count = self.base.model.entity_count();
+        self.base
+    }
+
+    fn line(&self, attr: AttrId, inst: &InstanceId) -> Option<&Line<Value>> {
+        let _count = self.base.model.entity_count();
+        told_line(self.base, self.case, self.store.get(attr, inst), attr, inst)
+    }
+}
+
+/// The staged lines, and else the kept ones, over the case that comes.
+#[derive(Drop)]
+pub(crate) struct Laid<'a, N: Next> {
+    base: &'a Rulebase,
+    next: &'a N,
+    store: &'a Store,
+    ghost fits: { Fits (shape_of base.now.model) base.now.ruled (N.next next.now) } by { Prim.hlevel (props, coded_lists, coded_population, coded_instance) },
+    ghost current: { AreCurrent base.now (N.next next.now) (laid_over (N.next next.now) (kept_of store.now) (staged_of store.now)) } by { Prim.hlevel (props, each.the_row.coded) },
+}
+
+impl<'a, N: Next> Laid<'a, N> {
+    pub(crate) fn new(base: &'a Rulebase, next: &'a N, store: &'a Store) -> Laid<'a, N>
+        requires fits { IsOf base.now (N.next next.now) }
+        requires current { AreCurrent base.now (N.next next.now) (laid_over (N.next next.now) (kept_of store.now) (staged_of store.now)) }
+        ensures base { result.base.now ≡ base.now }
+        ensures next { result.next.now ≡ next.now }
+    {
+        Laid { base, next, store }
+    }
+}
+
+impl<'a, N: Next> Lined for Laid<'a, N> {
+    ghost rules = { λ l. l.base.now };
+
+    ghost over = { λ l. N.next l.next.now };
+
+    fn base(&self) -> &Rulebase {
+        let _count = self.base.model.entity_count();
+        self.base
+    }
+
+    fn line(&self, attr: AttrId, inst: &InstanceId) -> Option<&Line<Value>> {
+        let _count = self.base.model.entity_count();
+        let found = laid_line(self.store, self.next, attr, inst);
+        told_line(self.base, self.next, found, attr, inst)
+    }
+}
+
+/// The staged line of what is live, or else its kept one.
+fn laid_line<'a, N: Next>(
+    store: &'a Store,
+    next: &N,
+    attr: AttrId,
+    inst: &InstanceId,
+) -> Option<&'a Line<Value>>
+    ensures { option_copied result ≡ laid_over (N.next next.now) (kept_of store.now) (staged_of store.now) attr inst.now }
+{
+    if !next.live(inst) {
+        return None;
+    }
+    match store.staged(attr, inst) {
+        Some(line) => Some(line),
+        None => store.get(attr, inst),
+    }
+}
