@@ -1,10 +1,11 @@
 -- On the way to rows: what one goal's cell is, what was found of a record, and where the reading of its cells stands.
-use Rattle.std.specs.Prelude.{◌≡◌, ◌+◌, ℕ, List, drop, slice_get, Option, None, Some, Result, Ok, Err}
+use Rattle.std.specs.Prelude.{◌≡◌, ◌+◌, ◌++◌, ◌∷◌, ℕ, List, map, drop, slice_get, Option, None, Some, Result, Ok, Err}
 use Rattle.opa_model.specs.declared.ids.AttrId.{AttrId}
 use Rattle.opa_case.specs.Cases.{CaseView}
 use Rattle.opa_tree.specs.declared.rulebase.Rulebase.{Rulebase}
 use Rattle.opa_batch.specs.declared.head.Head.{Head}
 use Rattle.opa_batch.specs.Rows.{AreCells}
+use Rattle.opa_batch.specs.Batches.{AreRows}
 
 -- the cell of the goal with the number
 abbrev pub IsGoalCell : (AttrId → List ℕ) → List AttrId → ℕ → List ℕ → Type 0
@@ -19,3 +20,12 @@ left_by (Some text) c = Err text
 abbrev pub IsOnTheWay : Rulebase → List Head → List (List ℕ) → CaseView → ℕ → CaseView → Type 0
 IsOnTheWay r heads cells first place c =
     (x : Result CaseView (List ℕ)) → AreCells r (place + 1) c (drop place heads) (drop place cells) x → AreCells r 1 first heads cells x
+
+-- With those of the goals from a number on, these are a first cell and the cells of all goals.
+abbrev pub AreUpTo : (AttrId → List ℕ) → List AttrId → List ℕ → ℕ → List (List ℕ) → Type 0
+AreUpTo cell goals first n cells = cells ++ map cell (drop n goals) ≡ first ∷ map cell goals
+
+-- With the rows of the records from a place on, this text is the first one and the rows of all records.
+abbrev pub AreAdded : Rulebase → List Head → List (List (List ℕ)) → List ℕ → ℕ → List ℕ → Type 0
+AreAdded r heads records first place text =
+    (more : List ℕ) → AreRows r heads (place + 1) (drop place records) more → (rows : List ℕ) × AreRows r heads 1 records rows × (text ++ more ≡ first ++ rows)

@@ -1,5 +1,5 @@
 -- The row of a record: what the goals are where the record's cells alone are known, or the first fault of its cells.
-use Rattle.std.specs.Prelude.{◌≡◌, ◌≢◌, ◌⊎◌, ◌+◌, ℕ, List, [], ◌∷◌, ◌++◌, length, map, codes, Result, Ok, Err}
+use Rattle.std.specs.Prelude.{◌≡◌, ◌≢◌, ◌⊎◌, ◌+◌, ℕ, List, [], ◌∷◌, ◌++◌, length, map, codes, Option, None, Some, Result, Ok, Err}
 use Rattle.std.specs.Fmt.{decimal}
 use Rattle.opa_model.specs.declared.ids.AttrId.{AttrId}
 use Rattle.opa_cells.specs.Instances.{global}
@@ -7,6 +7,7 @@ use Rattle.opa_case.specs.Cases.{CaseView, no_case}
 use Rattle.opa_case.specs.Shapes.{shape_of}
 use Rattle.opa_case.specs.Steps.{step}
 use Rattle.opa_case.specs.Refusals.{number_of}
+use Rattle.opa_case.specs.declared.change.ChangeCommand.{ChangeCommand}
 use Rattle.opa_case.specs.declared.change.Refusal.{Refusal}
 use Rattle.opa_tree.specs.declared.rulebase.Rulebase.{Rulebase}
 use Rattle.opa_script.specs.declared.command.Command.{Command}
@@ -31,20 +32,25 @@ word_of sort.Names = codes "list "
 abbrev pub line_of : Head → List ℕ → List ℕ
 line_of h cell = word_of h.sort ++ (h.text ++ (codes " = " ++ cell))
 
+-- the change that a command is
+abbrev pub change_in : Command → Option ChangeCommand
+change_in (command.Change k) = Some k
+change_in command.Nothing = None
+change_in (command.ShowAttr a i) = None
+change_in (command.ShowMembers n i) = None
+change_in command.Goals = None
+change_in command.Next = None
+change_in command.Screen = None
+change_in (command.Report a i d) = None
+change_in (command.Save name) = None
+change_in (command.Load name) = None
+change_in command.Stats = None
+change_in (command.Dismiss n) = None
+
 -- what a command makes of a case: a change takes its step, and nothing else changes a case
-abbrev pub made_by : Rulebase → CaseView → Command → Result CaseView Refusal
-made_by r c (command.Change k) = step (shape_of r.model) r.ruled c k
-made_by r c command.Nothing = Ok c
-made_by r c (command.ShowAttr a i) = Ok c
-made_by r c (command.ShowMembers n i) = Ok c
-made_by r c command.Goals = Ok c
-made_by r c command.Next = Ok c
-made_by r c command.Screen = Ok c
-made_by r c (command.Report a i d) = Ok c
-made_by r c (command.Save name) = Ok c
-made_by r c (command.Load name) = Ok c
-made_by r c command.Stats = Ok c
-made_by r c (command.Dismiss n) = Ok c
+abbrev pub stepped : Rulebase → CaseView → Option ChangeCommand → Result CaseView Refusal
+stepped r c None = Ok c
+stepped r c (Some k) = step (shape_of r.model) r.ruled c k
 
 -- the number of a fault: want of memory, which is never printed, has none
 abbrev pub fault_number : CmdFault → ℕ
@@ -68,7 +74,7 @@ in_column column (Err e) = Err (change_fault column e)
 abbrev pub IsCarriedOut : Rulebase → ℕ → CaseView → List ℕ → Result CaseView (List ℕ) → Type 0
 IsCarriedOut r column c line x =
     ((f : CmdFault) × (f ≢ fault.NoMemory) × IsNoCommand r.model line f × (x ≡ Err (command_fault column f)))
-    ⊎ ((k : Command) × IsCommand r.model line k × IsWellFormed k × (x ≡ in_column column (made_by r c k)))
+    ⊎ ((k : Command) × IsCommand r.model line k × IsWellFormed k × (x ≡ in_column column (stepped r c (change_in k))))
 
 -- what the cell of a column makes of a case: an empty one leaves it as it is
 abbrev pub IsCell : Rulebase → ℕ → CaseView → Head → List ℕ → Result CaseView (List ℕ) → Type 0

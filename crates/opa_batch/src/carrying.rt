@@ -1,12 +1,11 @@
 // The line of a cell is carried out over a session.
-ghost use Rattle.std.specs.Prelude.{◌≡◌, IfOk};
+ghost use Rattle.std.specs.Prelude.{◌≡◌, Some, IfOk};
 ghost use Rattle.opa_case.specs.Laws.{IsDeclared};
 ghost use Rattle.opa_case.specs.Shapes.{shape_of};
 ghost use Rattle.opa_infer.specs.Sessions.{rules_of, held_of};
 ghost use Rattle.opa_script.specs.Laws.{IsInRange};
 ghost use Rattle.opa_batch.specs.Numbered.{left_by};
-ghost use Rattle.opa_batch.specs.Rows.{made_by, in_column, IsCarriedOut, IsCell};
-ghost use Rattle.opa_script.specs.declared.command.Command.TheVariants as commands;
+ghost use Rattle.opa_batch.specs.Rows.{change_in as change_of, stepped, in_column, IsCarriedOut, IsCell};
 
 use crate::faults::{change_fault, command_fault};
 use crate::head::Head;
@@ -29,7 +28,7 @@ fn take_change<L: Ledger>(
     steps: &mut Steps<L>,
 ) -> Result<Option<Txt>, NoMemory>
     requires declared { IsDeclared (shape_of (rules_of session.old).model) change }
-    ensures ok { IfOk result (λ fault. left_by fault (held_of session.new) ≡ in_column column (made_by (rules_of session.old) (held_of session.old) (commands.Change change))) }
+    ensures ok { IfOk result (λ fault. left_by fault (held_of session.new) ≡ in_column column (stepped (rules_of session.old) (held_of session.old) (Some change))) }
     ensures base { rules_of session.new ≡ rules_of session.old }
 {
     let mut nobody: Vec<Box<dyn Listener>> = Vec::new(alloc);
@@ -43,23 +42,12 @@ fn take_change<L: Ledger>(
     }
 }
 
-/// Carries out a command: a change alone does something.
-fn take_command<L: Ledger>(
-    alloc: Global,
-    session: &mut Session,
-    column: usize,
-    command: Command,
-    steps: &mut Steps<L>,
-) -> Result<Option<Txt>, NoMemory>
-    requires command { IsInRange (rules_of session.old).model command }
-    ensures ok { IfOk result (λ fault. left_by fault (held_of session.new) ≡ in_column column (made_by (rules_of session.old) (held_of session.old) command)) }
-    ensures base { rules_of session.new ≡ rules_of session.old }
+/// The change that a command is.
+fn change_in(command: Command) -> Option<ChangeCommand>
+    ensures { result ≡ change_of command }
 {
     match command {
-        Command::Change(change) => {
-            let fault = take_change(alloc, session, column, change, steps)?;
-            Ok(fault)
-        }
+        Command::Change(change) => Some(change),
         Command::Nothing
         | Command::ShowAttr(_, _)
         | Command::ShowMembers(_, _)
@@ -70,7 +58,28 @@ fn take_command<L: Ledger>(
         | Command::Screen
         | Command::Report(_, _, _)
         | Command::Stats
-        | Command::Dismiss(_) => Ok(None),
+        | Command::Dismiss(_) => None,
+    }
+}
+
+/// Carries out a command: a change alone does something.
+fn take_command<L: Ledger>(
+    alloc: Global,
+    session: &mut Session,
+    column: usize,
+    command: Command,
+    steps: &mut Steps<L>,
+) -> Result<Option<Txt>, NoMemory>
+    requires command { IsInRange (rules_of session.old).model command }
+    ensures ok { IfOk result (λ fault. left_by fault (held_of session.new) ≡ in_column column (stepped (rules_of session.old) (held_of session.old) (change_of command))) }
+    ensures base { rules_of session.new ≡ rules_of session.old }
+{
+    match change_in(command) {
+        None => Ok(None),
+        Some(change) => {
+            let fault = take_change(alloc, session, column, change, steps)?;
+            Ok(fault)
+        }
     }
 }
 

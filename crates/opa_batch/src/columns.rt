@@ -10,7 +10,6 @@ ghost use Rattle.opa_script.specs.Commands.{NamesNothing};
 ghost use Rattle.csv.specs.Records.{fields_of};
 ghost use Rattle.opa_batch.specs.Heads.{IsHead, IsNoHead, NamesSort};
 ghost use Rattle.opa_batch.specs.Columns.{IsNoText, IsNotCut, IsSorted, IsUnsorted, IsPointed, AreColumns};
-ghost use Rattle.opa_batch.specs.declared.head.HeadFault.TheVariants as faults;
 
 use crate::faults::refused_head;
 use crate::head::{Head, HeadFault, Sort};
@@ -29,7 +28,10 @@ fn text_of(cell: &[u8]) -> Option<&str>
     if cell.len() > 65_536 {
         return None;
     }
-    str::from_utf8(cell).ok()
+    match str::from_utf8(cell) {
+        Ok(text) => Some(text),
+        Err(_) => None,
+    }
 }
 
 /// The tokens of a text.
@@ -51,12 +53,12 @@ fn cut(alloc: Global, text: &str) -> Result<Vec<Token>, HeadFault>
 fn sort_of(model: &Model, point: &Point) -> Option<Sort>
     ensures { MatchOption result (NamesNothing model.now point.now) (NamesSort model.now point.now) }
 {
-    if model.find_attribute(point.phrase.as_str()).is_some() {
-        Some(Sort::Answer)
-    } else if model.find_relation(point.phrase.as_str()).is_some() {
-        Some(Sort::Names)
-    } else {
-        None
+    match model.find_attribute(point.phrase.as_str()) {
+        Some(_) => Some(Sort::Answer),
+        None => match model.find_relation(point.phrase.as_str()) {
+            Some(_) => Some(Sort::Names),
+            None => None,
+        },
     }
 }
 
@@ -66,13 +68,12 @@ fn pointed(alloc: Global, model: &Model, pieces: Pieces<'_>) -> Result<Sort, Hea
     ensures ok { IfOk result (IsSorted model.now (seen pieces.entry)) }
     ensures fault { IfErr result (IsUnsorted model.now (seen pieces.entry)) }
 {
-    match point_of(alloc, pieces) {
-        Err(_) => Err(HeadFault::NoMemory),
-        Ok(None) => Err(HeadFault::Shape),
-        Ok(Some(point)) => match sort_of(model, &point) {
-            None => Err(HeadFault::Name),
-            Some(sort) => Ok(sort),
-        },
+    let Some(point) = point_of(alloc, pieces)? else {
+        return Err(HeadFault::Shape);
+    };
+    match sort_of(model, &point) {
+        None => Err(HeadFault::Name),
+        Some(sort) => Ok(sort),
     }
 }
 
@@ -97,21 +98,14 @@ fn head_of(alloc: Global, model: &Model, cell: &[u8]) -> Result<Head, HeadFault>
 {
     match sorted(alloc, model, cell) {
         Err(fault) => Err(fault),
-        Ok(sort) => with_text(alloc, cell, sort),
+        Ok(sort) => match cell.to_vec(alloc) {
+            Err(_) => Err(HeadFault::NoMemory),
+            Ok(text) => Ok(Head {
+                text: List::from_vec(text),
+                sort,
+            }),
+        },
     }
-}
-
-/// A head with the text of its cell.
-fn with_text(alloc: Global, cell: &[u8], sort: Sort) -> Result<Head, HeadFault>
-    ensures text { IfOk result (λ h. h.text ≡ cell.now) }
-    ensures sort { IfOk result (λ h. h.sort ≡ sort) }
-    ensures fault { IfErr result (λ f. f ≡ faults.NoMemory) }
-{
-    let text = cell.to_vec(alloc)?;
-    Ok(Head {
-        text: List::from_vec(text),
-        sort,
-    })
 }
 
 /// The heads of a heading, or the refusal of its first cell that is none.

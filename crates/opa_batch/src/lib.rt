@@ -1,7 +1,7 @@
 //! Many cases from a table of comma-separated values: for each record what the goals are where its cells alone are known.
 #![tactic(auto)]
 
-mod batch;
+mod calling;
 mod carrying;
 mod cells;
 mod columns;
@@ -15,5 +15,5 @@ mod records;
 mod rows;
 mod serving;
 
-pub use batch::batch;
+pub use calling::batch;
 pub use head::{Head, HeadFault, Sort};

@@ -2,6 +2,8 @@
 ghost use Rattle.std.specs.Prelude.{◌≡◌, ◌+◌, ◌<◌, ◌++◌, ◌∷◌, ◌^◌, [], ℕ, List as Seq, length, map, IfOk};
 ghost use Rattle.csv.specs.Records.{fields_of};
 ghost use Rattle.opa_case.specs.Cases.{no_case};
+ghost use Rattle.opa_case.specs.Fits.{Fits};
+ghost use Rattle.opa_case.specs.Shapes.{shape_of};
 ghost use Rattle.opa_infer.specs.Sessions.{rules_of, held_of};
 ghost use Rattle.opa_io.specs.declared.fault.Status.TheVariants as statuses;
 ghost use Rattle.opa_batch.specs.Batches.{AreRows, Gives, GivesOf, no_heading, written_row as written_row_of, heading as heading_of};
@@ -31,6 +33,17 @@ pub(crate) struct Made {
     pub(crate) text: Vec<u8>,
 }
 
+/// The case of which nothing is known, which fits.
+fn empty_case(alloc: Global, base: &Rulebase) -> Case
+    ensures none { result ≡ no_case }
+    ensures fits { Fits (shape_of base.now.model) base.now.ruled result }
+{
+    // The count shows the model's form.
+    let _count = base.model.attribute_count();
+    empty_fits();
+    Case::new(alloc)
+}
+
 /// Nothing is known of the next record; of the first one nothing is known yet.
 fn forget_case<L: Ledger>(
     alloc: Global,
@@ -45,10 +58,9 @@ fn forget_case<L: Ledger>(
     if place == 0 {
         return Ok(());
     }
-    let _count = session.base().model.attribute_count();
-    empty_fits();
+    let case = empty_case(alloc, session.base());
     let mut nobody: Vec<Box<dyn Listener>> = Vec::new(alloc);
-    session.replace_case(alloc, Case::new(alloc), &mut nobody, steps)?;
+    session.replace_case(alloc, case, &mut nobody, steps)?;
     Ok(())
 }
 
@@ -138,7 +150,8 @@ fn headed<L: Ledger>(
 ) -> Result<Made, NoMemory>
     ensures { IfOk result (λ m. GivesOf base (fields_of first.now ∷ map fields_of records.now) m.good m.text.items) }
 {
-    match heads_of(alloc, &base.model, first)? {
+    let columns = heads_of(alloc, &base.model, first)?;
+    match columns {
         Err(text) => {
             let text = text.as_str().as_bytes().to_vec(alloc)?;
             Ok(Made {

@@ -174,7 +174,8 @@ fn fault_row(
     ensures { IfOk result (λ row. fields_of row ≡ meant.row_of base.now number (Err fault.now)) }
 {
     let mut row = numbered(alloc, number)?;
-    for _ in 0..base.model.goal_count() {
+    let count = base.model.goal_count();
+    for _goal in 0..count {
         add_cell(&mut row, b"")?;
     }
     add_cell(&mut row, fault.as_str().as_bytes())?;

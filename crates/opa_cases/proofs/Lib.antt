@@ -1,0 +1,2 @@
+pub mod Suppositions
+pub mod Alone

@@ -1,0 +1,4 @@
+pub mod Orders
+pub mod Scripts
+pub mod Caseload
+pub mod Laws
