@@ -72,8 +72,8 @@ kept_named n m rest x y text (inl h) other = kept_all n x y h.2
 kept_named n m rest x y text (inr h) other = kept_put n m x y h.1.1 h.1.4 other
 
 kept_by : (n read text : List ℕ) (x y : Held) → RepliesLine x read text y → ((rest : List ℕ) → IsNamed read n rest → ⊥) → Kept n x y
-kept_by n read text x y (inl h) no = kept_all n x y h.1.1
-kept_by n read text x y (inr h) no = kept_named n h.0 h.1 x y text h.3 (λ e. no h.1 (subst (λ k. IsNamed read k h.1) e h.2))
+kept_by n read text x y (inl h) unnamed = kept_all n x y h.1.1
+kept_by n read text x y (inr h) unnamed = kept_named n h.0 h.1 x y text h.3 (λ e. unnamed h.1 (subst (λ k. IsNamed read k h.1) e h.2))
 
 -- a line of the name: what it would print alone, and what is open under the name afterwards
 pub record Alone (n rest text : List ℕ) (x y : Held) : Type 0 where
@@ -121,14 +121,14 @@ one_more n rest text x next y rests picked alone h =
 module _ (n : List ℕ) where
   goes : {reads texts rests picked : List (List ℕ)} → Picks n reads texts rests picked → (x y : Held) → ArePrinted x reads texts y → Result n x y rests picked
   goes Picks.none x y h = ([], (refl, ap (λ (k : Held). at n k.open_cases) h.1), refl)
-  goes (Picks.other {texts = texts} read text no more) x y (t, next, line, (others, printed, e)) =
+  goes (Picks.other {reads = reads} {texts = texts} read text unnamed more) x y (t, next, line, (others, printed, e)) =
       let same : t ≡ text = (let q : text ≡ t = cc e in sym q) in
       let rest : others ≡ texts = (let q : texts ≡ others = cc e in sym q) in
-      passed n x next y _ _ (kept_by n read t x next line no) (goes more next y (subst (λ ts. ArePrinted next _ ts y) rest printed))
-  goes (Picks.this {texts = texts} read text rest named some more) x y (t, next, line, (others, printed, e)) =
+      passed n x next y _ _ (kept_by n read t x next line unnamed) (goes more next y (subst (λ ts. ArePrinted next reads ts y) rest printed))
+  goes (Picks.this {reads = reads} {texts = texts} read text rest named some more) x y (t, next, line, (others, printed, e)) =
       let same : t ≡ text = (let q : text ≡ t = cc e in sym q) in
       let after : others ≡ texts = (let q : texts ≡ others = cc e in sym q) in
-      one_more n rest text x next y _ _ (of_line n read rest text x next named some (subst (λ s. RepliesLine x read s next) same line)) (goes more next y (subst (λ ts. ArePrinted next _ ts y) after printed))
+      one_more n rest text x next y _ _ (of_line n read rest text x next named some (subst (λ s. RepliesLine x read s next) same line)) (goes more next y (subst (λ ts. ArePrinted next reads ts y) after printed))
 
 pub alone : (x y : Held) (name : List ℕ) (reads texts rests picked : List (List ℕ)) → ArePrinted x reads texts y → Picks name reads texts rests picked
     → (parts : List (List ℕ)) × IsScript x.rules (cases.get x.open_cases name) rests parts (cases.get y.open_cases name) × (picked ≡ map (behind_name name) parts)
