@@ -60,26 +60,26 @@ cells_end r n c (h ∷ heads) = refl
 
 module _ (r : Rulebase) (heads : List Head) (cells : List (List ℕ)) (first : CaseView) where
   pub way_begins : IsOnTheWay r heads cells first 0 first
-  way_begins = λ x h. h
+  way_begins = record { leads = λ x h. h }
 
   module _ (place : ℕ) (c : CaseView) (way : IsOnTheWay r heads cells first place c) where
     pub way_ends : drop place heads ≡ [] → AreCells r 1 first heads cells (Ok c)
-    way_ends e = way (Ok c) (subst (λ hs. AreCells r (place + 1) c hs (drop place cells) (Ok c)) (sym e) refl)
+    way_ends e = way.leads (Ok c) (subst (λ hs. AreCells r (place + 1) c hs (drop place cells) (Ok c)) (sym e) refl)
 
     pub way_is_short : None ≡ field_at cells place → AreCells r 1 first heads cells (Ok c)
-    way_is_short e = way (Ok c) (subst (λ xs. AreCells r (place + 1) c (drop place heads) xs (Ok c)) (sym (past cells place e)) (cells_end r (place + 1) c (drop place heads)))
+    way_is_short e = way.leads (Ok c) (subst (λ xs. AreCells r (place + 1) c (drop place heads) xs (Ok c)) (sym (past cells place e)) (cells_end r (place + 1) c (drop place heads)))
 
     module _ (h : Head) (cell : List ℕ) (of : drop place heads ≡ h ∷ drop (place + 1) heads) (at : Some cell ≡ field_at cells place) where
       under : (x : Result CaseView (List ℕ)) → AreCells r (place + 1) c (h ∷ drop (place + 1) heads) (cell ∷ drop (place + 1) cells) x → AreCells r 1 first heads cells x
       under x k =
-          way x (subst (λ hs. AreCells r (place + 1) c hs (drop place cells) x) (sym of) (subst (λ xs. AreCells r (place + 1) c (h ∷ drop (place + 1) heads) xs x) (sym (here cells place cell at)) k))
+          way.leads x (subst (λ hs. AreCells r (place + 1) c hs (drop place cells) x) (sym of) (subst (λ xs. AreCells r (place + 1) c (h ∷ drop (place + 1) heads) xs x) (sym (here cells place cell at)) k))
 
       pub way_stops : (d : CaseView) (o : Option (List ℕ)) → is_some o ≡ true → IsCell r (place + 1) c h cell (left_by o d) → AreCells r 1 first heads cells (left_by o d)
       way_stops d None e is = absurd (cc e)
       way_stops d (Some text) e is = under (Err text) (inl (text, is, refl))
 
       pub way_goes_on : (d : CaseView) (o : Option (List ℕ)) → is_some o ≡ false → IsCell r (place + 1) c h cell (left_by o d) → IsOnTheWay r heads cells first (place + 1) d
-      way_goes_on d None e is = λ x k. under x (inr (d, is, k))
+      way_goes_on d None e is = record { leads = λ x k. under x (inr (d, is, k)) }
       way_goes_on d (Some text) e is = absurd (cc e)
 
 pub head_at : (heads : List Head) (place : ℕ) (h : Head) → place < length heads → h ≡ get_or heads place h → drop place heads ≡ h ∷ drop (place + 1) heads

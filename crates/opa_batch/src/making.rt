@@ -1,13 +1,13 @@
 // What an input gives over a rulebase is made.
-ghost use Rattle.std.specs.Prelude.{◌≡◌, ◌+◌, ◌<◌, ◌++◌, ◌∷◌, ◌^◌, [], ℕ, List as Seq, length, map, IfOk};
+ghost use Rattle.std.specs.Prelude.{◌≡◌, ◌+◌, ◌<◌, ◌∷◌, ◌^◌, map, IfOk};
 ghost use Rattle.csv.specs.Records.{fields_of};
 ghost use Rattle.opa_case.specs.Cases.{no_case};
 ghost use Rattle.opa_case.specs.Fits.{Fits};
 ghost use Rattle.opa_case.specs.Shapes.{shape_of};
 ghost use Rattle.opa_infer.specs.Sessions.{rules_of, held_of};
 ghost use Rattle.opa_io.specs.declared.fault.Status.TheVariants as statuses;
-ghost use Rattle.opa_batch.specs.Batches.{AreRows, Gives, GivesOf, no_heading, written_row as written_row_of, heading as heading_of};
-ghost use Rattle.opa_batch.specs.Rows.{IsRow};
+ghost use Rattle.opa_batch.specs.Batches.{Gives, GivesOf, no_heading, written_row as written_row_of, heading as heading_of};
+ghost use Rattle.opa_batch.specs.Numbered.{HasRows, WritesRow};
 
 use crate::cells::take_record;
 use crate::columns::heads_of;
@@ -75,7 +75,7 @@ fn record_row<L: Ledger>(
 ) -> Result<Vec<u8>, NoMemory>
     requires first { place ≡ 0 → held_of session.old ≡ no_case }
     requires few { place + 1 < 2 ^ 64 }
-    ensures ok { IfOk result (λ t. (cells : Seq (Seq ℕ)) × IsRow (rules_of session.old) heads.now (place + 1) (fields_of row.now) cells × (t.items ≡ written_row_of cells)) }
+    ensures ok { IfOk result (λ t. WritesRow (rules_of session.old) heads.now (place + 1) (fields_of row.now) t.items) }
     ensures base { rules_of session.new ≡ rules_of session.old }
 {
     forget_case(alloc, session, place, steps)?;
@@ -95,7 +95,7 @@ fn add_rows<L: Ledger>(
     steps: &mut Steps<L>,
 ) -> Result<(), NoMemory>
     requires first { held_of session.old ≡ no_case }
-    ensures { IfOk result (λ _. (rows : Seq ℕ) × AreRows (rules_of session.old) heads.now 1 (map fields_of records.now) rows × (text.new.items ≡ text.old.items ++ rows)) }
+    ensures { IfOk result (λ _. HasRows (rules_of session.old) heads.now (map fields_of records.now) text.old.items text.new.items) }
 {
     for place in 0..records.len() {
         let row = record_row(alloc, session, heads, place, &records[place], steps)?;
@@ -113,7 +113,7 @@ fn with_rows<L: Ledger>(
     text: Vec<u8>,
     steps: &mut Steps<L>,
 ) -> Result<Vec<u8>, NoMemory>
-    ensures { IfOk result (λ t. (rows : Seq ℕ) × AreRows base heads.now 1 (map fields_of records.now) rows × (t.items ≡ text.items ++ rows)) }
+    ensures { IfOk result (λ t. HasRows base heads.now (map fields_of records.now) text.items t.items) }
 {
     let mut whole = text;
     if records.is_empty() {
@@ -132,7 +132,7 @@ fn decided<L: Ledger>(
     records: &[ByteRecord],
     steps: &mut Steps<L>,
 ) -> Result<Vec<u8>, NoMemory>
-    ensures { IfOk result (λ t. (rows : Seq ℕ) × AreRows base heads.now 1 (map fields_of records.now) rows × (t.items ≡ written_row_of (heading_of base) ++ rows)) }
+    ensures { IfOk result (λ t. HasRows base heads.now (map fields_of records.now) (written_row_of (heading_of base)) t.items) }
 {
     let row = heading(alloc, &base)?;
     let text = written_row(alloc, &row)?;
