@@ -83,3 +83,57 @@ with open("full.json", "w") as file:
     json.dump({"answers": answers, "format": "policy-case", "lists": lists, "model": 0, "version": 2}, file, separators=(",", ":"), sort_keys=True)
 with open("full_input.txt", "w") as file:
     file.write('load "full.json"\nshow the total\n')
+
+# 20,000 persons with nothing answered of them
+with open("people.json", "w") as file:
+    json.dump({"answers": [], "format": "policy-case", "lists": lists, "model": 0, "version": 2}, file, separators=(",", ":"), sort_keys=True)
+
+# five conclusions a person, and 100,000 answers, one by one, each of which reaches one of them
+with open("reach.txt", "w") as file:
+    file.write("global\n  number the count\nentity the person\n  in global: the persons\n" + "".join(f"  number number {a}\n  number double {a}\n" for a in "abcde"))
+    file.write("".join(f"double {a} = number {a} * 2\n" for a in "abcde") + "the count = InstanceCount(the persons)\n")
+with open("reach_input.txt", "w") as file:
+    file.write('load "people.json"\n' + "".join(f'answer number {a} of "{name}" = {n % 1000}\n' for n, name in enumerate(names) for a in "abcde") + "stats\n")
+
+# the same, each of which reaches a sum over all persons besides
+for count in (250, 500, 1000):
+    with open(f"reached_sum_{count}_input.txt", "w") as file:
+        file.write("list the persons = " + ", ".join(f'"p{n}"' for n in range(count)) + "\n" + "".join(f'answer the income of "p{n}" = {n}\n' for n in range(count)) + "show the total\nstats\n")
+
+# the first answer of the chain, changed 1,000 times
+with open("chain_changes_input.txt", "w") as file:
+    file.write("".join(f"answer a0 = {n}\n" for n in range(1000)) + "show a3999\n")
+
+# 1,000 groups of 20 members, one list after another
+with open("groups.txt", "w") as file:
+    file.write("global\n  number the count\nentity the group\n  in global: the groups\n  number the size\nentity the member\n  in the group: the members\n  number the age\nthe count = InstanceCount(the groups)\nthe size = InstanceCount(the members)\n")
+for count in (250, 500, 1000):
+    with open(f"groups_{count}_input.txt", "w") as file:
+        file.write("list the groups = " + ", ".join(f'"g{n}"' for n in range(count)) + "\n")
+        file.write("".join(f'list the members of "g{n}" = ' + ", ".join(f'"m{n}_{k}"' for k in range(20)) + "\n" for n in range(count)) + "stats\n")
+
+# fifty conclusions a person: 1,000,000 slots for 20,000 persons
+with open("slots.txt", "w") as file:
+    file.write("global\n  number the count\nentity the person\n  in global: the persons\n" + "".join(f"  number number {a}\n" for a in "abcde") + "".join(f"  number result {n}\n" for n in range(50)))
+    file.write("".join(f"result {n} = number {'abcde'[n % 5]} + {n}\n" for n in range(50)))
+with open("slots_input.txt", "w") as file:
+    file.write('load "full.json"\nstats\n')
+
+# each conclusion mentions two earlier ones
+with open("pairs.txt", "w") as file:
+    file.write("global\n" + "".join(f"  number a{n}\n" for n in range(4000)) + "goal a3999\n" + "".join(f"a{n} = a{n - 1} + a{n - 2}\n" for n in range(2, 4000)))
+with open("pairs_input.txt", "w") as file:
+    file.write("screen\nanswer a0 = 0; from 2024-01-01 0.0001\nnext\nanswer a1 = 0\nnext\nreport a3999 at 2024-01-01\n")
+
+# forty windows of 36,600 days, one inside the other
+with open("nested.txt", "w") as file:
+    file.write("verb is / is not / is /\nglobal\n" + "".join(f"  bool the claimant [is] steady {n}\n" for n in range(41)) + "goal the claimant is steady 40\n")
+    file.write("".join(f"the claimant is steady {n} if\n  TemporalAlwaysDays(36600, the claimant is steady {n - 1})\n" for n in range(1, 41)))
+with open("nested_input.txt", "w") as file:
+    file.write("next\nanswer the claimant is steady 0 = true; from 2399-01-01 unknown\nnext\nanswer the claimant is steady 0 = true\nnext\nreport the claimant is steady 40 at 2399-12-31\n")
+
+# a quantifier over 20,000 persons
+with open("everyone.txt", "w") as file:
+    file.write("global\n  number the total\nentity the person\n  in global: the persons\n" + "".join(f"  number number {a}\n" for a in "abcde") + "goal the total\nthe total = InstanceSum(the persons, number a)\n")
+with open("everyone_input.txt", "w") as file:
+    file.write('load "people.json"\nnext\nload "full.json"\nnext\nreport the total at 2024-01-01\n')

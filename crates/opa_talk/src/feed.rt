@@ -123,7 +123,9 @@ fn take_lines<T: Replier, F: Shelf, S: Source, K: Sink, L: Ledger>(
     let mut left = LIMIT;
     while left > 0 {
         buf.truncate(left);
-        match take_turn(alloc, replier, shelf, listeners, steps, pending, buf, input, out)? {
+        match take_turn(
+            alloc, replier, shelf, listeners, steps, pending, buf, input, out,
+        )? {
             Turn::End => return Ok(Ending::End),
             Turn::Over => return Ok(Ending::Over),
             Turn::Read(count) => left -= count,
@@ -172,7 +174,9 @@ fn go_on<T: Replier, F: Shelf, S: Source, K: Sink, L: Ledger>(
     ensures later_take { F.take_faults shelf.old ≤ F.take_faults shelf.new }
     ensures later_keep { F.keep_faults shelf.old ≤ F.keep_faults shelf.new }
 {
-    match take_lines(alloc, replier, shelf, listeners, steps, pending, buf, input, out)? {
+    match take_lines(
+        alloc, replier, shelf, listeners, steps, pending, buf, input, out,
+    )? {
         Ending::Over => Ok(()),
         Ending::End => finish(alloc, replier, shelf, listeners, steps, pending, out),
         Ending::Full => {
