@@ -1,6 +1,7 @@
 -- The cells of a record, one after another.
-use Rattle.std.proofs.Common.{◌≡◌, ◌≢◌, ◌==◌, ◌<◌, ◌+◌, ℕ, zero, suc, Bool, true, false, List, [], ◌∷◌, ◌++◌, length, drop, get_or, is_some, inl, inr, refl, sym, ap, ◌∙◌, subst, add-one, drop-cons, arith}
+use Rattle.std.proofs.Common.{Bor, ◌≡◌, ◌≢◌, ◌==◌, ◌<◌, ◌+◌, ℕ, zero, suc, Bool, true, false, List, [], ◌∷◌, ◌++◌, length, drop, get_or, is_some, inl, inr, refl, sym, ap, ◌∙◌, subst, add-one, drop-cons, arith}
 use Rattle.std.specs.Prelude.{Option, None, Some, Result, Ok, Err}
+use Rattle.std.specs.Option.{option_map}
 use Rattle.csv.specs.Records.{field_at}
 use Rattle.opa_model.specs.declared.lists.Lists.{Lists}
 use Rattle.opa_case.specs.Cases.{CaseView, no_case}
@@ -44,13 +45,13 @@ module _ (r : Rulebase) (column : ℕ) (c : CaseView) where
   pub refused : (m : Lists) (line text : List ℕ) (f : CmdFault) → m ≡ r.model → f ≢ fault.NoMemory → IsNoCommand m line f → text ≡ command_fault column f → IsCarriedOut r column c line (Err text)
   refused m line text f same some is says = inl (f, some, subst (λ l. IsNoCommand l line f) same is, ap Err says)
 
-  pub empty_cell : (h : Head) (cell : List ℕ) → length cell ≡ 0 → IsCell r column c h cell (Ok c)
-  empty_cell h [] e = refl
-  empty_cell h (b ∷ cell) e = absurd (omega (arith, e))
+  pub full_cell : (h : Head) (cell : List ℕ) (x : Result CaseView (List ℕ)) (b : Bool) → b ≡ (length cell == 0) → b ≡ false → IsCarriedOut r column c (line_of h cell) x → IsCell r column c h cell x
+  full_cell h [] x b e f is = absurd (let q : true ≡ false = sym e ∙ f in cc q)
+  full_cell h (b ∷ cell) x t e f is = is
 
-  pub full_cell : (h : Head) (cell : List ℕ) (x : Result CaseView (List ℕ)) → length cell ≢ 0 → IsCarriedOut r column c (line_of h cell) x → IsCell r column c h cell x
-  full_cell h [] x some is = absurd (some refl)
-  full_cell h (b ∷ cell) x some is = is
+-- the place where a cell is missing
+pub missing : (o : Option (Bor (List ℕ))) (cells : List (List ℕ)) (place : ℕ) → o ≡ None → option_map (λ (s : Bor (List ℕ)). s.now) o ≡ field_at cells place → None ≡ field_at cells place
+missing o cells place e h = sym (ap (λ q. option_map (λ (s : Bor (List ℕ)). s.now) q) e) ∙ h
 
 -- ---- cells
 

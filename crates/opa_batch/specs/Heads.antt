@@ -48,7 +48,7 @@ abbrev pub column_fault : ℕ → List ℕ → ℕ → List ℕ
 column_fault column what n = codes "column " ++ (decimal column ++ (codes " " ++ (what ++ (codes " " ++ decimal n))))
 
 abbrev pub refused_head : ℕ → HeadFault → List ℕ
-refused_head column f = codes "refused: " ++ (column_fault column (codes "command") (head_fault_number f) ++ 10 ∷ [])
+refused_head column f = codes "refused: column " ++ (decimal column ++ (codes " command " ++ (decimal (head_fault_number f) ++ 10 ∷ [])))
 
 -- The first cell that is no head, of those from a column on, is refused so.
 abbrev pub IsFirstRefusal : Lists → ℕ → List (List ℕ) → List ℕ → Type 0

@@ -1,5 +1,6 @@
 // The texts of faults.
 ghost use Rattle.std.specs.Prelude.{◌≡◌, ◌≢◌, ◌++◌, ◌∷◌, [], codes, IfOk};
+ghost use Rattle.std.specs.Fmt.{decimal};
 ghost use Rattle.opa_batch.specs.declared.head.HeadFault.TheVariants as head_faults;
 ghost use Rattle.opa_batch.specs.Heads as heads;
 ghost use Rattle.opa_batch.specs.Rows as rows;
@@ -22,7 +23,7 @@ fn column_fault(alloc: Global, column: usize, what: &str, number: u8) -> Result<
 
 /// The refusal of a heading.
 fn refused_column(alloc: Global, column: usize, number: u8) -> Result<Txt, NoMemory>
-    ensures { IfOk result (λ t. t ≡ codes "refused: " ++ (heads.column_fault column (codes "command") number ++ 10 ∷ [])) }
+    ensures { IfOk result (λ t. t ≡ codes "refused: column " ++ (decimal column ++ (codes " command " ++ (decimal number ++ 10 ∷ [])))) }
 {
     let text = format!(in alloc; "refused: column {column} command {number}\n")?;
     let told = Txt::from_str(alloc, text.as_str())?;

@@ -175,7 +175,7 @@ fn fault_row(
 {
     let mut row = numbered(alloc, number)?;
     let count = base.model.goal_count();
-    for _goal in 0..count {
+    for _ in 0..count {
         add_cell(&mut row, b"")?;
     }
     add_cell(&mut row, fault.as_str().as_bytes())?;

@@ -6,8 +6,8 @@ use Rattle.opa_batch.specs.Numbered.{AreUpTo}
 use Rattle.opa_batch.proofs.rows.fault_row.Given as goal
 
 -- an empty cell for each of the goals before
-abbrev pub invariant-loop-_goal : goal.invariant-loop-_goal
-invariant-loop-_goal l = record {
-  cells : AreUpTo empty_cell l.base.model.goals (decimal l.number) l._goal (fields_of l.row);
+abbrev pub invariant-loop-goal : goal.invariant-loop-goal
+invariant-loop-goal l = record {
+  cells : AreUpTo empty_cell l.base.model.goals (decimal l.number) l.goal (fields_of l.row);
   whole : partial_of l.row ≡ [];
 }
