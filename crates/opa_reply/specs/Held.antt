@@ -1,12 +1,12 @@
 -- What is held between two lines: a rulebase, a case, how many slots the last change reached, what listeners watch and keep, the
 -- files of a shelf, where they are told, and how many lines of conclusions were derived, as far as a counter tells.
-use Rattle.std.specs.Prelude.{ℕ, ◌+◌, List, Option}
+use Rattle.std.specs.Prelude.{ℕ, List, Option}
 use Rattle.opa_io.specs.Outside.{Files}
 use Rattle.opa_case.specs.Cases.{CaseView, no_case}
 use Rattle.opa_listen.specs.Hearing.{Hearer}
 use Rattle.opa_tree.specs.declared.rulebase.Rulebase.{Rulebase}
 use Rattle.opa_infer.specs.declared.session.Session.{Session}
-use Rattle.opa_infer.specs.Sessions.{rules_of, held_of, reached_of, first_slots}
+use Rattle.opa_infer.specs.Sessions.{rules_of, held_of, reached_of}
 
 pub record Held : Type 0 where
   pub rules : Rulebase
@@ -34,6 +34,6 @@ with_files x files = held x.rules x.case x.reached x.hearers files x.derived
 abbrev pub with_derived : Held → ℕ → Held
 with_derived x derived = held x.rules x.case x.reached x.hearers x.files derived
 
--- At first nothing is known of the case, and nothing was changed; the lines of the slots that there are then were derived.
+-- At first nothing is known of the case, and nothing was changed; so many lines were derived by then.
 abbrev pub at_first : Rulebase → List Hearer → Option Files → ℕ → Held
-at_first rules hearers files steps = held rules no_case 0 hearers files (steps + first_slots rules)
+at_first rules hearers files derived = held rules no_case 0 hearers files derived

@@ -26,7 +26,7 @@ pub struct Conversation {
 impl Conversation {
     /// Nothing is known of the case.
     pub fn start<L: Ledger>(alloc: Global, base: Rulebase, steps: &mut Steps<L>) -> Result<Conversation, NoMemory>
-        ensures first { IfOk result (λ c. (hearers : List Hearer) (files : Option Files) → ⟦<Conversation as Replier>⟧.held c hearers files steps.new ≡ at_first base hearers files steps.old) }
+        ensures first { IfOk result (λ c. (hearers : List Hearer) (files : Option Files) → ⟦<Conversation as Replier>⟧.held c hearers files steps.new ≡ at_first base hearers files steps.new) }
         ensures bound { steps.new ≤ steps.old + first_slots base }
     {
         let session = Session::start(alloc, base, steps)?;

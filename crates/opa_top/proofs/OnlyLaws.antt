@@ -22,9 +22,13 @@ left_so new x y e h = subst (Leaves new) e h
 
 module _ (way : Manner) (one_opening : OneOpening) (one_transcript : OneTranscript way.rule) (name : List ℕ) (old new : Outside) where
   whatever : (base : Rulebase) → IsModel base.model → (files : Files) → old.files ≡ Some files → (bytes : List ℕ) → SaysAll way base old new bytes → WroteWhatever way name old new base bytes
-  whatever base m files told bytes says text held said =
-      let one = one_transcript (beginning base old) held says.held (input_lines bytes) text says.text m (files, told) said says.said in
-      (subst (Appends old.written new.written) (sym one.0) says.wrote, left_so new says.held held (sym one.1) says.leaves)
+  whatever base m files told bytes says = (
+    says.first,
+    says.few,
+    λ text held said.
+        let one = one_transcript (beginning base old says.first) held says.held (input_lines bytes) text says.text m (files, told) said says.said in
+        (subst (Appends old.written new.written) (sym one.0) says.wrote, left_so new says.held held (sym one.1) says.leaves),
+  )
 
   only_all : (base : Rulebase) → IsModel base.model → (read : List ℕ) (o : Option Files) → old.files ≡ o → (l : Option (List ℕ)) → IfSome o (λ files. Opens files name (Ok base)) → Consumes l new.left read
       → ((bytes : List ℕ) → Consumes (Some bytes) new.left read → SaysAll way base old new bytes)

@@ -58,7 +58,7 @@ module _ (way : Manner) (name : List ℕ) (old new : Outside) where
   pub all_over : (base : Rulebase) (bytes read : List ℕ) (l' : Option (List ℕ)) → Consumes (Some bytes) l' read → SaysOver way base old new read → SaysAll way base old new bytes
   all_over base bytes read None took says = absurd took
   all_over base bytes read (Some rest) took says =
-      subst (λ t. SaysAll way base old new t) (sym took) (record { text = says.text; held = says.held; said = says.said rest; wrote = says.wrote; leaves = says.leaves })
+      subst (λ t. SaysAll way base old new t) (sym took) (record { first = says.first; few = says.few; text = says.text; held = says.held; said = says.said rest; wrote = says.wrote; leaves = says.leaves })
 
   wrote_over : (base : Rulebase) (read : List ℕ) (o : Option Files) (l : Option (List ℕ)) → IfSome o (λ files. Opens files name (Ok base)) → Consumes l new.left read → SaysOver way base old new read
       → IfSome o (λ files. IfSome l (λ bytes. (b : Rulebase) × Opens files name (Ok b) × SaysAll way b old new bytes))
@@ -89,6 +89,8 @@ module _ (way : Manner) (name : List ℕ) (old new : Outside) where
 
   whole_front : (base : Rulebase) (whole rest read : List ℕ) → whole ++ rest ≡ read → EndsLine whole → SaysAll way base old new whole → SaysFront way base old new read
   whole_front base whole rest read cut ends s = record {
+    first = s.first;
+    few = s.few;
     held = s.held;
     halted = among_whole way.rule (MayLeave old.keeps new.keeps way.stops way.lacks) _ _ whole rest read _ _ _ cut ends (record {
       done = input_lines whole;

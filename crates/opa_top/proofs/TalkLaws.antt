@@ -14,17 +14,18 @@ use Rattle.opa_talk.proofs.EndLaws.{halts_memory}
 use Rattle.opa_tree.specs.declared.rulebase.Rulebase.{Rulebase}
 use Rattle.opa_reply.specs.Held.{Held}
 use Rattle.opa_top.specs.Checking.{IsTold}
-use Rattle.opa_top.specs.Running.{MOST, Manner, Outside, beginning, Leaves, SaysFront, SaysOver, SaysWhole, Talks, TalksAll, TalksPart, Runs, a_run, end_of}
+use Rattle.opa_top.specs.Running.{MOST, Manner, Outside, IsFirst, beginning, Leaves, SaysFront, SaysOver, SaysWhole, Talks, TalksAll, TalksPart, Runs, a_run, end_of}
 
-module _ (way : Manner) (base : Rulebase) (old new : Outside) (s s' : Held) (is : s ≡ beginning base old) (leaves : Leaves new s') where
+module _ (way : Manner) (base : Rulebase) (old new : Outside) (first : ℕ) (few : IsFirst base old first) (s s' : Held) (is : s ≡ beginning base old first) (leaves : Leaves new s') where
   pub talks_all : {E : Type 0} (r : Result (Unit {0}) E) → OnOk r (Converses way.rule s s' MOST old.left new.left old.written new.written) → OnOk r (TalksAll way base old new)
-  talks_all (Ok u) h = let P : Held → Type 0 = λ x. Converses way.rule x s' MOST old.left new.left old.written new.written in (s', subst P is h, leaves)
+  talks_all (Ok u) h = let P : Held → Type 0 = λ x. Converses way.rule x s' MOST old.left new.left old.written new.written in (first, few, s', subst P is h, leaves)
   talks_all (Err e) h = tt
 
   pub talks_part : {T : Type 0} (r : Result T Halt) → IfErr r (Halts way.rule (MayLeave old.keeps new.keeps way.stops way.lacks) s s' MOST old.left new.left old.written new.written)
       → IfErr r (TalksPart way base old new)
   talks_part (Ok u) h = tt
-  talks_part (Err e) h = let P : Held → Type 0 = λ x. Halts way.rule (MayLeave old.keeps new.keeps way.stops way.lacks) x s' MOST old.left new.left old.written new.written e in (s', subst P is h, leaves)
+  talks_part (Err e) h =
+      let P : Held → Type 0 = λ x. Halts way.rule (MayLeave old.keeps new.keeps way.stops way.lacks) x s' MOST old.left new.left old.written new.written e in (first, few, s', subst P is h, leaves)
 
 -- another count of steps
 abbrev pub with_steps : Outside → ℕ → Outside
@@ -42,32 +43,38 @@ with_steps old steps = record {
 
 -- memory ran out before the first line
 pub talks_not : (way : Manner) (base : Rulebase) (old : Outside) (steps : ℕ) → steps ≤ old.steps + first_slots base → TalksPart way base old (with_steps old steps) halt.Memory
-talks_not way base old steps few =
-    (beginning base old, halts_memory way.rule (MayLeave old.keeps old.keeps way.stops way.lacks) (beginning base old) MOST old.left old.written, record { files = refl; hearers = refl; steps = few })
+talks_not way base old steps few = (
+  steps,
+  few,
+  beginning base old steps,
+  halts_memory way.rule (MayLeave old.keeps old.keeps way.stops way.lacks) (beginning base old steps) MOST old.left old.written,
+  record { files = refl; hearers = refl; steps = omega arith },
+)
 
 -- a count that rose later rose
 rose_later : (before mid now : ℕ) → before ≤ mid → Rose mid now → Rose before now
 rose_later before mid now less rose = search (arith, less, rose)
 
 module _ (way : Manner) (base : Rulebase) (old new : Outside) (mid : ℕ) (less : old.takes ≤ mid) where
-  whole : (y : Held) (read : List ℕ) → Paused way.rule (beginning base old) y read old.written new.written → Leaves new y → SaysWhole way base old new read
-  whole y read p leaves = record { whole = p.whole; is_whole = p.is_whole; says = record { text = p.text; held = y; said = p.said; wrote = p.wrote; leaves = leaves }; going = p.going }
+  module _ (first : ℕ) (some : IsFirst base old first) where
+    whole : (y : Held) (read : List ℕ) → Paused way.rule (beginning base old first) y read old.written new.written → Leaves new y → SaysWhole way base old new read
+    whole y read p leaves = record { whole = p.whole; is_whole = p.is_whole; says = record { first = first; few = some; text = p.text; held = y; said = p.said; wrote = p.wrote; leaves = leaves }; going = p.going }
 
-  front : (y : Held) (read : List ℕ) → HaltedAmong way.rule (MayLeave old.keeps new.keeps way.stops way.lacks) (beginning base old) y read new.left old.written new.written → Leaves new y → SaysFront way base old new read
-  front y read h leaves = record { held = y; halted = h; leaves = leaves }
+    front : (y : Held) (read : List ℕ) → HaltedAmong way.rule (MayLeave old.keeps new.keeps way.stops way.lacks) (beginning base old first) y read new.left old.written new.written → Leaves new y → SaysFront way base old new read
+    front y read h leaves = record { first = first; few = some; held = y; halted = h; leaves = leaves }
 
   pub fed : (r : Result (Unit {0}) Halt) → OnOk r (TalksAll way base old new) → IfErr r (TalksPart way base old new)
       → IfErr r (IsCause mid new.takes old.keeps new.keeps old.writes new.writes old.reads new.reads) → Talks way base old new (end_of r)
-  fed (Ok u) (y, c, leaves) part cause = elim c.ended [
-    | inl end ↦ (c.read, c.took, c.within, inl (end, record { text = c.text; held = y; said = c.said; wrote = c.wrote; leaves = leaves }))
-    | inr over ↦ (c.read, c.took, c.within, inr (record { text = c.text; held = y; over = over.0; said = over.1; wrote = c.wrote; leaves = leaves }))
+  fed (Ok u) (n, some, y, c, leaves) part cause = elim c.ended [
+    | inl end ↦ (c.read, c.took, c.within, inl (end, record { first = n; few = some; text = c.text; held = y; said = c.said; wrote = c.wrote; leaves = leaves }))
+    | inr over ↦ (c.read, c.took, c.within, inr (record { first = n; few = some; text = c.text; held = y; over = over.0; said = over.1; wrote = c.wrote; leaves = leaves }))
   ]
-  fed (Err halt.Input) all (y, (read, took, (few, p)), leaves) cause = (read, took, few, inl (cause, whole y read p leaves))
-  fed (Err halt.Output) all (y, (read, took, (few, h)), leaves) cause = (read, took, few, (inl cause, front y read h leaves))
-  fed (Err halt.Take) all (y, (read, took, (few, h)), leaves) cause = (read, took, few, inr (rose_later old.takes mid new.takes less cause, front y read h leaves))
-  fed (Err halt.Keep) all (y, (read, took, (few, h)), leaves) cause = (read, took, few, (inr cause, front y read h leaves))
-  fed (Err halt.Memory) all (y, (read, took, (few, h)), leaves) cause = (read, took, few, front y read h leaves)
-  fed (Err halt.Limit) all (y, (read, took, (many, p)), leaves) cause = (read, took, many, whole y _ p leaves)
+  fed (Err halt.Input) all (n, some, y, (read, took, (few, p)), leaves) cause = (read, took, few, inl (cause, whole n some y read p leaves))
+  fed (Err halt.Output) all (n, some, y, (read, took, (few, h)), leaves) cause = (read, took, few, (inl cause, front n some y read h leaves))
+  fed (Err halt.Take) all (n, some, y, (read, took, (few, h)), leaves) cause = (read, took, few, inr (rose_later old.takes mid new.takes less cause, front n some y read h leaves))
+  fed (Err halt.Keep) all (n, some, y, (read, took, (few, h)), leaves) cause = (read, took, few, (inr cause, front n some y read h leaves))
+  fed (Err halt.Memory) all (n, some, y, (read, took, (few, h)), leaves) cause = (read, took, few, front n some y read h leaves)
+  fed (Err halt.Limit) all (n, some, y, (read, took, (many, p)), leaves) cause = (read, took, many, whole n some y _ p leaves)
 
 -- ---- a run takes each line
 

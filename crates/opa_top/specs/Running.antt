@@ -10,6 +10,7 @@ use Rattle.opa_talk.specs.declared.halt.Halt.TheVariants as halt
 use Rattle.opa_talk.specs.Lines.{input_lines, IsWhole}
 use Rattle.opa_talk.specs.Transcript.{Rule, IsGoing, IsOver, IsTranscript}
 use Rattle.opa_talk.specs.Talk.{HaltedAmong, Converses, Halts, MayLeave}
+use Rattle.opa_infer.specs.Sessions.{first_slots}
 use Rattle.opa_model.specs.Models.{IsModel}
 use Rattle.opa_tree.specs.declared.rulebase.Rulebase.{Rulebase}
 use Rattle.opa_reply.specs.Held.{Held, at_first}
@@ -66,33 +67,43 @@ pub record Leaves (new : Outside) (held : Held) : Type 0 where
   pub hearers : new.hearers ≡ held.hearers
   pub steps : new.steps ≤ held.derived
 
--- what is held before the first line
-abbrev pub beginning : Rulebase → Outside → Held
-beginning base old = at_first base old.hearers old.files old.steps
+-- what is held before the first line, where so many steps were counted by then
+abbrev pub beginning : Rulebase → Outside → ℕ → Held
+beginning base old first = at_first base old.hearers old.files first
+
+-- of the slots that there are where nothing is known, each line was derived once at most
+abbrev pub IsFirst : Rulebase → Outside → ℕ → Type 0
+IsFirst base old first = first ≤ old.steps + first_slots base
 
 module _ (way : Manner) (base : Rulebase) (old new : Outside) where
   -- The transcript of the bytes' lines was written, and the files and the listeners are those that the lines leave.
   pub record SaysAll (bytes : List ℕ) : Type 0 where
+    pub first : ℕ
+    pub few : IsFirst base old first
     pub text : List ℕ
     pub held : Held
-    pub said : IsTranscript way.rule (beginning base old) (input_lines bytes) text held
+    pub said : IsTranscript way.rule (beginning base old first) (input_lines bytes) text held
     pub wrote : Appends old.written new.written text
     pub leaves : Leaves new held
 
   -- After these bytes no line is taken any more: their transcript, which is that of all bytes that begin with them, was written.
   pub record SaysOver (bytes : List ℕ) : Type 0 where
+    pub first : ℕ
+    pub few : IsFirst base old first
     pub text : List ℕ
     pub held : Held
     pub over : IsOver way.rule held
-    pub said : (more : List ℕ) → IsTranscript way.rule (beginning base old) (input_lines (bytes ++ more)) text held
+    pub said : (more : List ℕ) → IsTranscript way.rule (beginning base old first) (input_lines (bytes ++ more)) text held
     pub wrote : Appends old.written new.written text
     pub leaves : Leaves new held
 
   -- Some of the bytes' lines were carried out, whole ones alone, a front of their transcript was written, and the files and the
   -- listeners are those that these lines leave; but where keeping a file failed, for the name under which the next line couldn't keep its text.
   pub record SaysFront (bytes : List ℕ) : Type 0 where
+    pub first : ℕ
+    pub few : IsFirst base old first
     pub held : Held
-    pub halted : HaltedAmong way.rule (MayLeave old.keeps new.keeps way.stops way.lacks) (beginning base old) held bytes new.left old.written new.written
+    pub halted : HaltedAmong way.rule (MayLeave old.keeps new.keeps way.stops way.lacks) (beginning base old first) held bytes new.left old.written new.written
     pub leaves : Leaves new held
 
   -- The lines whose line feed is among the bytes were carried out, and a further line would be taken.
@@ -135,11 +146,11 @@ pub data Runs (way : Manner) (name : List ℕ) (old new : Outside) : Status → 
 
 -- the input was read to where the talk ends, and its transcript was written
 abbrev pub TalksAll : Manner → Rulebase → Outside → Outside → Type 0
-TalksAll way base old new = (y : Held) × Converses way.rule (beginning base old) y MOST old.left new.left old.written new.written × Leaves new y
+TalksAll way base old new = (first : ℕ) × IsFirst base old first × (y : Held) × Converses way.rule (beginning base old first) y MOST old.left new.left old.written new.written × Leaves new y
 
 -- some of the input was read, and the talk halts there
 abbrev pub TalksPart : Manner → Rulebase → Outside → Outside → Halt → Type 0
-TalksPart way base old new halt = (y : Held) × Halts way.rule (MayLeave old.keeps new.keeps way.stops way.lacks) (beginning base old) y MOST old.left new.left old.written new.written halt × Leaves new y
+TalksPart way base old new halt = (first : ℕ) × IsFirst base old first × (y : Held) × Halts way.rule (MayLeave old.keeps new.keeps way.stops way.lacks) (beginning base old first) y MOST old.left new.left old.written new.written halt × Leaves new y
 
 -- how a run ends that was fed
 abbrev pub end_of : Result (Unit {0}) Halt → Status

@@ -10,7 +10,7 @@ use Rattle.opa_tree.specs.declared.rulebase.Rulebase.{Rulebase}
 use Rattle.opa_reply.specs.Held.{Held}
 use Rattle.opa_rulebase.specs.Loading.{Opens}
 use Rattle.opa_top.specs.Checking.{verdict_status}
-use Rattle.opa_top.specs.Running.{MOST, Manner, Outside, beginning, SaysAll, SaysOver, SaysFront, SaysWhole, Leaves, IsUnused}
+use Rattle.opa_top.specs.Running.{MOST, Manner, Outside, IsFirst, beginning, SaysAll, SaysOver, SaysFront, SaysWhole, Leaves, IsUnused}
 
 -- what is written where the words are not those of a mode
 abbrev pub usage : List ℕ
@@ -51,9 +51,12 @@ module _ (way : Manner) (name : List ℕ) (old new : Outside) where
   Wrote status.NoMemory = WroteFront
   Wrote status.InputLimit = WroteFront
 
-  -- whatever transcript the bytes have over the rulebase was written, and the files and the listeners are those that it leaves
+  -- Whatever transcript the bytes have over the rulebase was written, and the files, the listeners and the count of steps are
+  -- those that it leaves.
   abbrev pub WroteWhatever : Rulebase → List ℕ → Type 0
-  WroteWhatever base bytes = (text : List ℕ) (held : Held) → IsTranscript way.rule (beginning base old) (input_lines bytes) text held → Appends old.written new.written text × Leaves new held
+  WroteWhatever base bytes =
+      (first : ℕ) × IsFirst base old first
+      × ((text : List ℕ) (held : Held) → IsTranscript way.rule (beginning base old first) (input_lines bytes) text held → Appends old.written new.written text × Leaves new held)
 
   -- Where contents are told, nothing else could have been written. With Done, whatever the files open is a rulebase, and whatever
   -- transcript the input has over it was written; with Refused, whatever they open is a refusal, which was written.

@@ -14,11 +14,11 @@ returns-clause-all g c =
     talks_all an_interview c.args.base
     (outside g.F.Shelf.files g.F.Shelf.take_faults g.F.Shelf.keep_faults g.S.Source.left g.S.Source.faults g.K.Sink.written g.K.Sink.faults c.args.shelf.now _ c.args.input.now c.args.out.now c.args.steps.now)
     (outside g.F.Shelf.files g.F.Shelf.take_faults g.F.Shelf.keep_faults g.S.Source.left g.S.Source.faults g.K.Sink.written g.K.Sink.faults c.converse.new.shelf _ c.converse.new.input c.converse.new.out c.converse.new.steps)
-    _ _ (c.in_ok-interview.ensures.first _ _) (record { files = refl; hearers = refl; steps = omega arith }) c.converse.result c.converse.ensures.ok
+    c.start.new.steps c.start.ensures.bound _ _ (c.in_ok-interview.ensures.first _ _) (record { files = refl; hearers = refl; steps = omega arith }) c.converse.result c.converse.ensures.ok
 
 pub returns-clause-part : goal.returns-clause-part
 returns-clause-part g c =
     talks_part an_interview c.args.base
     (outside g.F.Shelf.files g.F.Shelf.take_faults g.F.Shelf.keep_faults g.S.Source.left g.S.Source.faults g.K.Sink.written g.K.Sink.faults c.args.shelf.now _ c.args.input.now c.args.out.now c.args.steps.now)
     (outside g.F.Shelf.files g.F.Shelf.take_faults g.F.Shelf.keep_faults g.S.Source.left g.S.Source.faults g.K.Sink.written g.K.Sink.faults c.converse.new.shelf _ c.converse.new.input c.converse.new.out c.converse.new.steps)
-    _ _ (c.in_ok-interview.ensures.first _ _) (record { files = refl; hearers = refl; steps = omega arith }) c.converse.result c.converse.ensures.err
+    c.start.new.steps c.start.ensures.bound _ _ (c.in_ok-interview.ensures.first _ _) (record { files = refl; hearers = refl; steps = omega arith }) c.converse.result c.converse.ensures.err

@@ -1,0 +1,12 @@
+use Rattle.opa_infer.proofs.starting.begun.Goals as goal
+
+pub invariant_of-result : goal.invariant_of-result
+invariant_of-result c = record {
+  coded = c.requires.coded;
+  freed = c.requires.freed;
+  nothing = c.requires.nothing;
+  fits = c.requires.fits.fits;
+  current = c.requires.current;
+  empty = c.requires.empty;
+  exact = ∣ c.requires.exact ∣₁;
+}
