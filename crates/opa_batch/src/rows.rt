@@ -175,7 +175,8 @@ fn fault_row(
 {
     let mut row = numbered(alloc, number)?;
     let count = base.model.goal_count();
-    for _ in 0..count {
+    for goal in 0..count {
+        let _goal = goal;
         add_cell(&mut row, b"")?;
     }
     add_cell(&mut row, fault.as_str().as_bytes())?;

@@ -1,6 +1,7 @@
-use Rattle.std.proofs.Common.{◌≤◌, length, arith}
+use Rattle.std.proofs.Common.{◌≤◌, ◌+◌, length, subst, sym, arith}
 use Rattle.std.proofs.lemmas.List.{drop_all}
 use Rattle.csv.specs.Records.{fields_of}
+use Rattle.opa_batch.specs.Columns.{AreTaken}
 use Rattle.opa_batch.proofs.CellLaws.{missing}
 use Rattle.opa_batch.proofs.HeadLaws.{past, taken_end, taken_fault, taken_more}
 use Rattle.opa_batch.proofs.columns.heads_of.Goals as goal
@@ -16,7 +17,9 @@ returns-in-Err c =
     c.in-Err.ensures.fault c.in_ok-text-in-Err.ensures.text
 
 pub loop-place-preserved : goal.loop-place-preserved
-loop-place-preserved c = ?
+loop-place-preserved c =
+    subst (AreTaken c.args.model.now (fields_of c.args.row.now) (c.loop-place.place + 1)) (sym c.in_ok-push-in-Ok.ensures.ok)
+    (taken_more c.args.model.now (fields_of c.args.row.now) c.loop-place.place c.loop-place.heads c.loop-place.invariant c.in-Some.cell.now c.in-Some.ensures.value c.in-Ok.head c.in-Ok.ensures.ok)
 
 pub returns : goal.returns
 returns c =
