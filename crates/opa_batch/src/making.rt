@@ -104,6 +104,26 @@ fn add_rows<L: Ledger>(
     Ok(())
 }
 
+/// Lets a session go.
+fn let_go(_session: Session) {}
+
+/// Adds the rows of records to a text, over a session of their own.
+fn determined<L: Ledger>(
+    alloc: Global,
+    base: Rulebase,
+    heads: &[Head],
+    records: &[ByteRecord],
+    text: &mut Vec<u8>,
+    steps: &mut Steps<L>,
+) -> Result<(), NoMemory>
+    ensures { IfOk result (λ _. HasRows base heads.now (map fields_of records.now) text.old.items text.new.items) }
+{
+    let mut session = Session::start(alloc, base, steps)?;
+    let added = add_rows(alloc, &mut session, heads, records, text, steps);
+    let_go(session);
+    added
+}
+
 /// The rows of records behind a heading; without a record nothing is determined.
 fn with_rows<L: Ledger>(
     alloc: Global,
@@ -119,8 +139,7 @@ fn with_rows<L: Ledger>(
     if records.is_empty() {
         return Ok(whole);
     }
-    let mut session = Session::start(alloc, base, steps)?;
-    add_rows(alloc, &mut session, heads, records, &mut whole, steps)?;
+    determined(alloc, base, heads, records, &mut whole, steps)?;
     Ok(whole)
 }
 

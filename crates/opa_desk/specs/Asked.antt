@@ -12,9 +12,13 @@ abbrev pub begins_with_dash : List ℕ → Bool
 begins_with_dash [] = false
 begins_with_dash (b ∷ bytes) = b == 45
 
--- a mode and a name that doesn't begin with `-`, behind the program's name
+-- a mode over a name that doesn't begin with `-`
+abbrev pub taken_by : List ℕ → List ℕ → Option (Mode × List ℕ)
+taken_by word name = if begins_with_dash name then None else option_map (λ m. (m, name)) (mode_named word)
+
+-- a mode and a name, behind the program's name
 abbrev pub asked_of : List (List ℕ) → Option (Mode × List ℕ)
-asked_of (program ∷ word ∷ name ∷ []) = if begins_with_dash name then None else option_map (λ m. (m, name)) (mode_named word)
+asked_of (program ∷ word ∷ name ∷ []) = taken_by word name
 asked_of _ = None
 
 abbrev pub usage : List ℕ

@@ -1,5 +1,5 @@
 // The mode that words ask for.
-ghost use Rattle.std.specs.Prelude.{◌≡◌, None, map, string_bytes, if◌then◌else◌};
+ghost use Rattle.std.specs.Prelude.{◌≡◌, map, string_bytes};
 ghost use Rattle.std.specs.Option.{option_map};
 ghost use Rattle.opa_desk.specs.Asked as meant;
 
@@ -37,7 +37,7 @@ fn begins_with_dash(name: &str) -> bool
 
 /// A mode over a name.
 fn taken<'a>(word: &str, name: &'a str) -> Option<Asked<'a>>
-    ensures { option_map (λ a. (a.mode, a.name.now)) result ≡ (if meant.begins_with_dash name.now then None else option_map (λ m. (m, name.now)) (meant.mode_named word.now)) }
+    ensures { option_map (λ a. (a.mode, a.name.now)) result ≡ meant.taken_by word.now name.now }
 {
     if begins_with_dash(name) {
         return None;
