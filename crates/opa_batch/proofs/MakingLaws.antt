@@ -30,7 +30,7 @@ module _ (r : Rulebase) (heads : List Head) (records : List (List (List ℕ))) (
     one_added lt is written grown added = record {
       adds = λ more h.
           let all : HasRows r heads records first (text ++ (row ++ more)) =
-              added.adds (row ++ more) (subst (λ rs. AreRows r heads (place + 1) rs (row ++ more)) (sym (there lt is)) (written.cells, written.is_row, (more, h, ap (λ t. t ++ more) written.whole))) in
+          added.adds (row ++ more) (subst (λ rs. AreRows r heads (place + 1) rs (row ++ more)) (sym (there lt is)) (written.cells, written.is_row, (more, h, ap (λ t. t ++ more) written.whole))) in
           record { rows = all.rows; are_rows = all.are_rows; whole = ap (λ t. t ++ more) grown ∙ append_assoc text row more ∙ all.whole };
     }
 

@@ -25,5 +25,5 @@ returns-in-ReadFault-clause-serves g c =
     (subst (HasLoadError (g.F.Shelf.files old) c.args.name.now (g.F.Shelf.take_faults old) (g.F.Shelf.take_faults new)) c.in-ReadFault.is c.in-Err.ensures.refused)
     (record { left = refl; files = c.in-Err.ensures.files }) (Appends-none _)
 
-pub returns-in-NoMemory-clause-serves : goal.returns-in-NoMemory-clause-serves
-returns-in-NoMemory-clause-serves g c = Serves.cannot_hold (record { left = refl; files = c.in-Err.ensures.files }) (Appends-none _)
+pub returns-clause-serves : goal.returns-clause-serves
+returns-clause-serves g c = Serves.cannot_hold (record { left = refl; files = c.in-Err.ensures.files }) (Appends-none _)
