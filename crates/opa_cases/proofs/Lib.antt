@@ -1,2 +1,0 @@
-pub mod Suppositions
-pub mod Alone

@@ -1,4 +1,0 @@
-pub mod Orders
-pub mod Scripts
-pub mod Caseload
-pub mod Laws
