@@ -35,7 +35,15 @@ fn talk<S: Source, F: Shelf, K: Sink, L: Ledger>(
     ensures cause { IfErr result (IsCause (F.take_faults shelf.old) (F.take_faults shelf.new) (F.keep_faults shelf.old) (F.keep_faults shelf.new) (K.faults out.old) (K.faults out.new) (S.faults input.old) (S.faults input.new)) }
 {
     let mut conversation = Conversation::start(alloc, base, steps)?;
-    converse(alloc, &mut conversation, shelf, listeners, steps, input, out)
+    converse(
+        alloc,
+        &mut conversation,
+        shelf,
+        listeners,
+        steps,
+        input,
+        out,
+    )
 }
 
 /// What a rulebase declares is a model.

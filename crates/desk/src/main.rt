@@ -1,0 +1,45 @@
+//! Decides many cases over a rulebase: a batch of records from standard input.
+#![tactic(auto)]
+
+ghost use Rattle.std.specs.Prelude.{◌≡◌, ◌<◌};
+
+use opa_desk::desk;
+use opa_io::{FileShelf, Status, StdSink, StdSource, Steps};
+use std::marker::Brand;
+use std::process::ExitCode;
+use std::rt::Env;
+use std::sync::ledger::{Blank, Ledger};
+use std::{env, io};
+
+/// The words of the command line.
+fn words(rt: &(impl Env + AllocGlobal)) -> io::Result<Vec<String>> {
+    Ok(env::args(rt)?.collect(rt.alloc())?)
+}
+
+/// Does what the words say, and counts its steps on a ledger of its own.
+fn counted<L: Ledger>(rt: &HostRuntime, blank: Blank, words: &[String]) -> Status
+    requires name { blank.name ≡ L.name }
+    requires parts { blank.parts ≡ L.parts }
+    requires some { 0 < blank.parts }
+{
+    let mut steps: Steps<L> = Steps::open(blank);
+    let mut shelf = FileShelf::new(rt);
+    let mut input = StdSource::new(rt.stdin());
+    let mut out = StdSink::new(rt.stdout());
+    desk(
+        rt.alloc(),
+        words,
+        &mut shelf,
+        &mut input,
+        &mut out,
+        &mut steps,
+    )
+}
+
+fn main(rt: HostRuntime) -> ExitCode {
+    let Ok(words) = words(&rt) else {
+        return ExitCode::from(Status::NoMemory.number());
+    };
+    let status = counted::<Brand>(&rt, Blank::new(1), &words);
+    ExitCode::from(status.number())
+}

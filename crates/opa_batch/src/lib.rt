@@ -1,0 +1,19 @@
+//! Many cases from a table of comma-separated values: for each record what the goals are where its cells alone are known.
+#![tactic(auto)]
+
+mod calling;
+mod carrying;
+mod cells;
+mod columns;
+mod csv_rows;
+mod faults;
+mod head;
+mod heading;
+mod lines;
+mod making;
+mod records;
+mod rows;
+mod serving;
+
+pub use calling::batch;
+pub use head::{Head, HeadFault, Sort};

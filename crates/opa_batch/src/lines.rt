@@ -1,0 +1,83 @@
+// The line that a cell stands for, and the command that it is.
+ghost use Rattle.std.specs.Prelude.{◌≡◌, IfOk, IfErr};
+ghost use Rattle.opa_script.specs.Commands.{IsCommand, IsNoCommand};
+ghost use Rattle.opa_script.specs.Laws.{HasLine, IsInRange, IsWellFormed};
+ghost use Rattle.opa_batch.specs.Rows as meant;
+
+use crate::head::{Head, Sort};
+use opa_case::ChangeCommand;
+use opa_io::NoMemory;
+use opa_model::Model;
+use opa_script::{CmdFault, Command, commands_are_in_range, read_command};
+use std::alloc::Global;
+
+fn word_of(sort: Sort) -> &'static str
+    ensures { result.now ≡ meant.word_of sort }
+{
+    match sort {
+        Sort::Answer => "answer ",
+        Sort::Names => "list ",
+    }
+}
+
+/// The line that a cell under a head stands for.
+pub(crate) fn line_of(alloc: Global, head: &Head, cell: &[u8]) -> Result<Vec<u8>, NoMemory>
+    ensures { IfOk result (λ l. l.items ≡ meant.line_of head.now cell.now) }
+{
+    let mut line = word_of(head.sort).as_bytes().to_vec(alloc)?;
+    line.extend_from_slice(head.text.as_slice())?;
+    line.extend_from_slice(b" = ")?;
+    line.extend_from_slice(cell)?;
+    Ok(line)
+}
+
+/// What a change answers is a line.
+fn has_line(change: &ChangeCommand)
+    ensures { HasLine change.now }
+{
+    match change {
+        ChangeCommand::Answer(_, _, line) => {
+            let _pairs = line.segments();
+        }
+        ChangeCommand::Withdraw(_, _)
+        | ChangeCommand::SetList(_, _, _)
+        | ChangeCommand::Forget(_, _) => {}
+    }
+}
+
+/// What a command answers is a line.
+fn is_well_formed(command: &Command)
+    ensures { IsWellFormed command.now }
+{
+    match command {
+        Command::Change(change) => has_line(change),
+        Command::Nothing
+        | Command::ShowAttr(_, _)
+        | Command::ShowMembers(_, _)
+        | Command::Save(_)
+        | Command::Load(_)
+        | Command::Goals
+        | Command::Next
+        | Command::Screen
+        | Command::Report(_, _, _)
+        | Command::Stats
+        | Command::Dismiss(_) => {}
+    }
+}
+
+/// The command that a line is.
+pub(crate) fn asked(alloc: Global, model: &Model, line: &[u8]) -> Result<Command, CmdFault>
+    ensures ok { IfOk result (IsCommand model.now line.now) }
+    ensures formed { IfOk result IsWellFormed }
+    ensures range { IfOk result (IsInRange model.now) }
+    ensures fault { IfErr result (IsNoCommand model.now line.now) }
+{
+    commands_are_in_range();
+    match read_command(alloc, model, line) {
+        Err(fault) => Err(fault),
+        Ok(command) => {
+            is_well_formed(&command);
+            Ok(command)
+        }
+    }
+}

@@ -1,0 +1,205 @@
+// The cells of a row.
+ghost use Rattle.std.specs.Prelude.{◌≡◌, ◌<◌, ◌++◌, ◌∷◌, [], true, length, Some, Ok, Err, IfOk};
+ghost use Rattle.std.specs.Fmt.{decimal};
+ghost use Rattle.csv.specs.Records.{fields_of, partial_of};
+ghost use Rattle.opa_case.specs.Shapes.{attribute_or};
+ghost use Rattle.opa_cells.specs.Instances.{global as global_one};
+ghost use Rattle.opa_date.specs.declared.TheConstants.{DAYS};
+ghost use Rattle.opa_line.specs.Lines.{StandsFor};
+ghost use Rattle.opa_mean.specs.Rulebases.{value_at};
+ghost use Rattle.opa_mean.specs.Slots.{has_place as has_place_at};
+ghost use Rattle.opa_model.specs.Lookups.{goal_at};
+ghost use Rattle.opa_model.specs.Models.{HasAttribute};
+ghost use Rattle.opa_text.specs.Texts.{HasDays};
+ghost use Rattle.opa_told.specs.Shown.{told_line as told_line_of};
+ghost use Rattle.opa_batch.specs.Rows as meant;
+ghost use Rattle.opa_batch.specs.Numbered.{IsGoalCell, left_by};
+
+use csv::ByteRecord;
+use opa_case::InstanceId;
+use opa_io::{NoMemory, Txt};
+use opa_kinds::values_have_kinds;
+use opa_line::Line;
+use opa_mean::{Held, line_is_one};
+use opa_model::{AttrId, Kind};
+use opa_text::line_text;
+use opa_tree::Rulebase;
+use opa_value::Value;
+use std::alloc::Global;
+
+/// The days that a line of an attribute has as values are of the calendar.
+fn has_days<H: Held>(held: &H, attr: AttrId, inst: &InstanceId, line: &Line<Value>)
+    requires { StandsFor DAYS (value_at (H.rules held.now) (H.held held.now) attr inst.now) line.now }
+    ensures { HasDays line.now }
+{
+    values_have_kinds();
+    // The case fits the rulebase.
+    let _case = held.case();
+}
+
+fn kind_of<H: Held>(held: &H, attr: AttrId) -> Kind
+    requires { HasAttribute (H.rules held.now).model attr }
+    ensures { result ≡ (attribute_or (H.rules held.now).model attr).kind }
+{
+    held.base().model.attribute(attr).kind
+}
+
+/// The text of a line that has the attribute's values.
+fn text_of_line<H: Held>(
+    alloc: Global,
+    held: &H,
+    attr: AttrId,
+    inst: &InstanceId,
+    line: &Line<Value>,
+) -> Result<Txt, NoMemory>
+    requires declared { HasAttribute (H.rules held.now).model attr }
+    requires stands { StandsFor DAYS (value_at (H.rules held.now) (H.held held.now) attr inst.now) line.now }
+    ensures { IfOk result (λ t. t ≡ told_line_of (H.rules held.now) (H.held held.now) attr inst.now) }
+{
+    line_is_one();
+    has_days(held, attr, inst, line);
+    let _form = line.segments();
+    let kind = kind_of(held, attr);
+    let text = line_text(alloc, kind, line)?;
+    Ok(text)
+}
+
+/// The text of the line of an attribute that the instance has. Where there is neither a rule nor an answer, it is unknown.
+fn told_line<H: Held>(
+    alloc: Global,
+    held: &H,
+    attr: AttrId,
+    inst: &InstanceId,
+) -> Result<Txt, NoMemory>
+    requires declared { HasAttribute (H.rules held.now).model attr }
+    requires place { has_place_at (H.rules held.now) (H.held held.now) attr inst.now ≡ true }
+    ensures { IfOk result (λ t. t ≡ told_line_of (H.rules held.now) (H.held held.now) attr inst.now) }
+{
+    // The case fits the rulebase.
+    let _case = held.case();
+    match held.line(attr, inst) {
+        None => {
+            let line = Line::constant(alloc, Value::Unknown)?;
+            let text = text_of_line(alloc, held, attr, inst, &line)?;
+            Ok(text)
+        }
+        Some(line) => {
+            let text = text_of_line(alloc, held, attr, inst, line)?;
+            Ok(text)
+        }
+    }
+}
+
+/// The goal with a number: the global instance has it.
+fn goal_of<H: Held>(held: &H, goal: u32) -> AttrId
+    requires { goal < length (H.rules held.now).model.goals }
+    ensures goal { goal_at (H.rules held.now).model goal ≡ Some result }
+    ensures declared { HasAttribute (H.rules held.now).model result }
+    ensures place { has_place_at (H.rules held.now) (H.held held.now) result global_one ≡ true }
+{
+    let model = &held.base().model;
+    let _count = model.goal_count();
+    let attr = model.goal(goal);
+    attr
+}
+
+/// The values of the goal with a number over all days.
+fn goal_cell<H: Held>(
+    alloc: Global,
+    held: &H,
+    goal: u32,
+    inst: &InstanceId,
+) -> Result<Txt, NoMemory>
+    requires goal { goal < length (H.rules held.now).model.goals }
+    requires global { inst.now ≡ global_one }
+    ensures { IfOk result (IsGoalCell (meant.goal_cell (H.rules held.now) (H.held held.now)) (H.rules held.now).model.goals goal) }
+{
+    let attr = goal_of(held, goal);
+    let text = told_line(alloc, held, attr, inst)?;
+    Ok(text)
+}
+
+/// A further cell behind those of a row.
+pub(crate) fn add_cell(row: &mut ByteRecord, cell: &[u8]) -> Result<(), NoMemory>
+    requires { partial_of row.old ≡ [] }
+    ensures cells { IfOk result (λ _. fields_of row.new ≡ fields_of row.old ++ cell.now ∷ []) }
+    ensures whole { IfOk result (λ _. partial_of row.new ≡ []) }
+{
+    row.push_field(cell)?;
+    Ok(())
+}
+
+/// A row with one cell.
+pub(crate) fn row_with(alloc: Global, cell: &[u8]) -> Result<ByteRecord, NoMemory>
+    ensures cells { IfOk result (λ row. fields_of row ≡ cell.now ∷ []) }
+    ensures whole { IfOk result (λ row. partial_of row ≡ []) }
+{
+    let mut row = ByteRecord::new(alloc);
+    add_cell(&mut row, cell)?;
+    Ok(row)
+}
+
+/// A row that begins with a number.
+fn numbered(alloc: Global, number: usize) -> Result<ByteRecord, NoMemory>
+    ensures cells { IfOk result (λ row. fields_of row ≡ decimal number ∷ []) }
+    ensures whole { IfOk result (λ row. partial_of row ≡ []) }
+{
+    let text = format!(in alloc; "{number}")?;
+    let row = row_with(alloc, text.as_bytes())?;
+    Ok(row)
+}
+
+/// The row of a record whose case is held.
+fn goals_row<H: Held>(alloc: Global, held: &H, number: usize) -> Result<ByteRecord, NoMemory>
+    ensures { IfOk result (λ row. fields_of row ≡ meant.row_of (H.rules held.now) number (Ok (H.held held.now))) }
+{
+    let inst = InstanceId::global(alloc)?;
+    let mut row = numbered(alloc, number)?;
+    let count = held.base().model.goal_count();
+    for goal in 0..count {
+        let cell = goal_cell(alloc, held, goal, &inst)?;
+        add_cell(&mut row, cell.as_str().as_bytes())?;
+    }
+    add_cell(&mut row, b"")?;
+    Ok(row)
+}
+
+/// The row of a record with a fault.
+fn fault_row(
+    alloc: Global,
+    base: &Rulebase,
+    number: usize,
+    fault: &Txt,
+) -> Result<ByteRecord, NoMemory>
+    ensures { IfOk result (λ row. fields_of row ≡ meant.row_of base.now number (Err fault.now)) }
+{
+    let mut row = numbered(alloc, number)?;
+    let count = base.model.goal_count();
+    for goal in 0..count {
+        let _goal = goal;
+        add_cell(&mut row, b"")?;
+    }
+    add_cell(&mut row, fault.as_str().as_bytes())?;
+    Ok(row)
+}
+
+/// The row of a record: of the case that is held, or of its fault.
+pub(crate) fn row_of<H: Held>(
+    alloc: Global,
+    held: &H,
+    number: usize,
+    fault: &Option<Txt>,
+) -> Result<ByteRecord, NoMemory>
+    ensures { IfOk result (λ row. fields_of row ≡ meant.row_of (H.rules held.now) number (left_by fault.now (H.held held.now))) }
+{
+    match fault {
+        None => {
+            let row = goals_row(alloc, held, number)?;
+            Ok(row)
+        }
+        Some(fault) => {
+            let row = fault_row(alloc, held.base(), number, fault)?;
+            Ok(row)
+        }
+    }
+}

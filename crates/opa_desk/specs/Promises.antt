@@ -1,0 +1,30 @@
+-- What the desk promises, whatever words, rulebase, input and outside it is given.
+use Rattle.std.specs.Prelude.{String, map, ℕ, ◌≡◌, List, None, Some}
+use Rattle.std.specs.String.{string_bytes}
+use Rattle.std.specs.declared.alloc.Global.{Global}
+use Rattle.opa_io.specs.declared.fault.Status.{Status}
+use Rattle.opa_io.specs.declared.fault.Status.TheVariants as status
+use Rattle.opa_outside.specs.Outside.{Outside, IsUnused}
+use Rattle.opa_outside.specs.Telling.{IsTold}
+use Rattle.opa_batch.specs.Promises.{Promises as PromisesOfBatch}
+use Rattle.opa_desk.specs.declared.reading.Mode.{Mode}
+use Rattle.opa_desk.specs.declared.reading.Mode.TheVariants as mode
+use Rattle.opa_desk.specs.Asked.{asked_of, usage}
+
+abbrev pub words_of : List (String Global) → List (List ℕ)
+words_of words = map (λ w. string_bytes w) words
+
+-- the words of the command line ask for the mode over the name
+abbrev pub Asks : List (String Global) → Mode → List ℕ → Type 0
+Asks words m name = asked_of (words_of words) ≡ Some (m, name)
+
+-- the usage line was written, and nothing was read or kept
+pub record SaysUsage (old new : Outside) (result : Status) : Type 0 where
+  pub told : IsTold status.Usage usage old.written new.written old.writes new.writes result
+  pub unused : IsUnused old new
+
+pub record Promises (words : List (String Global)) (old new : Outside) (result : Status) : Type 0 where
+  -- Where the words are of no mode, the usage line is written.
+  pub usage : asked_of (words_of words) ≡ None → SaysUsage old new result
+  -- The mode `batch` is a batch over the name.
+  pub batch : (name : List ℕ) → Asks words mode.Batch name → PromisesOfBatch name old new result

@@ -1,0 +1,32 @@
+// What the words of the command line say is done.
+ghost use Rattle.opa_outside.specs.Outside.{outside};
+ghost use Rattle.opa_desk.specs.Promises.{Promises};
+
+use crate::reading::{Mode, read_words};
+use opa_batch::batch;
+use opa_io::{Shelf, Sink, Source, Status, Steps};
+use opa_outside::tell;
+use std::alloc::Global;
+use std::sync::ledger::Ledger;
+
+/// Does what the words of the command line say, and answers how it ended.
+pub fn desk<S: Source, F: Shelf, K: Sink, L: Ledger>(
+    alloc: Global,
+    words: &[String],
+    shelf: &mut F,
+    input: &mut S,
+    out: &mut K,
+    steps: &mut Steps<L>,
+) -> Status
+    // Usage, and what each mode promises: specs/Promises, field by field.
+    ensures promises { Promises words.now
+        (outside F.files F.take_faults F.keep_faults S.left S.faults K.written K.faults shelf.old input.old out.old)
+        (outside F.files F.take_faults F.keep_faults S.left S.faults K.written K.faults shelf.new input.new out.new) result }
+{
+    match read_words(words) {
+        None => tell(Status::Usage, out, b"usage: desk MODE NAME\n"),
+        Some(asked) => match asked.mode {
+            Mode::Batch => batch(alloc, asked.name, shelf, input, out, steps),
+        },
+    }
+}
