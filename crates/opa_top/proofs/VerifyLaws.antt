@@ -4,11 +4,11 @@ use Rattle.opa_io.specs.Outside.{Files, IsFile, IsMissing, IsTooLong, Rose}
 use Rattle.opa_io.specs.declared.fault.Status.{Status}
 use Rattle.opa_io.specs.declared.fault.Status.TheVariants as status
 use Rattle.opa_io.proofs.Appended.{Appends-none}
-use Rattle.opa_proof.specs.Telling.{Tells, refused_report}
+use Rattle.opa_proof.specs.Telling.{Tells}
 use Rattle.opa_proof.specs.declared.verdict.Verdict.{Verdict}
 use Rattle.opa_tree.specs.declared.rulebase.Rulebase.{Rulebase}
 use Rattle.opa_top.specs.Checking.{IsTold}
-use Rattle.opa_top.specs.Verifying.{IsNoFile, JudgesFile, REPORT_MOST, Verifies, status_of}
+use Rattle.opa_top.specs.Verifying.{IsNoFile, JudgesFile, REPORT_MOST, Verifies, no_report, status_of}
 
 no_file : (told : Option Files) (name : List ℕ) (before now : ℕ) → IsMissing told name before now → IsNoFile told name
 no_file None name before now h = tt
@@ -20,10 +20,10 @@ module _ (r : Rulebase) (files : Option Files) (name : List ℕ) (w w' : Option 
   file_judged bytes read said text v s result is few same tells ends says told =
       JudgesFile.judges bytes said v is few (subst (λ b. Tells r b v said) same tells) (subst (λ t. IsTold (status_of v) t w w' writes writes' result) says (subst (λ x. IsTold x text w w' writes writes' result) ends told))
 
-  pub file_missing : (result : Status) → IsMissing files name takes takes' → IsTold status.Refused (refused_report 1 0) w w' writes writes' result → JudgesFile r files name w w' takes takes' writes writes' result
+  pub file_missing : (result : Status) → IsMissing files name takes takes' → IsTold status.Refused no_report w w' writes writes' result → JudgesFile r files name w w' takes takes' writes writes' result
   file_missing result missing told = JudgesFile.missing (inl (no_file files name takes takes' missing)) told
 
-  pub file_too_long : (result : Status) → IsTooLong files name REPORT_MOST → IsTold status.Refused (refused_report 1 0) w w' writes writes' result → JudgesFile r files name w w' takes takes' writes writes' result
+  pub file_too_long : (result : Status) → IsTooLong files name REPORT_MOST → IsTold status.Refused no_report w w' writes writes' result → JudgesFile r files name w w' takes takes' writes writes' result
   file_too_long result long told = JudgesFile.missing (inr long) told
 
 module _ (r : Rulebase) (files : Option Files) (name : List ℕ) (w : Option (List ℕ)) (takes takes' writes : ℕ) where

@@ -1,15 +1,19 @@
 -- The mode `verify`: whether a printed report holds up its value.
-use Rattle.std.specs.Prelude.{ℕ, ◌≡◌, ◌≤◌, ◌⊎◌, List, [], length, Option, None, Some, Ok, Err}
+use Rattle.std.specs.Prelude.{ℕ, ◌≡◌, ◌≤◌, ◌⊎◌, List, [], ◌∷◌, ◌++◌, codes, length, Option, None, Some, Ok, Err}
 use Rattle.std.specs.FinMap as map
 use Rattle.std.specs.Io.KnownBytes.{Appends}
 use Rattle.opa_io.specs.Outside.{Files, IsFile, IsTooLong, Rose}
 use Rattle.opa_io.specs.declared.fault.Status.{Status}
 use Rattle.opa_io.specs.declared.fault.Status.TheVariants as status
-use Rattle.opa_proof.specs.Telling.{Tells, refused_report}
+use Rattle.opa_proof.specs.Telling.{Tells}
 use Rattle.opa_proof.specs.declared.verdict.Verdict.{Verdict}
 use Rattle.opa_proof.specs.declared.verdict.Verdict.TheVariants as verdict
 use Rattle.opa_tree.specs.declared.rulebase.Rulebase.{Rulebase}
 use Rattle.opa_top.specs.Checking.{IsOpened, IsTold}
+
+-- what is told where there is no report to judge: its form breaks at line 0
+abbrev pub no_report : List ℕ
+no_report = codes "refused: report 1 0" ++ 10 ∷ []
 
 -- how many bytes a report may have
 abbrev pub REPORT_MOST : ℕ
@@ -31,7 +35,7 @@ status_of (verdict.NotDerived k) = status.Refused
 pub data JudgesFile (r : Rulebase) (files : Option Files) (name : List ℕ) (written written' : Option (List ℕ)) (takes takes' writes writes' : ℕ) : Status → Type 0 where
   judges : {result : Status} (bytes said : List ℕ) (v : Verdict) → IsFile files name bytes → length bytes ≤ REPORT_MOST → Tells r bytes v said → IsTold (status_of v) said written written' writes writes' result
       → JudgesFile r files name written written' takes takes' writes writes' result
-  missing : {result : Status} → IsNoFile files name ⊎ IsTooLong files name REPORT_MOST → IsTold status.Refused (refused_report 1 0) written written' writes writes' result
+  missing : {result : Status} → IsNoFile files name ⊎ IsTooLong files name REPORT_MOST → IsTold status.Refused no_report written written' writes writes' result
       → JudgesFile r files name written written' takes takes' writes writes' result
   cannot_take : Rose takes takes' → Appends written written' [] → JudgesFile r files name written written' takes takes' writes writes' status.ReadFault
   cannot_hold : Appends written written' [] → JudgesFile r files name written written' takes takes' writes writes' status.NoMemory

@@ -34,7 +34,7 @@ fn verify_named<F: Shelf, K: Sink>(
     shelf: &mut F,
     out: &mut K,
 ) -> Status
-    ensures verifies { (text : List ℕ) → option_map (λ r. r.now) report ≡ Some text → Verifies (F.files shelf.old) name.now text (K.written out.old) (K.written out.new) (F.take_faults shelf.old) (F.take_faults shelf.new) (K.faults out.old) (K.faults out.new) result }
+    ensures verifies { (text : List ℕ) → option_map (λ r. r.now) report.entry ≡ Some text → Verifies (F.files shelf.old) name.now text (K.written out.old) (K.written out.new) (F.take_faults shelf.old) (F.take_faults shelf.new) (K.faults out.old) (K.faults out.new) result }
     ensures files { F.files shelf.new ≡ F.files shelf.old }
 {
     match report {
