@@ -21,7 +21,7 @@ use std::test::Fail;
 use tests_samples::texts;
 
 /// Whether the attribute has a rule, and the instance is live and of its entity.
-pub(crate) fn is_slot(session: &Session, attr: AttrId, inst: &InstanceId) -> bool
+fn is_slot(session: &Session, attr: AttrId, inst: &InstanceId) -> bool
     ensures { result ≡ is_slot (rules_of session.now) (held_of session.now) attr inst.now }
 {
     session.has_place(attr, inst) && session.base().rules.of(attr).is_some()

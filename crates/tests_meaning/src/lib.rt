@@ -2,8 +2,6 @@
 #![tactic(auto)]
 
 #[cfg(test)]
-mod before;
-#[cfg(test)]
 mod carried;
 #[cfg(test)]
 mod changed;
@@ -21,7 +19,3 @@ mod points;
 mod printed;
 #[cfg(test)]
 mod told;
-#[cfg(test)]
-mod walked;
-#[cfg(test)]
-mod wandering;

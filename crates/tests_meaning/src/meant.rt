@@ -38,7 +38,7 @@ fn claimant(alloc: Global, adult: &str, veteran: &str) -> Result<Session, Fail> 
 }
 
 /// The value that is determined freshly, where the attribute has a place.
-pub(crate) fn fresh_value(
+fn fresh_value(
     alloc: Global,
     session: &Session,
     attr: AttrId,
