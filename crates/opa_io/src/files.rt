@@ -3,22 +3,26 @@ ghost use Rattle.std.specs.Prelude.{◌≡◌, ◌≤◌, length, IfOk, None};
 
 use crate::{Failed, Shelf, TakeFault};
 use std::alloc::Global;
-use std::fs;
+use std::fs::Permissions;
 use std::io::{ErrorKind, Read};
 use std::rt::Files;
+use std::{fs, io};
 
 /// How many bytes are read at once.
 const PIECE: usize = 8192;
 
+/// What stands behind a name in the name of the file that is written beside it.
+const BESIDE: &str = ".opa-saving";
+
 /// The files of the system. It stands for the place where the program runs.
 #[derive(Drop)]
-pub struct FileShelf<'a, R: Files> {
+pub struct FileShelf<'a, R: Files + AllocGlobal> {
     rt: &'a R,
     take_faults: u64,
     keep_faults: u64,
 }
 
-impl<'a, R: Files> FileShelf<'a, R> {
+impl<'a, R: Files + AllocGlobal> FileShelf<'a, R> {
     pub fn new(rt: &'a R) -> FileShelf<'a, R>
         ensures take_faults { ⟦<FileShelf<'a, R> as Shelf>⟧.take_faults result ≡ 0 }
         ensures keep_faults { ⟦<FileShelf<'a, R> as Shelf>⟧.keep_faults result ≡ 0 }
@@ -54,7 +58,55 @@ fn read_at_most(alloc: Global, file: &mut impl Read, most: u64) -> Result<Vec<u8
     Err(TakeFault::TooLong)
 }
 
-impl<'a, R: Files> Shelf for FileShelf<'a, R> {
+/// Writes a file that may be read and written by whom the file may whose place it is to take.
+fn write_beside<R: Files>(
+    rt: &R,
+    beside: &str,
+    bytes: &[u8],
+    permissions: Option<Permissions>,
+) -> io::Result<()> {
+    if let Some(permissions) = permissions {
+        fs::write(rt, beside, [].as_slice())?;
+        fs::set_permissions(rt, beside, permissions)?;
+    }
+    fs::write(rt, beside, bytes)
+}
+
+/// Sets a file to the bytes in one step: they are written beside the name, and that file then takes its place. A fault
+/// or a cut in the middle leaves the old file as it was.
+fn replace<R: Files + AllocGlobal>(
+    rt: &R,
+    name: &str,
+    bytes: &[u8],
+    permissions: Option<Permissions>,
+) -> io::Result<()> {
+    let mut beside = String::new(rt.alloc());
+    beside.push_str(name)?;
+    beside.push_str(BESIDE)?;
+    let replaced = write_beside(rt, beside.as_str(), bytes, permissions).and_then(|()| fs::rename(
+        rt,
+        beside.as_str(),
+        name,
+    ));
+    if replaced.is_err() {
+        let _left = fs::remove_file(rt, beside.as_str());
+    }
+    replaced
+}
+
+/// Sets a file to the bytes. What can't be replaced (a device, a pipe, a link to another name) is written in place.
+fn set<R: Files + AllocGlobal>(rt: &R, name: &str, bytes: &[u8]) -> io::Result<()> {
+    match fs::symlink_metadata(rt, name) {
+        Err(_) => replace(rt, name, bytes, None),
+        Ok(found) => if found.is_file() {
+            replace(rt, name, bytes, Some(found.permissions()))
+        } else {
+            fs::write(rt, name, bytes)
+        },
+    }
+}
+
+impl<'a, R: Files + AllocGlobal> Shelf for FileShelf<'a, R> {
     ghost files = { λ s. None };
 
     ghost take_faults = { λ s. s.take_faults };
@@ -79,7 +131,7 @@ impl<'a, R: Files> Shelf for FileShelf<'a, R> {
     }
 
     fn keep(&mut self, name: &str, bytes: &[u8]) -> Result<(), Failed> {
-        if fs::write(self.rt, name, bytes).is_err() {
+        if set(self.rt, name, bytes).is_err() {
             self.keep_faults = self.keep_faults.saturating_add(1);
             return Err(Failed);
         }

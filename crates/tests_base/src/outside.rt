@@ -30,7 +30,19 @@ fn a_writer_is_a_sink(rt: HostRuntime) -> Result<(), Fail> {
 fn files_are_a_shelf(rt: HostRuntime) -> Result<(), Fail> {
     let alloc = rt.alloc();
     let mut shelf = FileShelf::new(&rt);
+    assert_eq!(rt; shelf.keep("kept.txt", b"longer"), Ok(()));
     assert_eq!(rt; shelf.keep("kept.txt", b"abc"), Ok(()));
+    assert!(rt;
+        matches!(
+            shelf.take(alloc, "kept.txt.opa-saving", 3),
+            Err(TakeFault::Missing)
+        )
+    );
+    assert_eq!(rt; shelf.keep("/dev/null", b"abc"), Ok(()));
+    assert_eq!(rt;
+        shelf.keep("no such folder/kept.txt", b"abc").is_err(),
+        true
+    );
     let taken = shelf.take(alloc, "kept.txt", 3);
     assert_eq!(rt;
         taken.is_ok_and(|bytes| bytes.as_slice() == b"abc".as_slice()),
