@@ -83,8 +83,8 @@ module _ (r : Rulebase) (heads : List Head) (cells : List (List ℕ)) (first : C
       way_goes_on d None e is = record { leads = λ x k. under x (inr (d, is, k)) }
       way_goes_on d (Some text) e is = absurd (cc e)
 
-pub head_at : (heads : List Head) (place : ℕ) (h : Head) → place < length heads → h ≡ get_or heads place h → drop place heads ≡ h ∷ drop (place + 1) heads
-head_at heads place h lt is = drop-cons heads place h lt ∙ ap (λ x. x ∷ drop (suc place) heads) (sym is) ∙ ap (λ n. h ∷ drop n heads) (sym (add-one place))
+pub item_at : {A : Type 0} (items : List A) (place : ℕ) (x : A) → place < length items → x ≡ get_or items place x → drop place items ≡ x ∷ drop (place + 1) items
+item_at items place x lt is = drop-cons items place x lt ∙ ap (λ y. y ∷ drop (suc place) items) (sym is) ∙ ap (λ n. x ∷ drop n items) (sym (add-one place))
 
 -- ---- a record
 

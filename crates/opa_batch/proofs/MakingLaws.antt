@@ -1,5 +1,5 @@
 -- The rows of records, one after another, and what an input gives.
-use Rattle.std.proofs.Common.{◌≡◌, ◌<◌, ◌≤◌, ◌+◌, ℕ, suc, List, [], ◌∷◌, ◌++◌, length, map, drop, get_or, inl, inr, refl, sym, ap, ◌∙◌, subst, append_assoc, append-nil, add-one, drop-cons, arith}
+use Rattle.std.proofs.Common.{◌≡◌, ◌<◌, ◌≤◌, ◌+◌, ℕ, List, [], ◌∷◌, ◌++◌, length, map, drop, get_or, inl, inr, refl, sym, ap, ◌∙◌, subst, append_assoc, append-nil, arith}
 use Rattle.std.specs.Prelude.{Result, Ok, Err}
 use Rattle.std.proofs.lemmas.List.{drop_all}
 use Rattle.opa_io.specs.declared.fault.Status.{Status}
@@ -11,6 +11,7 @@ use Rattle.opa_batch.specs.Heads.{AreHeads, IsFirstRefusal}
 use Rattle.opa_batch.specs.Rows.{IsRecord, IsRow, row_of}
 use Rattle.opa_batch.specs.Batches.{AreRows, GivesOf, heading, written_row}
 use Rattle.opa_batch.specs.Numbered.{AreAdded, HasRows, WritesRow}
+use Rattle.opa_batch.proofs.CellLaws.{item_at}
 
 -- the row of a record, as it is written
 pub row_written : (r r1 r2 : Rulebase) (heads : List Head) (n : ℕ) (fields cells : List (List ℕ)) (x : Result CaseView (List ℕ)) (text : List ℕ) → r1 ≡ r → r2 ≡ r1
@@ -24,7 +25,7 @@ module _ (r : Rulebase) (heads : List Head) (records : List (List (List ℕ))) (
 
   module _ (place : ℕ) (fields : List (List ℕ)) (text new row : List ℕ) where
     there : place < length records → fields ≡ get_or records place fields → drop place records ≡ fields ∷ drop (place + 1) records
-    there lt is = drop-cons records place fields lt ∙ ap (λ x. x ∷ drop (suc place) records) (sym is) ∙ ap (λ n. fields ∷ drop n records) (sym (add-one place))
+    there lt is = item_at records place fields lt is
 
     pub one_added : place < length records → fields ≡ get_or records place fields → WritesRow r heads (place + 1) fields row → new ≡ text ++ row → AreAdded r heads records first place text → AreAdded r heads records first (place + 1) new
     one_added lt is written grown added = record {

@@ -4,5 +4,6 @@ pub mod Numbered
 pub mod Rows
 pub mod Batches
 pub mod Serving
+pub mod Counting
 pub mod Statuses
 pub mod Promises

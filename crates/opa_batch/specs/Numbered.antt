@@ -1,11 +1,12 @@
 -- On the way to rows: what one goal's cell is, what was found of a record, and where the reading of its cells stands.
-use Rattle.std.specs.Prelude.{◌≡◌, ◌+◌, ◌++◌, ◌∷◌, ℕ, List, map, drop, slice_get, Option, None, Some, Result, Ok, Err}
+use Rattle.std.specs.Prelude.{◌≡◌, ◌≤◌, ◌+◌, ◌++◌, ◌∷◌, ℕ, List, map, drop, slice_get, Option, None, Some, Result, Ok, Err}
 use Rattle.opa_model.specs.declared.ids.AttrId.{AttrId}
 use Rattle.opa_case.specs.Cases.{CaseView}
 use Rattle.opa_tree.specs.declared.rulebase.Rulebase.{Rulebase}
 use Rattle.opa_batch.specs.declared.head.Head.{Head}
 use Rattle.opa_batch.specs.Rows.{AreCells, IsRow}
 use Rattle.opa_batch.specs.Batches.{AreRows, written_row}
+use Rattle.opa_batch.specs.Counting.{CellsReach, RecordsReach, due}
 
 -- the cell of the goal with the number
 abbrev pub IsGoalCell : (AttrId → List ℕ) → List AttrId → ℕ → List ℕ → Type 0
@@ -39,3 +40,15 @@ pub record HasRows (r : Rulebase) (heads : List Head) (records : List (List (Lis
 -- With the rows of the records from a place on, this text is the first one and the rows of all records.
 pub record AreAdded (r : Rulebase) (heads : List Head) (records : List (List (List ℕ))) (first : List ℕ) (place : ℕ) (text : List ℕ) : Type 0 where
   pub adds : (more : List ℕ) → AreRows r heads (place + 1) (drop place records) more → HasRows r heads records first (text ++ more)
+
+-- So many lines the cells before a place reached, and no more steps were counted; what is reached from there on comes to it.
+pub record CountsCells (r : Rulebase) (heads : List Head) (cells : List (List ℕ)) (first : CaseView) (place : ℕ) (c : CaseView) (before now : ℕ) : Type 0 where
+  pub counted : ℕ
+  pub few : now ≤ before + counted
+  pub leads : (rest : ℕ) → CellsReach r (place + 1) c (drop place heads) (drop place cells) rest → CellsReach r 1 first heads cells (counted + rest)
+
+-- The same of the records before a place.
+pub record CountsRecords (r : Rulebase) (heads : List Head) (records : List (List (List ℕ))) (place before now : ℕ) : Type 0 where
+  pub counted : ℕ
+  pub few : now + due r place ≤ before + counted
+  pub leads : (rest : ℕ) → RecordsReach r heads (drop place records) rest → RecordsReach r heads records (counted + rest)

@@ -1,5 +1,6 @@
 // Many cases.
 ghost use Rattle.opa_outside.specs.Outside.{outside};
+ghost use Rattle.opa_batch.specs.Counting.{Counts};
 ghost use Rattle.opa_batch.specs.Promises.{Promises};
 
 use crate::serving::serve;
@@ -20,6 +21,10 @@ pub fn batch<S: Source, F: Shelf, K: Sink, L: Ledger>(
     ensures promises { Promises rulebase.now
         (outside F.files F.take_faults F.keep_faults S.left S.faults K.written K.faults shelf.old input.old out.old)
         (outside F.files F.take_faults F.keep_faults S.left S.faults K.written K.faults shelf.new input.new out.new) result }
+    // No more steps than the records reach, with every status.
+    ensures counts { Counts rulebase.now
+        (outside F.files F.take_faults F.keep_faults S.left S.faults K.written K.faults shelf.old input.old out.old)
+        (outside F.files F.take_faults F.keep_faults S.left S.faults K.written K.faults shelf.new input.new out.new) steps.old steps.new }
 {
     serve(alloc, rulebase, shelf, input, out, steps)
 }

@@ -4,6 +4,7 @@ ghost use Rattle.opa_case.specs.Laws.{IsDeclared};
 ghost use Rattle.opa_case.specs.Shapes.{shape_of};
 ghost use Rattle.opa_infer.specs.Sessions.{rules_of, held_of};
 ghost use Rattle.opa_script.specs.Laws.{IsInRange};
+ghost use Rattle.opa_batch.specs.Counting.{CountsAtMost, ChangeReaches, LineReaches, CellReaches};
 ghost use Rattle.opa_batch.specs.Numbered.{left_by};
 ghost use Rattle.opa_batch.specs.Rows.{change_in as change_of, stepped, in_column, IsCarriedOut, IsCell};
 
@@ -30,6 +31,7 @@ fn take_change<L: Ledger>(
     requires declared { IsDeclared (shape_of (rules_of session.old).model) change }
     ensures ok { IfOk result (λ fault. left_by fault (held_of session.new) ≡ in_column column (stepped (rules_of session.old) (held_of session.old) (Some change))) }
     ensures base { rules_of session.new ≡ rules_of session.old }
+    ensures counts { CountsAtMost (ChangeReaches (rules_of session.old) (held_of session.old) (Some change)) steps.old steps.new }
 {
     let mut nobody: Vec<Box<dyn Listener>> = Vec::new(alloc);
     match session.apply(alloc, change, &mut nobody, steps) {
@@ -73,6 +75,7 @@ fn take_command<L: Ledger>(
     requires command { IsInRange (rules_of session.old).model command }
     ensures ok { IfOk result (λ fault. left_by fault (held_of session.new) ≡ in_column column (stepped (rules_of session.old) (held_of session.old) (change_of command))) }
     ensures base { rules_of session.new ≡ rules_of session.old }
+    ensures counts { CountsAtMost (ChangeReaches (rules_of session.old) (held_of session.old) (change_of command)) steps.old steps.new }
 {
     match change_in(command) {
         None => Ok(None),
@@ -93,6 +96,7 @@ fn take_line<L: Ledger>(
 ) -> Result<Option<Txt>, NoMemory>
     ensures ok { IfOk result (λ fault. IsCarriedOut (rules_of session.old) column (held_of session.old) line.now (left_by fault (held_of session.new))) }
     ensures base { rules_of session.new ≡ rules_of session.old }
+    ensures counts { CountsAtMost (LineReaches (rules_of session.old) (held_of session.old) line.now) steps.old steps.new }
 {
     match asked(alloc, &session.base().model, line) {
         Ok(command) => {
@@ -117,6 +121,7 @@ pub(crate) fn take_cell<L: Ledger>(
 ) -> Result<Option<Txt>, NoMemory>
     ensures ok { IfOk result (λ fault. IsCell (rules_of session.old) column (held_of session.old) head.now cell.now (left_by fault (held_of session.new))) }
     ensures base { rules_of session.new ≡ rules_of session.old }
+    ensures counts { CountsAtMost (CellReaches (rules_of session.old) (held_of session.old) head.now cell.now) steps.old steps.new }
 {
     if cell.is_empty() {
         return Ok(None);

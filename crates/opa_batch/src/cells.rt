@@ -3,6 +3,7 @@ ghost use Rattle.std.specs.Prelude.{◌≡◌, length, IfOk};
 ghost use Rattle.csv.specs.Records.{fields_of};
 ghost use Rattle.opa_case.specs.Cases.{no_case};
 ghost use Rattle.opa_infer.specs.Sessions.{rules_of, held_of};
+ghost use Rattle.opa_batch.specs.Counting.{CountsAtMost, CellsReach, RecordReaches};
 ghost use Rattle.opa_batch.specs.Numbered.{left_by};
 ghost use Rattle.opa_batch.specs.Rows.{AreCells, IsRecord};
 
@@ -25,6 +26,7 @@ fn take_cells<L: Ledger>(
 ) -> Result<Option<Txt>, NoMemory>
     ensures ok { IfOk result (λ fault. AreCells (rules_of session.old) 1 (held_of session.old) heads.now (fields_of row.now) (left_by fault (held_of session.new))) }
     ensures base { rules_of session.new ≡ rules_of session.old }
+    ensures counts { CountsAtMost (CellsReach (rules_of session.old) 1 (held_of session.old) heads.now (fields_of row.now)) steps.old steps.new }
 {
     for place in 0..heads.len() {
         let Some(cell) = row.get(place) else {
@@ -49,6 +51,7 @@ pub(crate) fn take_record<L: Ledger>(
     requires empty { held_of session.old ≡ no_case }
     ensures ok { IfOk result (λ fault. IsRecord (rules_of session.old) heads.now (fields_of row.now) (left_by fault (held_of session.new))) }
     ensures base { rules_of session.new ≡ rules_of session.old }
+    ensures counts { CountsAtMost (RecordReaches (rules_of session.old) heads.now (fields_of row.now)) steps.old steps.new }
 {
     if row.len() != heads.len() {
         let text = length_fault(alloc)?;

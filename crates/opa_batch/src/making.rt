@@ -1,12 +1,14 @@
 // What an input gives over a rulebase is made.
-ghost use Rattle.std.specs.Prelude.{◌≡◌, ◌+◌, ◌<◌, ◌∷◌, ◌^◌, map, IfOk};
+ghost use Rattle.std.specs.Prelude.{◌≡◌, ◌+◌, ◌<◌, ◌≤◌, ◌∷◌, ◌^◌, length, map, IfOk};
 ghost use Rattle.csv.specs.Records.{fields_of};
 ghost use Rattle.opa_case.specs.Cases.{no_case};
 ghost use Rattle.opa_case.specs.Fits.{Fits};
 ghost use Rattle.opa_case.specs.Shapes.{shape_of};
 ghost use Rattle.opa_infer.specs.Sessions.{rules_of, held_of};
 ghost use Rattle.opa_io.specs.declared.fault.Status.TheVariants as statuses;
+ghost use Rattle.opa_table.specs.Records.{table_records};
 ghost use Rattle.opa_batch.specs.Batches.{Gives, GivesOf, no_heading, written_row as written_row_of, heading as heading_of};
+ghost use Rattle.opa_batch.specs.Counting.{CountsAtMost, RecordReaches, RecordsReach, MayCount, due};
 ghost use Rattle.opa_batch.specs.Numbered.{HasRows, WritesRow};
 
 use crate::cells::take_record;
@@ -54,6 +56,7 @@ fn forget_case<L: Ledger>(
     requires first { place ≡ 0 → held_of session.old ≡ no_case }
     ensures empty { IfOk result (λ _. held_of session.new ≡ no_case) }
     ensures base { rules_of session.new ≡ rules_of session.old }
+    ensures counts { steps.new ≤ steps.old + due (rules_of session.old) place }
 {
     if place == 0 {
         return Ok(());
@@ -77,6 +80,7 @@ fn record_row<L: Ledger>(
     requires few { place + 1 < 2 ^ 64 }
     ensures ok { IfOk result (λ t. WritesRow (rules_of session.old) heads.now (place + 1) (fields_of row.now) t.items) }
     ensures base { rules_of session.new ≡ rules_of session.old }
+    ensures counts { CountsAtMost (RecordReaches (rules_of session.old) heads.now (fields_of row.now)) (steps.old + due (rules_of session.old) place) steps.new }
 {
     forget_case(alloc, session, place, steps)?;
     let fault = take_record(alloc, session, heads, row, steps)?;
@@ -95,7 +99,8 @@ fn add_rows<L: Ledger>(
     steps: &mut Steps<L>,
 ) -> Result<(), NoMemory>
     requires first { held_of session.old ≡ no_case }
-    ensures { IfOk result (λ _. HasRows (rules_of session.old) heads.now (map fields_of records.now) text.old.items text.new.items) }
+    ensures rows { IfOk result (λ _. HasRows (rules_of session.old) heads.now (map fields_of records.now) text.old.items text.new.items) }
+    ensures counts { CountsAtMost (RecordsReach (rules_of session.old) heads.now (map fields_of records.now)) steps.old (steps.new + due (rules_of session.old) (length records.now)) }
 {
     for place in 0..records.len() {
         let row = record_row(alloc, session, heads, place, &records[place], steps)?;
@@ -116,7 +121,9 @@ fn determined<L: Ledger>(
     text: &mut Vec<u8>,
     steps: &mut Steps<L>,
 ) -> Result<(), NoMemory>
-    ensures { IfOk result (λ _. HasRows base heads.now (map fields_of records.now) text.old.items text.new.items) }
+    requires some { 0 < length records.now }
+    ensures rows { IfOk result (λ _. HasRows base heads.now (map fields_of records.now) text.old.items text.new.items) }
+    ensures counts { CountsAtMost (RecordsReach base heads.now (map fields_of records.now)) steps.old steps.new }
 {
     let mut session = Session::start(alloc, base, steps)?;
     let added = add_rows(alloc, &mut session, heads, records, text, steps);
@@ -133,7 +140,8 @@ fn with_rows<L: Ledger>(
     text: Vec<u8>,
     steps: &mut Steps<L>,
 ) -> Result<Vec<u8>, NoMemory>
-    ensures { IfOk result (λ t. HasRows base heads.now (map fields_of records.now) text.items t.items) }
+    ensures rows { IfOk result (λ t. HasRows base heads.now (map fields_of records.now) text.items t.items) }
+    ensures counts { CountsAtMost (RecordsReach base heads.now (map fields_of records.now)) steps.old steps.new }
 {
     let mut whole = text;
     if records.is_empty() {
@@ -151,7 +159,8 @@ fn decided<L: Ledger>(
     records: &[ByteRecord],
     steps: &mut Steps<L>,
 ) -> Result<Vec<u8>, NoMemory>
-    ensures { IfOk result (λ t. HasRows base heads.now (map fields_of records.now) (written_row_of (heading_of base)) t.items) }
+    ensures rows { IfOk result (λ t. HasRows base heads.now (map fields_of records.now) (written_row_of (heading_of base)) t.items) }
+    ensures counts { CountsAtMost (RecordsReach base heads.now (map fields_of records.now)) steps.old steps.new }
 {
     let row = heading(alloc, &base)?;
     let text = written_row(alloc, &row)?;
@@ -167,7 +176,8 @@ fn headed<L: Ledger>(
     records: &[ByteRecord],
     steps: &mut Steps<L>,
 ) -> Result<Made, NoMemory>
-    ensures { IfOk result (λ m. GivesOf base (fields_of first.now ∷ map fields_of records.now) m.good m.text.items) }
+    ensures gives { IfOk result (λ m. GivesOf base (fields_of first.now ∷ map fields_of records.now) m.good m.text.items) }
+    ensures counts { MayCount base (fields_of first.now ∷ map fields_of records.now) steps.old steps.new }
 {
     let columns = heads_of(alloc, &base.model, first)?;
     match columns {
@@ -207,7 +217,8 @@ fn given<L: Ledger>(
     records: &[ByteRecord],
     steps: &mut Steps<L>,
 ) -> Result<Made, NoMemory>
-    ensures { IfOk result (λ m. GivesOf base (map fields_of records.now) m.good m.text.items) }
+    ensures gives { IfOk result (λ m. GivesOf base (map fields_of records.now) m.good m.text.items) }
+    ensures counts { MayCount base (map fields_of records.now) steps.old steps.new }
 {
     match records {
         [] => {
@@ -228,7 +239,8 @@ pub(crate) fn make<L: Ledger>(
     bytes: &[u8],
     steps: &mut Steps<L>,
 ) -> Result<Made, NoMemory>
-    ensures { IfOk result (λ m. Gives base bytes.now m.good m.text.items) }
+    ensures gives { IfOk result (λ m. Gives base bytes.now m.good m.text.items) }
+    ensures counts { MayCount base (table_records bytes.now) steps.old steps.new }
 {
     let records = records_of(alloc, bytes)?;
     let made = given(alloc, base, records.as_slice(), steps)?;

@@ -2,6 +2,7 @@
 ghost use Rattle.std.specs.Prelude.{◌≡◌};
 ghost use Rattle.opa_model.specs.Models.{IsModel};
 ghost use Rattle.opa_outside.specs.Outside.{outside};
+ghost use Rattle.opa_batch.specs.Counting.{Counts, CountsOver};
 ghost use Rattle.opa_batch.specs.Serving.{Decides, Serves};
 
 use crate::making::make;
@@ -28,9 +29,10 @@ fn decide<S: Source, F: Shelf, K: Sink, L: Ledger>(
     out: &mut K,
     steps: &mut Steps<L>,
 ) -> Status
-    ensures { Decides base
+    ensures decides { Decides base
         (outside F.files F.take_faults F.keep_faults S.left S.faults K.written K.faults shelf.now input.old out.old)
         (outside F.files F.take_faults F.keep_faults S.left S.faults K.written K.faults shelf.now input.new out.new) result }
+    ensures counts { CountsOver base (S.left input.old) (S.left input.new) steps.old steps.new }
 {
     match read_all(alloc, input) {
         Ok(bytes) => match make(alloc, base, bytes.as_slice(), steps) {
@@ -56,6 +58,9 @@ pub(crate) fn serve<S: Source, F: Shelf, K: Sink, L: Ledger>(
         (outside F.files F.take_faults F.keep_faults S.left S.faults K.written K.faults shelf.old input.old out.old)
         (outside F.files F.take_faults F.keep_faults S.left S.faults K.written K.faults shelf.new input.new out.new) result }
     ensures files { F.files shelf.new ≡ F.files shelf.old }
+    ensures counts { Counts name.now
+        (outside F.files F.take_faults F.keep_faults S.left S.faults K.written K.faults shelf.old input.old out.old)
+        (outside F.files F.take_faults F.keep_faults S.left S.faults K.written K.faults shelf.new input.new out.new) steps.old steps.new }
 {
     match load_rulebase(alloc, shelf, name) {
         Ok(base) => {

@@ -4,7 +4,7 @@ use Rattle.opa_tree.specs.declared.rulebase.Rulebase.{Rulebase}
 use Rattle.opa_infer.specs.Sessions.{rules_of, held_of}
 use Rattle.opa_batch.specs.Rows.{IsCell}
 use Rattle.opa_batch.specs.Numbered.{left_by}
-use Rattle.opa_batch.proofs.CellLaws.{missing, head_at, way_is_short, way_stops, way_goes_on}
+use Rattle.opa_batch.proofs.CellLaws.{missing, item_at, way_is_short, way_stops, way_goes_on}
 use Rattle.opa_batch.proofs.cells.take_cells.Goals as goal
 
 pub returns-in_default-clause-ok : goal.returns-in_default-clause-ok
@@ -21,7 +21,7 @@ returns-then-is_some-clause-ok g c =
     let lt : place < length c.args.heads.now = omega arith in
     let some : is_some c.in_ok-fault.fault ≡ true = sym c.is_some.ensures ∙ c.if-is_some.true in
     way_stops (rules_of c.args.session.now) c.args.heads.now cells (held_of c.args.session.now) place held c.loop-place.invariant.way c.index-heads-place.result c.in-Some.cell.now
-    (head_at c.args.heads.now place c.index-heads-place.result lt c.index-heads-place.is) c.in-Some.ensures.value (held_of c.take_cell.new.session) c.in_ok-fault.fault some
+    (item_at c.args.heads.now place c.index-heads-place.result lt c.index-heads-place.is) c.in-Some.ensures.value (held_of c.take_cell.new.session) c.in_ok-fault.fault some
     (subst (λ (r : Rulebase). IsCell r (place + 1) held c.index-heads-place.result c.in-Some.cell.now (left_by c.in_ok-fault.fault (held_of c.take_cell.new.session))) c.loop-place.invariant.base c.in_ok-fault.ensures.ok)
 
 pub loop-place-preserved : goal.loop-place-preserved
@@ -34,6 +34,6 @@ loop-place-preserved g c =
     record {
       base = c.in_ok-fault.ensures.base ∙ c.loop-place.invariant.base;
       way = way_goes_on (rules_of c.args.session.now) c.args.heads.now cells (held_of c.args.session.now) place held c.loop-place.invariant.way c.index-heads-place.result c.in-Some.cell.now
-          (head_at c.args.heads.now place c.index-heads-place.result lt c.index-heads-place.is) c.in-Some.ensures.value (held_of c.take_cell.new.session) c.in_ok-fault.fault none
+          (item_at c.args.heads.now place c.index-heads-place.result lt c.index-heads-place.is) c.in-Some.ensures.value (held_of c.take_cell.new.session) c.in_ok-fault.fault none
           (subst (λ (r : Rulebase). IsCell r (place + 1) held c.index-heads-place.result c.in-Some.cell.now (left_by c.in_ok-fault.fault (held_of c.take_cell.new.session))) c.loop-place.invariant.base c.in_ok-fault.ensures.ok);
     }

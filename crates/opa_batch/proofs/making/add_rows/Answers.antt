@@ -26,8 +26,8 @@ loop-place-preserved g c =
           (subst (λ (b : Rulebase). WritesRow b c.args.heads.now (place + 1) fields row) c.loop-place.invariant.base c.in_ok-row.ensures.ok) grown c.loop-place.invariant.rows;
     }
 
-pub returns : goal.returns
-returns g c =
+pub returns-clause-rows : goal.returns-clause-rows
+returns-clause-rows g c =
     let records = map fields_of c.args.records.now in
     let after : length c.args.records.now ≤ c.loop-place.place = c.loop-place-test.false in
     let le : length records ≤ c.loop-place.place = omega (arith, length-map c.args.records.now fields_of) in

@@ -9,7 +9,7 @@ pub returns-in-Ok-clause-serves : goal.returns-in-Ok-clause-serves
 returns-in-Ok-clause-serves g c =
     let old = c.args.shelf.now in let new = c.load_rulebase.new.shelf in
     Serves.decides c.in-Ok.base c.declares_a_model.ensures c.in-Ok.ensures.accepted c.in-Ok.ensures.files
-    (decides_beside c.in-Ok.base _ _ (g.F.Shelf.files old) (g.F.Shelf.files new) (g.F.Shelf.take_faults old) (g.F.Shelf.take_faults new) (g.F.Shelf.keep_faults old) (g.F.Shelf.keep_faults new) c.decide.result c.decide.ensures)
+    (decides_beside c.in-Ok.base _ _ (g.F.Shelf.files old) (g.F.Shelf.files new) (g.F.Shelf.take_faults old) (g.F.Shelf.take_faults new) (g.F.Shelf.keep_faults old) (g.F.Shelf.keep_faults new) c.decide.result c.decide.ensures.decides)
 
 pub returns-in-Refused-clause-serves : goal.returns-in-Refused-clause-serves
 returns-in-Refused-clause-serves g c =

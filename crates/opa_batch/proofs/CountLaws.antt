@@ -1,0 +1,171 @@
+-- How many lines of conclusions are counted, from a change to a whole input.
+use Rattle.std.proofs.Common.{◌≡◌, ◌≤◌, ◌<◌, ◌+◌, ◌==◌, ℕ, zero, suc, Bool, true, false, List, [], ◌∷◌, length, drop, get_or, is_some, not, filter, inl, inr, refl, sym, ap, ◌∙◌, subst, add-one, arith}
+use Rattle.std.specs.Prelude.{Option, None, Some, Result, Ok, Err}
+use Rattle.std.proofs.lemmas.List.{drop_all}
+use Rattle.std.proofs.lemmas.List.Filters.{length-filter_both}
+use Rattle.csv.specs.Records.{field_at}
+use Rattle.opa_case.specs.Cases.{CaseView, no_case}
+use Rattle.opa_case.specs.declared.change.ChangeCommand.{ChangeCommand}
+use Rattle.opa_case.specs.declared.change.Refusal.{Refusal}
+use Rattle.opa_infer.specs.Sessions.{reached, first_slots}
+use Rattle.opa_mean.specs.Changes.{is_dirty, slots}
+use Rattle.opa_mean.specs.Given.{base_of, facts_of}
+use Rattle.opa_script.specs.declared.command.Command.{Command}
+use Rattle.opa_script.specs.Commands.{IsCommand}
+use Rattle.opa_script.specs.Laws.{IsWellFormed}
+use Rattle.opa_model.specs.declared.lists.Lists.{Lists}
+use Rattle.opa_tree.specs.declared.rulebase.Rulebase.{Rulebase}
+use Rattle.opa_batch.specs.declared.head.Head.{Head}
+use Rattle.opa_batch.specs.Counting.{CountsAtMost, ChangeReaches, LineReaches, CellReaches, CellsReach, RecordReaches, RecordsReach, MayCount, due}
+use Rattle.opa_batch.specs.Numbered.{left_by, CountsCells, CountsRecords}
+use Rattle.opa_batch.specs.Rows.{change_in, stepped, line_of, IsCell}
+use Rattle.opa_batch.proofs.CellLaws.{item_at}
+use Rattle.opa_batch.proofs.HeadLaws.{here, past}
+
+filtered : {A : Type 0} (p : A → Bool) (xs : List A) → length (filter p xs) ≤ length xs
+filtered p xs = omega (arith, length-filter_both p (λ x. not (p x)) (λ x. refl) xs)
+
+-- nothing was counted
+pub nothing : (Reaches : ℕ → Type 0) → Reaches 0 → (before now : ℕ) → now ≡ before → CountsAtMost Reaches before now
+nothing Reaches none before now e = (0, none, omega (arith, e))
+
+-- ---- a change, and the line of a cell
+
+module _ (r : Rulebase) (c : CaseView) (before now : ℕ) where
+  of_step : (k : ChangeCommand) (x : Result CaseView Refusal) → stepped r c (Some k) ≡ x → ((d : CaseView) → stepped r c (Some k) ≡ Ok d → now ≤ before + reached r c d) → ((e : Refusal) → stepped r c (Some k) ≡ Err e → now ≡ before)
+      → CountsAtMost (ChangeReaches r c (Some k)) before now
+  of_step k (Ok d) is made refused = (reached r c d, inr (d, is, refl), made d is)
+  of_step k (Err e) is made refused = nothing (ChangeReaches r c (Some k)) (inl refl) before now (refused e is)
+
+  pub change_counts : (k : ChangeCommand) → ((d : CaseView) → stepped r c (Some k) ≡ Ok d → now ≤ before + reached r c d) → ((e : Refusal) → stepped r c (Some k) ≡ Err e → now ≡ before) → CountsAtMost (ChangeReaches r c (Some k)) before now
+  change_counts k made refused = of_step k (stepped r c (Some k)) refl made refused
+
+  pub line_counts : (m : Lists) (line : List ℕ) (k : Command) → m ≡ r.model → IsCommand m line k → IsWellFormed k → CountsAtMost (ChangeReaches r c (change_in k)) before now → CountsAtMost (LineReaches r c line) before now
+  line_counts m line k same is formed x = (x.0, inr (k, subst (λ l. IsCommand l line k) same is, formed, x.1), x.2)
+
+  pub full_cell_counts : (h : Head) (cell : List ℕ) (b : Bool) → b ≡ (length cell == 0) → b ≡ false → CountsAtMost (LineReaches r c (line_of h cell)) before now → CountsAtMost (CellReaches r c h cell) before now
+  full_cell_counts h [] b e f x = absurd (let q : true ≡ false = sym e ∙ f in cc q)
+  full_cell_counts h (b ∷ cell) t e f x = x
+
+-- no cell need be reached
+pub no_line : (r : Rulebase) (c : CaseView) (h : Head) (cell : List ℕ) → CellReaches r c h cell 0
+no_line r c h [] = refl
+no_line r c h (b ∷ cell) = inl refl
+
+-- ---- cells
+
+cells_end : (r : Rulebase) (n : ℕ) (c : CaseView) (heads : List Head) → CellsReach r n c heads [] 0
+cells_end r n c [] = refl
+cells_end r n c (h ∷ heads) = refl
+
+module _ (r : Rulebase) (heads : List Head) (cells : List (List ℕ)) (first : CaseView) (before : ℕ) where
+  pub cells_begin : CountsCells r heads cells first 0 first before before
+  cells_begin = record { counted = 0; few = omega arith; leads = λ rest h. h }
+
+  module _ (place : ℕ) (c : CaseView) (now : ℕ) (way : CountsCells r heads cells first place c before now) where
+    ended : CellsReach r (place + 1) c (drop place heads) (drop place cells) 0 → CountsAtMost (CellsReach r 1 first heads cells) before now
+    ended h = (way.counted + 0, way.leads 0 h, omega (arith, way.few))
+
+    pub cells_are_done : drop place heads ≡ [] → CountsAtMost (CellsReach r 1 first heads cells) before now
+    cells_are_done e = ended (subst (λ hs. CellsReach r (place + 1) c hs (drop place cells) 0) (sym e) refl)
+
+    pub cells_are_short : None ≡ field_at cells place → CountsAtMost (CellsReach r 1 first heads cells) before now
+    cells_are_short e = ended (subst (λ xs. CellsReach r (place + 1) c (drop place heads) xs 0) (sym (past cells place e)) (cells_end r (place + 1) c (drop place heads)))
+
+    module _ (h : Head) (cell : List ℕ) (of : drop place heads ≡ h ∷ drop (place + 1) heads) (at : Some cell ≡ field_at cells place) (now' : ℕ) (x : CountsAtMost (CellReaches r c h cell) now now') where
+      under : (n : ℕ) → CellsReach r (place + 1) c (h ∷ drop (place + 1) heads) (cell ∷ drop (place + 1) cells) n → CellsReach r 1 first heads cells (way.counted + n)
+      under n k =
+          way.leads n (subst (λ hs. CellsReach r (place + 1) c hs (drop place cells) n) (sym of) (subst (λ xs. CellsReach r (place + 1) c (h ∷ drop (place + 1) heads) xs n) (sym (here cells place cell at)) k))
+
+      pub cells_stop : CountsAtMost (CellsReach r 1 first heads cells) before now'
+      cells_stop = (way.counted + x.0, under x.0 (inl x.1), omega (arith, way.few, x.2))
+
+      pub cells_go_on : (d : CaseView) (o : Option (List ℕ)) → is_some o ≡ false → IsCell r (place + 1) c h cell (left_by o d) → CountsCells r heads cells first (place + 1) d before now'
+      cells_go_on d (Some text) e is = absurd (cc e)
+      cells_go_on d None e is = record {
+        counted = way.counted + x.0;
+        few = omega (arith, way.few, x.2);
+        leads = λ rest k.
+            let same : way.counted + (x.0 + rest) ≡ (way.counted + x.0) + rest = omega arith in
+            subst (CellsReach r 1 first heads cells) same (under (x.0 + rest) (inr (x.0, rest, d, x.1, is, k, refl)));
+      }
+
+-- ---- a record
+
+pub record_counts : (r : Rulebase) (heads : List Head) (cells : List (List ℕ)) (c : CaseView) (before now : ℕ) → length cells ≡ length heads → c ≡ no_case → CountsAtMost (CellsReach r 1 c heads cells) before now
+    → CountsAtMost (RecordReaches r heads cells) before now
+record_counts r heads cells c before now same empty x = (x.0, inr (same, subst (λ d. CellsReach r 1 d heads cells x.0) empty x.1), x.2)
+
+-- the case of which nothing is known is determined anew
+pub emptied : (r : Rulebase) (c d : CaseView) (place before now : ℕ) → (place ≡ 0 → ⊥) → d ≡ no_case → now ≤ before + reached r c d → now ≤ before + due r place
+emptied r c d zero before now some e few = absurd (some refl)
+emptied r c d (suc place) before now some e few =
+    let bound : reached r c no_case ≤ first_slots r = filtered (λ s. is_dirty (base_of r) (facts_of c) (facts_of no_case) s.0 s.1) (slots (base_of r) (facts_of no_case)) in
+    let same : reached r c d ≡ reached r c no_case = ap (reached r c) e in
+    omega (arith, few, bound, same)
+
+-- ---- records
+
+module _ (r : Rulebase) (heads : List Head) where
+  some_reach : (records : List (List (List ℕ))) → (n : ℕ) × RecordsReach r heads records n
+  some_reach [] = (0, refl)
+  some_reach (cells ∷ records) = let x = some_reach records in ((first_slots r + 0) + x.0, (0, x.0, inl refl, x.1, refl))
+
+  pub unchanged : (records : List (List (List ℕ))) (before now : ℕ) → now ≡ before → CountsAtMost (RecordsReach r heads records) before now
+  unchanged records before now e = let x = some_reach records in (x.0, x.1, omega (arith, e))
+
+  -- the lines over the case of which nothing is known were derived, or some of them
+  pub started : (records : List (List (List ℕ))) (before now : ℕ) → 0 < length records → now ≤ before + first_slots r → CountsAtMost (RecordsReach r heads records) before now
+  started [] before now some few = absurd (omega (arith, some))
+  started (cells ∷ records) before now some few = let x = some_reach (cells ∷ records) in (x.0, x.1, omega (arith, few))
+
+due_of_some : (r : Rulebase) (n : ℕ) → 0 < n → due r n ≡ first_slots r
+due_of_some r zero some = absurd (omega (arith, some))
+due_of_some r (suc n) some = refl
+
+due_grows : (r : Rulebase) (a b : ℕ) → a ≤ b → due r a ≤ due r b
+due_grows r zero b le = omega arith
+due_grows r (suc a) zero le = absurd (omega (arith, le))
+due_grows r (suc a) (suc b) le = omega arith
+
+module _ (r : Rulebase) (heads : List Head) (records : List (List (List ℕ))) (before : ℕ) where
+  pub records_begin : CountsRecords r heads records 0 before before
+  records_begin = record { counted = 0; few = omega arith; leads = λ rest h. h }
+
+  module _ (place now : ℕ) (way : CountsRecords r heads records place before now) where
+    pub records_are_done : (many : ℕ) → many ≤ place → length records ≤ place → CountsAtMost (RecordsReach r heads records) before (now + due r many)
+    records_are_done many le past =
+        (way.counted + 0, way.leads 0 (subst (λ rs. RecordsReach r heads rs 0) (sym (drop_all place records past)) refl), omega (arith, way.few, due_grows r many place le))
+
+    module _ (fields : List (List ℕ)) (now' : ℕ) (lt : place < length records) (is : fields ≡ get_or records place fields) (x : CountsAtMost (RecordReaches r heads fields) (now + due r place) now') where
+      pub records_go_on : CountsRecords r heads records (place + 1) before now'
+      records_go_on =
+          let next : due r (place + 1) ≡ first_slots r = ap (due r) (add-one place) in
+          record {
+            counted = way.counted + (first_slots r + x.0);
+            few = omega (arith, way.few, x.2, next);
+            leads = λ rest k.
+                let same : way.counted + ((first_slots r + x.0) + rest) ≡ (way.counted + (first_slots r + x.0)) + rest = omega arith in
+                subst (RecordsReach r heads records) same
+                (way.leads ((first_slots r + x.0) + rest) (subst (λ rs. RecordsReach r heads rs ((first_slots r + x.0) + rest)) (sym (item_at records place fields lt is)) (x.0, rest, x.1, k, refl)));
+          }
+
+      pub records_stop : (many : ℕ) → 0 < many → CountsAtMost (RecordsReach r heads records) before (now' + due r many)
+      records_stop many some =
+          let on = records_go_on in
+          let rest = some_reach r heads (drop (place + 1) records) in
+          let next : due r (place + 1) ≡ first_slots r = ap (due r) (add-one place) in
+          (on.counted + rest.0, on.leads rest.0 rest.1, omega (arith, on.few, next, due_of_some r many some))
+
+-- the records were determined over a session of their own
+pub determined_counts : (r r' : Rulebase) (heads : List Head) (records : List (List (List ℕ))) (many before at now : ℕ) → r' ≡ r → 0 < many → at ≤ before + first_slots r
+    → CountsAtMost (RecordsReach r' heads records) at (now + due r' many) → CountsAtMost (RecordsReach r heads records) before now
+determined_counts r r' heads records many before at now e some few x =
+    let same : due r' many ≡ first_slots r = due_of_some r' many some ∙ ap first_slots e in
+    (x.0, subst (λ b. RecordsReach b heads records x.0) e x.1, omega (arith, few, x.2, same))
+
+-- ---- an input
+
+pub uncounted : (r : Rulebase) (records : List (List (List ℕ))) (before now : ℕ) → now ≡ before → MayCount r records before now
+uncounted r [] before now e = e
+uncounted r (first ∷ records) before now e = inl e
