@@ -60,7 +60,7 @@ cells_end r n c (h ∷ heads) = refl
 
 module _ (r : Rulebase) (heads : List Head) (cells : List (List ℕ)) (first : CaseView) (before : ℕ) where
   pub cells_begin : CountsCells r heads cells first 0 first before before
-  cells_begin = record { counted = 0; few = omega arith; leads = λ rest h. h }
+  cells_begin = record { counted = 0; few = omega arith; leads = λ rest h. let e : rest ≡ 0 + rest = omega arith in subst (λ n. CellsReach r 1 first heads cells n) e h }
 
   module _ (place : ℕ) (c : CaseView) (now : ℕ) (way : CountsCells r heads cells first place c before now) where
     ended : CellsReach r (place + 1) c (drop place heads) (drop place cells) 0 → CountsAtMost (CellsReach r 1 first heads cells) before now
@@ -130,7 +130,7 @@ due_grows r (suc a) (suc b) le = omega arith
 
 module _ (r : Rulebase) (heads : List Head) (records : List (List (List ℕ))) (before : ℕ) where
   pub records_begin : CountsRecords r heads records 0 before before
-  records_begin = record { counted = 0; few = omega arith; leads = λ rest h. h }
+  records_begin = record { counted = 0; few = omega arith; leads = λ rest h. let e : rest ≡ 0 + rest = omega arith in subst (λ n. RecordsReach r heads records n) e h }
 
   module _ (place now : ℕ) (way : CountsRecords r heads records place before now) where
     pub records_are_done : (many : ℕ) → many ≤ place → length records ≤ place → CountsAtMost (RecordsReach r heads records) before (now + due r many)

@@ -1,11 +1,9 @@
 -- The heads of columns, cell by cell.
-use Rattle.std.proofs.Common.{◌≡◌, ◌≢◌, ◌≤◌, ◌+◌, ℕ, zero, suc, List, [], ◌∷◌, ◌++◌, length, drop, inl, inr, refl, sym, ap, ◌∙◌, subst, append_assoc, append-nil, arith}
-use Rattle.std.specs.Prelude.{Option, None, Some}
-use Rattle.std.specs.Str.{IsUtf8}
+use Rattle.std.proofs.Common.{◌≡◌, ◌≢◌, ◌+◌, ℕ, zero, suc, List, [], ◌∷◌, ◌++◌, drop, inl, inr, refl, sym, ap, ◌∙◌, subst, append_assoc, append-nil, arith}
+use Rattle.std.specs.Prelude.{None, Some}
 use Rattle.csv.specs.Records.{field_at}
 use Rattle.opa_model.specs.declared.lists.Lists.{Lists}
 use Rattle.opa_words.specs.Pieces.{Piece, IsCutInto}
-use Rattle.opa_text.specs.declared.pointed.Point.{Point}
 use Rattle.opa_text.specs.Pointed.{SpellsPoint}
 use Rattle.opa_script.specs.Lines.{HasTokens, IsText}
 use Rattle.opa_script.proofs.LawsHold.{same_tokens}

@@ -1,14 +1,13 @@
 -- The rows of records, one after another, and what an input gives.
-use Rattle.std.proofs.Common.{◌≡◌, ◌<◌, ◌≤◌, ◌+◌, ℕ, List, [], ◌∷◌, ◌++◌, length, map, drop, get_or, inl, inr, refl, sym, ap, ◌∙◌, subst, append_assoc, append-nil, arith}
-use Rattle.std.specs.Prelude.{Result, Ok, Err}
+use Rattle.std.proofs.Common.{◌≡◌, ◌<◌, ◌≤◌, ◌+◌, ℕ, List, [], ◌∷◌, ◌++◌, length, drop, get_or, inl, inr, refl, sym, ap, ◌∙◌, subst, append_assoc, append-nil, arith}
+use Rattle.std.specs.Prelude.{Result}
 use Rattle.std.proofs.lemmas.List.{drop_all}
-use Rattle.opa_io.specs.declared.fault.Status.{Status}
 use Rattle.opa_io.specs.declared.fault.Status.TheVariants as status
 use Rattle.opa_case.specs.Cases.{CaseView}
 use Rattle.opa_tree.specs.declared.rulebase.Rulebase.{Rulebase}
 use Rattle.opa_batch.specs.declared.head.Head.{Head}
 use Rattle.opa_batch.specs.Heads.{AreHeads, IsFirstRefusal}
-use Rattle.opa_batch.specs.Rows.{IsRecord, IsRow, row_of}
+use Rattle.opa_batch.specs.Rows.{IsRecord, row_of}
 use Rattle.opa_batch.specs.Batches.{AreRows, GivesOf, heading, written_row}
 use Rattle.opa_batch.specs.Numbered.{AreAdded, HasRows, WritesRow}
 use Rattle.opa_batch.proofs.CellLaws.{item_at}

@@ -1,7 +1,6 @@
 -- What becomes of a batch, with the shelf left out of sight.
-use Rattle.std.proofs.Common.{◌≡◌, ℕ, List, [], inl, inr, subst, sym}
-use Rattle.std.specs.Prelude.{Option, None, Some, Ok, Err, IfSome}
-use Rattle.std.specs.Io.KnownBytes.{Consumes, IsAtEnd}
+use Rattle.std.proofs.Common.{◌≡◌, ℕ, List, subst}
+use Rattle.std.specs.Prelude.{Option, None, Some, Err, IfSome}
 use Rattle.opa_io.specs.Outside.{Files}
 use Rattle.opa_io.specs.declared.fault.Status.{Status}
 use Rattle.opa_tree.specs.declared.faults.RbFault.{RbFault}
@@ -13,7 +12,7 @@ use Rattle.opa_outside.specs.Outside.{MOST, Outside}
 use Rattle.opa_outside.specs.Reading.{ReadsAll}
 use Rattle.opa_outside.specs.Telling.{IsTold}
 use Rattle.opa_batch.specs.Batches.{Gives}
-use Rattle.opa_batch.specs.Serving.{IsOpened, Works, Decides}
+use Rattle.opa_batch.specs.Serving.{IsOpened, Decides}
 
 -- whatever the shelf told and counted
 pub decides_beside : (base : Rulebase) (old new : Outside) (f f' : Option Files) (t t' k k' : ℕ) (s : Status) → Decides base old new s

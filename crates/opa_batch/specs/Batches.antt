@@ -1,11 +1,10 @@
 -- What a batch writes: a heading, and the row of each record; or why it is refused.
-use Rattle.std.specs.Prelude.{◌≡◌, ◌≤◌, ◌⊎◌, ◌+◌, ◌*◌, ℕ, List, [], ◌∷◌, ◌++◌, length, map, codes, Result, Ok}
+use Rattle.std.specs.Prelude.{◌≡◌, ◌⊎◌, ◌+◌, ℕ, List, [], ◌∷◌, ◌++◌, map, codes}
 use Rattle.csv.specs.Writing.{default_writer, row_text}
 use Rattle.opa_io.specs.declared.fault.Status.{Status}
 use Rattle.opa_io.specs.declared.fault.Status.TheVariants as status
 use Rattle.opa_model.specs.declared.ids.AttrId.{AttrId}
 use Rattle.opa_case.specs.Shapes.{attribute_or}
-use Rattle.opa_case.specs.Cases.{CaseView, no_case}
 use Rattle.opa_table.specs.Records.{table_records}
 use Rattle.opa_tree.specs.declared.rulebase.Rulebase.{Rulebase}
 use Rattle.opa_batch.specs.declared.head.Head.{Head}

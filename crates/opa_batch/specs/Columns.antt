@@ -1,5 +1,5 @@
 -- How the heading is read: on the way to the heads of columns.
-use Rattle.std.specs.Prelude.{◌≡◌, ◌≤◌, ◌+◌, ℕ, List, ◌++◌, length, drop, Result, Ok, Err}
+use Rattle.std.specs.Prelude.{◌≤◌, ◌+◌, ℕ, List, ◌++◌, length, drop, Result, Ok, Err}
 use Rattle.std.specs.Str.{IsUtf8}
 use Rattle.opa_model.specs.declared.lists.Lists.{Lists}
 use Rattle.opa_words.specs.Pieces.{Piece, IsCutInto}

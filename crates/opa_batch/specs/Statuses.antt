@@ -1,7 +1,7 @@
 -- What each status of a batch says.
 use Rattle.std.specs.Prelude.{ℕ, ◌≡◌, ◌≢◌, ◌⊎◌, ◌≤◌, ◌+◌, List, [], length, IfSome, Result, Ok, Err}
 use Rattle.std.specs.Io.KnownBytes.{Appends, IsAtEnd}
-use Rattle.opa_io.specs.Outside.{Files, Rose, AppendsFront}
+use Rattle.opa_io.specs.Outside.{Rose, AppendsFront}
 use Rattle.opa_io.specs.declared.fault.Status.{Status}
 use Rattle.opa_io.specs.declared.fault.Status.TheVariants as status
 use Rattle.opa_tree.specs.declared.rulebase.Rulebase.{Rulebase}

@@ -1,4 +1,4 @@
-use Rattle.std.proofs.Common.{◌≡◌, List, ℕ, map}
+use Rattle.std.proofs.Common.{◌≡◌, map}
 use Rattle.csv.specs.Records.{fields_of}
 use Rattle.opa_case.specs.Cases.{no_case}
 use Rattle.opa_infer.specs.Sessions.{rules_of, held_of}

@@ -1,4 +1,4 @@
-use Rattle.std.proofs.Common.{◌≡◌, [], List, ℕ}
+use Rattle.std.proofs.Common.{◌≡◌, []}
 use Rattle.std.specs.Fmt.{decimal}
 use Rattle.csv.specs.Records.{fields_of, partial_of}
 use Rattle.opa_batch.specs.Rows.{goal_cell}

@@ -1,4 +1,4 @@
-use Rattle.std.proofs.Common.{refl, subst}
+use Rattle.std.proofs.Common.{inr, refl, subst}
 use Rattle.opa_io.proofs.Appended.{Appends-none}
 use Rattle.opa_rulebase.specs.Loading.{HasLoadError}
 use Rattle.opa_batch.specs.Serving.{Serves}
@@ -27,3 +27,6 @@ returns-in-ReadFault-clause-serves g c =
 
 pub returns-clause-serves : goal.returns-clause-serves
 returns-clause-serves g c = Serves.cannot_hold (record { left = refl; files = c.in-Err.ensures.files }) (Appends-none _)
+
+pub returns-in-Ok-clause-counts : goal.returns-in-Ok-clause-counts
+returns-in-Ok-clause-counts g c = inr (c.in-Ok.base, c.in-Ok.ensures.accepted, c.decide.ensures.counts)
