@@ -8,7 +8,10 @@ syntax iskeyword @,48-57,_,',-
 
 " Words that begin a block, and those that begin a line of a block.
 syntax match opaBlock /^\(verb\|entity\|global\|goal\|screen\|include\|table\|members\)\>/
-syntax match opaDeclared /^\(\t\|  \)\(in\|bool\|number\|currency\|text\|date\|reference\|every\)\>/
+syntax match opaDeclared /^\(\t\|  \)in\>/
+syntax match opaDeclared /^\(\t\|  \)\(bool\|number\|currency\|text\|date\|reference\|every\)\>/ nextgroup=opaName skipwhite
+" The name of what is declared, up to its bounds; in the name of something true or false the verb stands in brackets.
+syntax match opaName /[^: \t][^:]*/ contained contains=opaVerb
 
 " How conditions are joined, and what stands above a group.
 syntax keyword opaConnective and or not if otherwise
@@ -29,6 +32,7 @@ syntax match opaComment /^\s*#.*/
 
 highlight default link opaBlock Keyword
 highlight default link opaDeclared Type
+highlight default link opaName Identifier
 highlight default link opaConnective Operator
 highlight default link opaHead Statement
 highlight default link opaFunction Function
