@@ -56,8 +56,20 @@ fn heard_on<L: Ledger>(
     Ok((count, words))
 }
 
+/// The same, with its steps on a ledger of its own.
+fn heard(
+    alloc: Global,
+    session: &mut Session,
+    refuses: u32,
+    change: ChangeCommand,
+) -> Result<(Option<u32>, Vec<u8>), NoMemory>
+    requires { IsDeclared (shape_of (rules_of session.old).model) change }
+{
+    heard_on::<Brand>(alloc, Blank::new(1), session, refuses, change)
+}
+
 /// The same of a line of input, as a text: how many changes there were, and the journal's words.
-fn heard(alloc: Global, session: &mut Session, refuses: u32, line: &str) -> Result<String, Fail> {
+fn outcome(alloc: Global, session: &mut Session, refuses: u32, line: &str) -> Result<String, Fail> {
     let Ok(Command::Change(change)) = read_command(alloc, &session.base().model, line.as_bytes())
     else {
         return Err(Fail::new("the line is no change"));
@@ -65,7 +77,7 @@ fn heard(alloc: Global, session: &mut Session, refuses: u32, line: &str) -> Resu
     if !session.declares(&change) {
         return Err(Fail::new("nothing of this is declared"));
     }
-    let (count, words) = heard_on::<Brand>(alloc, Blank::new(1), session, refuses, change)?;
+    let (count, words) = heard(alloc, session, refuses, change)?;
     let words = str::from_utf8(&words).unwrap_or("no text");
     match count {
         None => Ok(format!(in alloc; "no memory\n{words}")?),
@@ -78,11 +90,11 @@ fn a_listener_without_room(rt: HostRuntime) -> Result<(), Fail> {
     let alloc = rt.alloc();
     let mut session = after(alloc, &[("main", TWO)], &[])?;
     let answer = "answer the claimant is an adult = true";
-    let first = heard(alloc, &mut session, 1, answer)?;
+    let first = outcome(alloc, &mut session, 1, answer)?;
     assert_eq!(rt; first.as_str(), "no memory\n");
     let shown = reply(alloc, &mut session, "show the claimant is entitled")?;
     assert_eq!(rt; shown.as_str(), "the claimant is entitled: unknown");
-    let second = heard(alloc, &mut session, 2, answer)?;
+    let second = outcome(alloc, &mut session, 2, answer)?;
     assert_eq!(rt;
         second.as_str(),
         "2 changes\nthe claimant is entitled on 1600-01-01: unknown to true\nthe claimant is exempt on 1600-01-01: unknown to true\n"
