@@ -10,7 +10,7 @@ use Rattle.opa_spelled.specs.Cuts.{is_mark, calm, IsCutAt}
 abbrev pub Alike : List ℕ → List ℕ → List ℕ → List ℕ → Type 0
 Alike text first rest want = (r : List ℕ) → (text ≡ first ++ r) ↔ (rest ≡ want ++ r)
 
-same_head : (x y : ℕ) (xs ys : List ℕ) → x ∷ xs ≡ y ∷ ys → (x ≡ y) × (xs ≡ ys)
+pub same_head : (x y : ℕ) (xs ys : List ℕ) → x ∷ xs ≡ y ∷ ys → (x ≡ y) × (xs ≡ ys)
 same_head x y xs ys e = (cc e, cc e)
 
 pub alike_start : (text first : List ℕ) → Alike text first text first

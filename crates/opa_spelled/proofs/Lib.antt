@@ -1,7 +1,17 @@
 pub mod Breaking
+pub mod Calming
 pub mod Cleanness
 pub mod Cutting
+pub mod Daying
+pub mod Heading
 pub mod Lining
 pub mod Namely
 pub mod Oks
+pub mod Phrased
+pub mod Placed
+pub mod Pointing
+pub mod Spotted
+pub mod Telling
+pub mod Valued
 pub mod Whole
+pub mod Worded

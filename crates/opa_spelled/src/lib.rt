@@ -4,13 +4,16 @@
 mod body;
 mod clean;
 mod cuts;
+mod days;
 mod laws;
 mod lines;
+mod names;
 mod origins;
 mod printed;
 mod reading;
 mod spots;
 mod texts;
+mod told;
 mod values;
 
 pub use laws::{one_first_fault, spelled_has_none};
