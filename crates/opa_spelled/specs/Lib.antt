@@ -4,5 +4,4 @@ pub mod Laws
 pub mod Lines
 pub mod Printed
 pub mod Reading
-pub mod Same
 pub mod Spelling
