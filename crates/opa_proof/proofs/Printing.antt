@@ -137,7 +137,7 @@ module _ (b : Rulebase) where
       )
 
   -- a line of names behind a colon
-  listed_is : (n : ℕ) (front p point more : List ℕ) → point ≡ p → decimal n ++ (32 ∷ front ++ (point ++ (codes ": " ++ (more ++ 10 ∷ [])))) ≡ decimal n ++ (codes " " ++ ((front ++ (p ++ (codes ": " ++ more))) ++ 10 ∷ []))
+  pub listed_is : (n : ℕ) (front p point more : List ℕ) → point ≡ p → decimal n ++ (32 ∷ front ++ (point ++ (codes ": " ++ (more ++ 10 ∷ [])))) ≡ decimal n ++ (codes " " ++ ((front ++ (p ++ (codes ": " ++ more))) ++ 10 ∷ []))
   listed_is n front p point more e =
       ap (λ x. decimal n ++ (32 ∷ front ++ (x ++ (codes ": " ++ (more ++ 10 ∷ []))))) e
       ∙ ap (λ x. decimal n ++ 32 ∷ x) (ap (λ x. front ++ x) (sym (append_assoc p (codes ": " ++ more) (10 ∷ []))) ∙ sym (append_assoc front (p ++ (codes ": " ++ more)) (10 ∷ [])))

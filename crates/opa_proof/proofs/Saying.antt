@@ -23,8 +23,8 @@ use Rattle.opa_proof.specs.declared.verdict.Verdict.{Verdict}
 use Rattle.opa_proof.specs.declared.verdict.Verdict.TheVariants as verdict
 
 module _ (r : Rulebase) (text : List ℕ) where
-  pub tells_syntax : (k : ℕ) (w : Verdict) (said : List ℕ) → w ≡ verdict.Syntax k → said ≡ refused_text (verdict.Syntax k) → Tells r text w said
-  tells_syntax k w said e s = subst (λ v. Tells r text v said) (sym e) (tt, s)
+  pub tells_syntax : (k : ℕ) (w : Verdict) (said : List ℕ) → w ≡ verdict.Syntax k → said ≡ refused_text (verdict.Syntax k) → Judges r text (verdict.Syntax k) → Tells r text w said
+  tells_syntax k w said e s j = subst (λ v. Tells r text v said) (sym e) (j, s)
 
   pub tells_name : (k : ℕ) (w : Verdict) (said : List ℕ) → w ≡ verdict.Name k → said ≡ refused_text (verdict.Name k) → Judges r text (verdict.Name k) → Tells r text w said
   tells_name k w said e s j = subst (λ v. Tells r text v said) (sym e) (j, s)

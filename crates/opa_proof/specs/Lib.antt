@@ -2,4 +2,5 @@ pub mod Judging
 pub mod Laws
 pub mod Named
 pub mod Naming
+pub mod Restating
 pub mod Telling

@@ -1,5 +1,5 @@
 -- Texts of parts of lines hold no mark outside quotes.
-use Rattle.std.proofs.Common.{◌≡◌, ℕ, zero, suc, ◌+◌, ◌<◌, ◌≤◌, ◌%◌, ◌/◌, ◌^◌, ℤ, List, [], ◌∷◌, ◌++◌, take, length, Bool, true, false, cond, not, ◌&&◌, ◌||◌, ◌==◌, decimal, refl, sym, ap, ◌∙◌, arith, append_assoc, append-nil}
+use Rattle.std.proofs.Common.{◌≡◌, ℕ, zero, suc, ◌+◌, ◌<◌, ◌%◌, ◌/◌, ◌^◌, ℤ, List, [], ◌∷◌, ◌++◌, take, Bool, true, false, cond, not, ◌&&◌, ◌||◌, ◌==◌, decimal, refl, sym, ap, ◌∙◌, arith, append_assoc, append-nil}
 use Rattle.std.specs.Prelude.{Option, Some, None, Ok, Err, codes, unsigned_abs, if◌then◌else◌}
 use Rattle.std.specs.Char.{is_ascii_digit}
 use Rattle.std.specs.List.{list_all, list_any}
@@ -25,7 +25,7 @@ use Rattle.opa_words.proofs.LawsHold.{quoted_is_token_holds}
 use Rattle.opa_words.proofs.Letters.{date_parts}
 use Rattle.opa_words.proofs.Separate.{all_wider, all_append, dated, date_dated}
 use Rattle.opa_text.specs.Laws.{CanBeWritten}
-use Rattle.opa_text.specs.Texts.{value_text, number_text, bool_text}
+use Rattle.opa_text.specs.Texts.{value_text, number_text}
 use Rattle.opa_spelled.specs.Cuts.{is_mark, calm}
 use Rattle.opa_spelled.specs.Printed.{spot_text, name_part}
 use Rattle.opa_spelled.specs.Spelling.{is_sign, is_plain, IsSpot}

@@ -1,10 +1,9 @@
 -- The first line, and lines with their numbers.
-use Rattle.std.proofs.Common.{◌≡◌, ℕ, ◌<◌, List, [], ◌∷◌, ◌++◌, decimal, refl, sym, ap, ◌∙◌, append_assoc}
+use Rattle.std.proofs.Common.{◌≡◌, ℕ, List, [], ◌∷◌, ◌++◌, decimal, refl, sym, ap, ◌∙◌, append_assoc}
 use Rattle.std.specs.Prelude.{Option, Some, None, codes}
 use Rattle.std.proofs.lemmas.List.{append_cancel_left, append_cancel_right}
-use Rattle.opa_date.specs.declared.TheConstants.{DAYS}
 use Rattle.opa_date.specs.Texts.{day_text}
-use Rattle.opa_spelled.specs.Printed.{spot_text, head_line, printed_text, numbered_line}
+use Rattle.opa_spelled.specs.Printed.{spot_text, printed_text, numbered_line}
 use Rattle.opa_spelled.specs.Reading.{IsPointAt, IsAsked, asked_line}
 use Rattle.opa_spelled.specs.Spelling.{CanBePrinted, IsSpot, Reads}
 use Rattle.opa_spelled.specs.declared.printed.Printed.{Printed}

@@ -3,6 +3,7 @@ pub mod Calming
 pub mod Cleanness
 pub mod Cutting
 pub mod Daying
+pub mod Feeding
 pub mod Heading
 pub mod Lining
 pub mod Namely
@@ -10,6 +11,7 @@ pub mod Oks
 pub mod Phrased
 pub mod Placed
 pub mod Pointing
+pub mod Sameness
 pub mod Spotted
 pub mod Telling
 pub mod Valued

@@ -1,11 +1,10 @@
 -- Names, one after another.
-use Rattle.std.proofs.Common.{◌≡◌, ℕ, ◌<◌, List, [], ◌∷◌, ◌++◌, length, true, false, Decides, refl, sym, subst, ap, ◌∙◌, arith}
+use Rattle.std.proofs.Common.{◌≡◌, ◌⊎◌, inl, inr, ℕ, ◌<◌, List, [], ◌∷◌, ◌++◌, length, true, false, Decides, refl, sym, subst, ap, ◌∙◌, arith}
 use Rattle.std.specs.Prelude.{Option, Some, None, codes}
 use Rattle.std.specs.List.{AllByRecursion}
 use Rattle.std.specs.Str.{IsUtf8}
 use Rattle.std.proofs.lemmas.Str.{IsUtf8-append}
 use Rattle.opa_words.specs.Kinds.{quoted}
-use Rattle.opa_words.specs.Pieces.{Piece}
 use Rattle.opa_words.proofs.Ascii.{ascii_utf8}
 use Rattle.opa_words.proofs.LawsHold.{one_cutting_holds}
 use Rattle.opa_text.specs.Laws.{CanBeQuoted}
@@ -82,3 +81,19 @@ names_utf8 (Some (n ∷ ns)) h = IsUtf8-append (quoted n) (more_names ns) (quote
 
 pub unread_list : (text : List ℕ) → (IsUtf8 text → ⊥) → (o : Option (List (List ℕ))) → AreNames o → names_text o ≡ text → ⊥
 unread_list text n o is e = n (subst IsUtf8 e (names_utf8 o is))
+
+-- ---- lists with one text
+
+apart : (a b : ℕ) → (b < a) ⊎ (a < b) → a ≡ b → ⊥
+apart a b (inl h) e = absurd (omega (arith, h, e))
+apart a b (inr h) e = absurd (omega (arith, h, e))
+
+unknown_isnt : (ns : List (List ℕ)) → codes "unknown" ≡ known_names ns → ⊥
+unknown_isnt [] e = apart 117 110 (inl (omega arith)) (cc e)
+unknown_isnt (n ∷ ns) e = apart 117 34 (inl (omega arith)) (cc e)
+
+pub one_names : (o p : Option (List (List ℕ))) → AreNames o → AreNames p → names_text o ≡ names_text p → o ≡ p
+one_names None None is can e = refl
+one_names None (Some ms) is can e = absurd (unknown_isnt ms e)
+one_names (Some ns) None is can e = absurd (unknown_isnt ns (sym e))
+one_names (Some ns) (Some ms) is can e = ap Some (only_names (known_names ms) ms (names_say (known_names ms) ms can refl) ns is e)

@@ -1,6 +1,5 @@
 -- Phrases that are cut into their tokens again.
-use Rattle.std.proofs.Common.{◌≡◌, ℕ, ◌<◌, length, List, [], ◌∷◌, Bool, true, false, not, ◌&&◌, refl, sym, ap, ap₂, subst, ◌∙◌, arith}
-use Rattle.std.specs.List.{list_all}
+use Rattle.std.proofs.Common.{◌≡◌, ℕ, length, List, [], ◌∷◌, Bool, true, false, not, ◌&&◌, refl, sym, ap, subst, ◌∙◌, arith}
 use Rattle.std.specs.Str.{chars, IsUtf8}
 use Rattle.std.specs.Prelude.{codes}
 use Rattle.opa_words.specs.declared.kinds.Token.{Token}
@@ -8,7 +7,7 @@ use Rattle.opa_words.specs.declared.kinds.TokenKind.{TokenKind}
 use Rattle.opa_words.specs.declared.kinds.TokenKind.TheVariants as kind
 use Rattle.opa_words.specs.Cuts.{Cuts, Stuck}
 use Rattle.opa_words.specs.Places.{token_text}
-use Rattle.opa_words.specs.Pieces.{Piece, IsPiece, IsCutInto, pieces, piece, word}
+use Rattle.opa_words.specs.Pieces.{Piece, pieces, piece, word}
 use Rattle.opa_words.specs.Reserved.{are_phrase, phrase_text, is_word_kind, is_phrase_kind, is_reserved, is_ending}
 use Rattle.opa_words.specs.Written.{Written, joined}
 use Rattle.opa_words.proofs.LawsHold.{written_is_cut_holds}

@@ -1,12 +1,12 @@
 -- Origins, cut at their last colon.
-use Rattle.std.proofs.Common.{◌≡◌, ◌≢◌, ◌⊎◌, inl, inr, ℕ, zero, suc, ◌+◌, ◌<◌, ◌≤◌, ◌^◌, List, [], ◌∷◌, ◌++◌, length, take, drop, get_or, true, ◌==◌, refl, sym, ap, subst, ◌∙◌, arith, decimal}
-use Rattle.std.specs.Prelude.{Option, Some, None, Result, Ok, Err, MatchOption, codes}
+use Rattle.std.proofs.Common.{◌≡◌, ◌≢◌, ◌⊎◌, inl, inr, ℕ, suc, ◌<◌, ◌^◌, List, [], ◌∷◌, ◌++◌, length, take, drop, get_or, true, ◌==◌, refl, sym, ap, subst, ◌∙◌, arith, decimal}
+use Rattle.std.specs.Prelude.{Some, None, Result, Ok, Err, codes}
 use Rattle.std.specs.Char.{is_ascii_digit}
 use Rattle.std.specs.Str.{IsUtf8, NoCharPasses}
 use Rattle.std.specs.Str.Parse.{ParsesUnsigned}
-use Rattle.std.specs.Str.Pattern.{RFindsChar, HasCharAt}
+use Rattle.std.specs.Str.Pattern.{RFindsChar}
 use Rattle.std.proofs.lemmas.Bool.{and_parts}
-use Rattle.std.proofs.lemmas.Fmt.{digits_decimal, parse-decimal}
+use Rattle.std.proofs.lemmas.Fmt.{decimal_injective, digits_decimal, parse-decimal}
 use Rattle.std.proofs.lemmas.List.{take-append-drop}
 use Rattle.std.proofs.lemmas.Str.{IsUtf8-append}
 use Rattle.std.proofs.lemmas.Str.Pattern.{NoCharPasses-char, drop_at_char}
@@ -148,3 +148,20 @@ unclean_file text file n only bad o is e = bad (subst IsOrigin (only o is e) is)
 
 pub unread_origin : (text : List ℕ) → (IsUtf8 text → ⊥) → (o : Origin) → IsOrigin o → origin_text o ≡ text → ⊥
 unread_origin text n o is e = n (subst IsUtf8 e (origin_utf8 o is))
+
+-- ---- origins with one text
+
+pub one_origin : (o p : Origin) → IsOrigin o → IsOrigin p → origin_text o ≡ origin_text p → o ≡ p
+one_origin (origin.Rule f n) (origin.Rule g m) is can e =
+    let s = last_colon f g (decimal n) (decimal m) (decimal_no_colon n is.1) (decimal_no_colon m can.1) (same_rule (f ++ 58 ∷ decimal n) (g ++ 58 ∷ decimal m) e) in
+    let small : n < 2 ^ 64 = omega (arith, is.1) in
+    let other : m < 2 ^ 64 = omega (arith, can.1) in
+    ap (λ x. origin.Rule x n) s.0 ∙ ap (λ x. origin.Rule g x) (decimal_injective n m small other s.1)
+one_origin (origin.Rule f n) origin.Answer is can e = absurd (not_answer (f ++ (codes ":" ++ decimal n)) (sym e))
+one_origin (origin.Rule f n) origin.Unanswered is can e = absurd (not_unanswered (f ++ (codes ":" ++ decimal n)) (sym e))
+one_origin origin.Answer (origin.Rule f n) is can e = absurd (not_answer (f ++ (codes ":" ++ decimal n)) e)
+one_origin origin.Answer origin.Answer is can e = refl
+one_origin origin.Answer origin.Unanswered is can e = absurd (apart 97 117 (inr (omega arith)) (cc e))
+one_origin origin.Unanswered (origin.Rule f n) is can e = absurd (not_unanswered (f ++ (codes ":" ++ decimal n)) e)
+one_origin origin.Unanswered origin.Answer is can e = absurd (apart 117 97 (inl (omega arith)) (cc e))
+one_origin origin.Unanswered origin.Unanswered is can e = refl

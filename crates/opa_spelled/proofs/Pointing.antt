@@ -1,5 +1,5 @@
 -- Lines without their numbers, cut at their first mark.
-use Rattle.std.proofs.Common.{◌≡◌, ℕ, ◌<◌, ◌≤◌, List, [], ◌∷◌, ◌++◌, length, Bool, true, false, ◌||◌, ◌==◌, refl, sym, ap, subst, ◌∙◌, arith}
+use Rattle.std.proofs.Common.{◌≡◌, ℕ, ◌<◌, ◌≤◌, List, ◌∷◌, ◌++◌, true, false, ◌||◌, ◌==◌, refl, sym, ap, ◌∙◌, arith}
 use Rattle.std.specs.Prelude.{Option, codes}
 use Rattle.std.proofs.lemmas.Bool.{ne_eqb, eqb-true}
 use Rattle.opa_date.specs.declared.TheConstants.{DAYS}
@@ -30,13 +30,13 @@ uncut_line text none (printed.Members p names) is e = none (codes "list " ++ spo
 uncut_line text none (printed.Member p n) is e = none (codes "member " ++ spot_text p) 58 (codes " " ++ quoted n) (sym e, (calm_spot p is.0, refl))
 
 -- the parts of a line before and behind a comma
-abbrev AsPoint : List ℕ → List ℕ → Printed → Type 0
+abbrev pub AsPoint : List ℕ → List ℕ → Printed → Type 0
 AsPoint front rest (printed.Point p s t k v o) = (spot_text p ≡ front) × (codes " " ++ (days_text s t ++ (codes ": " ++ told_text k v o)) ≡ rest)
 AsPoint front rest (printed.Members p names) = ⊥
 AsPoint front rest (printed.Member p n) = ⊥
 
 -- the parts of a line before and behind a colon
-abbrev AsListed : List ℕ → List ℕ → Printed → Type 0
+abbrev pub AsListed : List ℕ → List ℕ → Printed → Type 0
 AsListed front rest (printed.Point p s t k v o) = ⊥
 AsListed front rest (printed.Members p names) = (codes "list " ++ spot_text p ≡ front) × (codes " " ++ names_text names ≡ rest)
 AsListed front rest (printed.Member p n) = (codes "member " ++ spot_text p ≡ front) × (codes " " ++ quoted n ≡ rest)
@@ -44,14 +44,14 @@ AsListed front rest (printed.Member p n) = (codes "member " ++ spot_text p ≡ f
 comma_no_colon : ◌≡◌ {A = ℕ} 44 58 → ⊥
 comma_no_colon e = absurd (omega (arith, e))
 
-as_point : (front rest : List ℕ) → calm false front ≡ true → (x : Printed) → CanBePrinted x → printed_text x ≡ front ++ 44 ∷ rest → AsPoint front rest x
+pub as_point : (front rest : List ℕ) → calm false front ≡ true → (x : Printed) → CanBePrinted x → printed_text x ≡ front ++ 44 ∷ rest → AsPoint front rest x
 as_point front rest c (printed.Point p s t k v o) is e =
     let h = one_cut false (spot_text p) front 44 44 (codes " " ++ (days_text s t ++ (codes ": " ++ told_text k v o))) rest (calm_spot p is.0) c refl refl e in (h.0, h.1.1)
 as_point front rest c (printed.Members p names) is e =
     comma_no_colon (sym (one_cut false (codes "list " ++ spot_text p) front 58 44 (codes " " ++ names_text names) rest (calm_spot p is.0) c refl refl e).1.0)
 as_point front rest c (printed.Member p n) is e = comma_no_colon (sym (one_cut false (codes "member " ++ spot_text p) front 58 44 (codes " " ++ quoted n) rest (calm_spot p is.0) c refl refl e).1.0)
 
-as_listed : (front rest : List ℕ) → calm false front ≡ true → (x : Printed) → CanBePrinted x → printed_text x ≡ front ++ 58 ∷ rest → AsListed front rest x
+pub as_listed : (front rest : List ℕ) → calm false front ≡ true → (x : Printed) → CanBePrinted x → printed_text x ≡ front ++ 58 ∷ rest → AsListed front rest x
 as_listed front rest c (printed.Point p s t k v o) is e =
     comma_no_colon (one_cut false (spot_text p) front 44 58 (codes " " ++ (days_text s t ++ (codes ": " ++ told_text k v o))) rest (calm_spot p is.0) c refl refl e).1.0
 as_listed front rest c (printed.Members p names) is e =
@@ -108,16 +108,16 @@ neither_listed front text c l m (printed.Member p n) is e = m (spot_text p) (sym
 apart : (a b : ℕ) → a < b → a ≡ b → ⊥
 apart a b h e = absurd (omega (arith, h, e))
 
-list_no_member : (r s : List ℕ) → codes "list " ++ r ≡ codes "member " ++ s → ⊥
+pub list_no_member : (r s : List ℕ) → codes "list " ++ r ≡ codes "member " ++ s → ⊥
 list_no_member r s e = apart 108 109 (omega arith) (cc e)
 
-same_list : (r s : List ℕ) → codes "list " ++ r ≡ codes "list " ++ s → r ≡ s
+pub same_list : (r s : List ℕ) → codes "list " ++ r ≡ codes "list " ++ s → r ≡ s
 same_list r s e = cc e
 
-same_member : (r s : List ℕ) → codes "member " ++ r ≡ codes "member " ++ s → r ≡ s
+pub same_member : (r s : List ℕ) → codes "member " ++ r ≡ codes "member " ++ s → r ≡ s
 same_member r s e = cc e
 
-same_blank : (r s : List ℕ) → codes " " ++ r ≡ codes " " ++ s → r ≡ s
+pub same_blank : (r s : List ℕ) → codes " " ++ r ≡ codes " " ++ s → r ≡ s
 same_blank r s e = cc e
 
 -- a line behind `list `

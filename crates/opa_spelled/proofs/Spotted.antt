@@ -1,5 +1,5 @@
 -- Points, cut at their first quote.
-use Rattle.std.proofs.Common.{◌≡◌, ℕ, ◌+◌, ◌<◌, length, List, [], ◌∷◌, ◌++◌, take, Bool, true, false, ◌||◌, ◌==◌, refl, sym, ap, subst, ◌∙◌, arith, append_assoc, append-nil, length-append}
+use Rattle.std.proofs.Common.{◌≡◌, ℕ, ◌+◌, length, List, [], ◌∷◌, ◌++◌, take, true, false, ◌||◌, ◌==◌, refl, sym, ap, subst, ◌∙◌, arith, append_assoc, append-nil, length-append}
 use Rattle.std.specs.Prelude.{Option, Some, None, codes}
 use Rattle.std.specs.List.{list_any}
 use Rattle.std.specs.Str.{IsUtf8}
@@ -12,7 +12,7 @@ use Rattle.opa_words.proofs.LawsHold.{quoted_is_token_holds}
 use Rattle.opa_text.specs.Laws.{CanBeQuoted}
 use Rattle.opa_spelled.specs.Cuts.{IsQuotedFrom}
 use Rattle.opa_spelled.specs.Printed.{spot_text, name_part}
-use Rattle.opa_spelled.specs.Spelling.{CanBePhrase, IsName, MayBeName, IsSpot}
+use Rattle.opa_spelled.specs.Spelling.{is_plain, CanBePhrase, IsName, MayBeName, IsSpot}
 use Rattle.opa_spelled.specs.declared.printed.Spot.{Spot}
 use Rattle.opa_spelled.proofs.Calming.{plain_no_quote}
 use Rattle.opa_spelled.proofs.Cutting.{same_head, same_parts, taken}
@@ -72,17 +72,20 @@ none_both (x ∷ xs) ys h k =
     let both = or_parts (x == 34) (list_any (λ b. b == 34) xs) h in
     or_from (x == 34) (list_any (λ b. b == 34) (xs ++ ys)) both.0 (none_both xs ys both.1 k)
 
-quote_behind : (xs ys : List ℕ) → BeginsWithQuote ys → HasNoQuote (xs ++ ys) → ⊥
+pub quote_behind : (xs ys : List ℕ) → BeginsWithQuote ys → HasNoQuote (xs ++ ys) → ⊥
 quote_behind [] [] q h = q
 quote_behind [] (y ∷ ys) q h = let f : true ≡ false = sym (eq-eqb y 34 q) ∙ (or_parts (y == 34) (list_any (λ b. b == 34) ys) h).0 in cc f
 quote_behind (x ∷ xs) ys q h = quote_behind xs ys q (or_parts (x == 34) (list_any (λ b. b == 34) (xs ++ ys)) h).1
+
+pub of_plain : (t : List ℕ) → is_plain t ≡ true → HasNoQuote (t ++ codes " of ")
+of_plain t h = none_both t (codes " of ") (plain_no_quote t h) refl
 
 -- ---- points without a name
 
 pub plain_spot_is : (phrase text : List ℕ) → CanBePhrase phrase → phrase ≡ text → IsSpot (record { phrase = phrase; name = None }) × (spot_text (record { phrase = phrase; name = None }) ≡ text)
 plain_spot_is phrase text can e = ((can, tt), append-nil phrase ∙ e)
 
-named_part : (p : Spot) (o : Option (List ℕ)) → p.name ≡ o → spot_text p ≡ p.phrase ++ name_part o
+pub named_part : (p : Spot) (o : Option (List ℕ)) → p.name ≡ o → spot_text p ≡ p.phrase ++ name_part o
 named_part p o e = ap (λ x. p.phrase ++ name_part x) e
 
 pub no_plain_spot : (text : List ℕ) → HasNoQuote text → ((t : List ℕ) → CanBePhrase t → t ≡ text → ⊥) → (p : Spot) → IsSpot p → spot_text p ≡ text → ⊥

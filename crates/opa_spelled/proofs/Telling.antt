@@ -1,5 +1,5 @@
 -- What a point line tells, cut at its comma.
-use Rattle.std.proofs.Common.{◌≡◌, ℕ, List, [], ◌∷◌, ◌++◌, Bool, true, false, refl, sym, ap, subst, ◌∙◌}
+use Rattle.std.proofs.Common.{◌≡◌, ℕ, List, ◌∷◌, ◌++◌, true, false, refl, sym, ap, subst, ◌∙◌}
 use Rattle.std.specs.Prelude.{Option, codes}
 use Rattle.std.specs.Str.{IsUtf8}
 use Rattle.opa_model.specs.declared.things.Kind.{Kind}

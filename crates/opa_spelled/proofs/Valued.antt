@@ -1,9 +1,8 @@
 -- Values, read from their texts.
-use Rattle.std.proofs.Common.{◌≡◌, ◌≢◌, ℕ, ◌<◌, ◌≤◌, ◌%◌, ℤ, List, [], ◌∷◌, ◌++◌, length, Bool, true, false, cond, Decides, refl, sym, ap, subst, ◌∙◌, arith, append-nil}
-use Rattle.std.specs.Prelude.{Option, Some, None, Result, Ok, Err, codes, unsigned_abs}
+use Rattle.std.proofs.Common.{◌≡◌, ℕ, ◌<◌, ◌≤◌, ℤ, List, [], ◌∷◌, ◌++◌, length, Bool, true, false, cond, refl, sym, ap, subst, ◌∙◌, arith, append-nil}
+use Rattle.std.specs.Prelude.{Some, None, Result, Ok, Err, codes, unsigned_abs}
 use Rattle.std.specs.Str.{bytes_eq}
 use Rattle.std.specs.Cmp.Lexicographic.{bytes_decides}
-use Rattle.std.specs.List.{list_any}
 use Rattle.opa_date.specs.declared.TheConstants.{DAYS}
 use Rattle.opa_date.specs.declared.fault.DayFault.{DayFault}
 use Rattle.opa_date.specs.Texts.{day_text, read_day}
@@ -16,11 +15,10 @@ use Rattle.opa_value.specs.declared.number.NumFault.{NumFault}
 use Rattle.opa_value.specs.NumberText.{read_number, plain_text, money_text}
 use Rattle.opa_value.specs.Numbers.{InRange}
 use Rattle.opa_value.proofs.ReadBack.{plain_back, money_back}
-use Rattle.opa_words.specs.Characters.{is_control}
 use Rattle.opa_words.specs.Fronts.{HasInFront, BeginsWithText, BeginsWithNoText}
 use Rattle.opa_words.specs.Kinds.{quoted}
 use Rattle.opa_words.proofs.QuoteLaws.{quoted_tells_apart}
-use Rattle.opa_text.specs.Laws.{CanBeQuoted, CanBeWritten, HasDecimals}
+use Rattle.opa_text.specs.Laws.{CanBeQuoted, HasDecimals}
 use Rattle.opa_text.specs.Readers.{word_value}
 use Rattle.opa_text.specs.Texts.{value_text, number_text}
 use Rattle.opa_spelled.specs.Reading.{IsShown, shown_text, IsNumber, number_shown}

@@ -1,5 +1,5 @@
 -- A text, line by line.
-use Rattle.std.proofs.Common.{◌≡◌, ◌⊎◌, inl, inr, ℕ, suc, ◌+◌, ◌-◌, ◌<◌, ◌≤◌, ◌^◌, List, [], ◌∷◌, ◌++◌, length, take, decimal, Bool, true, false, cond, ◌==◌, refl, sym, ◌∙◌, ap, subst, append_assoc, append-nil, length-append, arith}
+use Rattle.std.proofs.Common.{◌≡◌, ◌⊎◌, inl, inr, ℕ, suc, ◌+◌, ◌-◌, ◌<◌, ◌^◌, List, [], ◌∷◌, ◌++◌, length, take, decimal, Bool, true, false, cond, ◌==◌, refl, sym, ◌∙◌, ap, subst, append_assoc, append-nil, length-append, arith}
 use Rattle.std.specs.Prelude.{None, codes}
 use Rattle.std.specs.Char.{digit_value}
 use Rattle.std.specs.List.{AllByRecursion}
@@ -7,8 +7,8 @@ use Rattle.std.specs.Str.Parse.{AllDigits}
 use Rattle.std.proofs.lemmas.Fmt.{decimal_is_IsNumeral_wide}
 use Rattle.opa_spelled.specs.declared.printed.Printed.{Printed}
 use Rattle.opa_spelled.specs.declared.printed.Spelled.{Spelled}
-use Rattle.opa_spelled.specs.Lines.{Lined, lined, with_byte, onto_line, with_line}
-use Rattle.opa_spelled.specs.Spelling.{IsSpot, CanBePrinted, IsSpelled, Spells, BeginReport, IsUnspelledAt}
+use Rattle.opa_spelled.specs.Lines.{Lined, lined, onto_line, with_line}
+use Rattle.opa_spelled.specs.Spelling.{IsSpot, CanBePrinted, IsSpelled, BeginReport, IsUnspelledAt}
 use Rattle.opa_spelled.specs.Printed.{printed_text, numbered_line, numbered_lines, lines_text, end_line, head_line, report_lines}
 use Rattle.opa_spelled.specs.Reading.{IsTextOf, IsAsked, asked_line}
 use Rattle.opa_spelled.specs.declared.printed.Spot.{Spot}
@@ -18,7 +18,7 @@ use Rattle.opa_spelled.proofs.Phrased.{none_phrase}
 
 -- ---- lists of lines
 
-same_items : {A : Type 0} (x y : A) (xs ys : List A) → x ∷ xs ≡ y ∷ ys → (x ≡ y) × (xs ≡ ys)
+pub same_items : {A : Type 0} (x y : A) (xs ys : List A) → x ∷ xs ≡ y ∷ ys → (x ≡ y) × (xs ≡ ys)
 same_items x y xs ys e = (cc e, cc e)
 
 first_of : {A : Type 0} (xs ys : List A) → take (length xs) (xs ++ ys) ≡ xs
@@ -127,7 +127,7 @@ begins_with_e (d ∷ ds) rest more h n e =
     let s = same_items d 101 (ds ++ rest) more e in
     absurd (let f : digit_value 101 < 10 = subst (λ c. digit_value c < 10) s.0 h.0 in omega (arith, f))
 
-not_end : (n : ℕ) (x : Printed) → n < 10 ^ 64 → numbered_line n x ≡ end_line → ⊥
+pub not_end : (n : ℕ) (x : Printed) → n < 10 ^ 64 → numbered_line n x ≡ end_line → ⊥
 not_end n x h e =
     let is = (decimal_is_IsNumeral_wide n h).0 in
     begins_with_e (decimal n) (codes " " ++ (printed_text x ++ 10 ∷ [])) (110 ∷ 100 ∷ 10 ∷ []) is.1 is.0 e
@@ -287,7 +287,7 @@ broken_line text rest line later asked day n printed is lt s l e k small none =
     let two : length printed + 2 ≡ n + 1 = omega (arith, k) in
     subst (λ t. IsUnspelledAt t (n + 1)) (sym at)
     (subst (IsUnspelledAt (record { lines = (head_line asked day ∷ numbered 1 printed) ++ line ∷ (lined later).lines; left = (lined later).left })) two
-      (after_line r can (omega (arith, k, small)) line (lined later).lines (lined later).left e (λ x c q. none x c (ap (λ m. numbered_line m x) k ∙ q))))
+    (after_line r can (omega (arith, k, small)) line (lined later).lines (lined later).left e (λ x c q. none x c (ap (λ m. numbered_line m x) k ∙ q))))
 
 pub broken_off : (text rest : List ℕ) (asked : Spot) (day n : ℕ) (printed : List Printed) → IsSpot asked → day < DAYS → SoFar text (head_line asked day) printed rest → lined rest ≡ record { lines = []; left = rest }
     → n ≡ length printed → n < 2 ^ 65 → IsUnspelledAt (lined text) (n + 2)

@@ -1,5 +1,5 @@
 -- No quote, comma, colon or line feed stands in a phrase.
-use Rattle.std.proofs.Common.{◌≡◌, ◌≤◌, ◌/◌, ◌+◌, ℕ, List, [], ◌∷◌, ◌++◌, map, Bool, true, false, cond, not, ◌&&◌, ◌||◌, ◌==◌, All, refl, sym, ap, subst, ◌∙◌, arith}
+use Rattle.std.proofs.Common.{◌≡◌, ◌≤◌, ◌/◌, ◌+◌, ℕ, List, [], ◌∷◌, map, Bool, true, false, cond, not, ◌&&◌, ◌||◌, ◌==◌, All, refl, sym, ap, ◌∙◌, arith}
 use Rattle.std.specs.List.{list_all, list_any}
 use Rattle.std.specs.Str.{chars, IsUtf8}
 use lib.Utf8.{encode, encodes, next}
@@ -19,7 +19,7 @@ use Rattle.opa_words.specs.Reserved.{joined, begins_well, ends_badly, is_phrase_
 use Rattle.opa_words.proofs.PlaceLaws.{tokens_within, tokens_of_kind}
 use Rattle.opa_words.proofs.Separate.{all_wider, all_append, none_of, numeric, number_numeric}
 use Rattle.opa_verbs.specs.Phrasing.{IsPhrase}
-use Rattle.opa_spelled.specs.Spelling.{is_sign, is_plain, CanBePhrase}
+use Rattle.opa_spelled.specs.Spelling.{is_sign, CanBePhrase}
 
 -- no line feed, quote, comma or colon
 abbrev pub unmarked : ℕ → Bool

@@ -1,5 +1,5 @@
 -- Where the parts of a printed line are cut: at commas and colons that stand in no text between quotes.
-use Rattle.std.specs.Prelude.{◌≡◌, ℕ, Bool, true, false, not, ◌&&◌, ◌||◌, ◌==◌, List, [], ◌∷◌, ◌++◌, MatchOption, Option, if◌then◌else◌}
+use Rattle.std.specs.Prelude.{◌≡◌, ℕ, Bool, true, false, not, ◌&&◌, ◌||◌, ◌==◌, List, [], ◌∷◌, ◌++◌, if◌then◌else◌}
 use Rattle.opa_words.specs.Quotes.{HasNoQuote, BeginsWithQuote}
 
 abbrev pub is_mark : ℕ → Bool

@@ -15,7 +15,7 @@ use Rattle.opa_spelled.specs.declared.reading.Reading.{Reading}
 use Rattle.opa_spelled.specs.declared.reading.Reading.TheVariants as reading
 use Rattle.opa_spelled.specs.Dated.{IsDated}
 use Rattle.opa_spelled.specs.Lines.{lined}
-use Rattle.opa_spelled.specs.Printed.{spelled_text, days_text, told_text, dated_text, head_line}
+use Rattle.opa_spelled.specs.Printed.{spelled_text, days_text, told_text, head_line}
 use Rattle.opa_spelled.specs.Spelling.{IsSpelled, IsSpot, IsOrigin, IsUnspelledAt}
 use Rattle.opa_date.specs.Texts.{day_text}
 

@@ -72,11 +72,13 @@ fn told_point(
 {
     match told_in(alloc, text)? {
         None => Ok(None),
-        Some(Told {
-            kind,
-            value,
-            origin,
-        }) => Ok(Some(Printed::Point {
+        Some(
+            Told {
+                kind,
+                value,
+                origin,
+            },
+        ) => Ok(Some(Printed::Point {
             spot,
             first,
             last,

@@ -16,7 +16,7 @@ mod texts;
 mod told;
 mod values;
 
-pub use laws::{one_first_fault, spelled_has_none};
+pub use laws::{one_first_fault, one_spelling, spelled_has_none, texts_are_spelled};
 pub use printed::{Origin, Printed, Spelled, Spot};
 pub use reading::{Reading, read_report};
 pub use texts::origin_text;

@@ -54,12 +54,7 @@ fn place_in(alloc: Global, text: &str, place: &str) -> Result<Option<Origin>, No
 }
 
 /// The only origin that may have this text, if it has it.
-fn place_as(
-    alloc: Global,
-    text: &str,
-    file: &str,
-    line: u32,
-) -> Result<Option<Origin>, NoMemory>
+fn place_as(alloc: Global, text: &str, file: &str, line: u32) -> Result<Option<Origin>, NoMemory>
     requires { (o : Origin) → IsOrigin o → origin_text_of o ≡ text.now → o ≡ origins.Rule file.now line }
     ensures { IfOk result (Reads IsOrigin origin_text_of text.now) }
 {

@@ -9,6 +9,6 @@ pub returns-in-None : goal.returns-in-None
 returns-in-None c = no_days c.args.spot c.args.rest.now c.requires c.in-None.ensures
 
 pub returns-in_ok-found-in-Some : goal.returns-in_ok-found-in-Some
-returns-in_ok-found-in-Some c = 
+returns-in_ok-found-in-Some c =
     reads_at CanBePrinted printed_text (placed_text c.args.spot (days_text c.in-Some.first c.in-Some.last) c.in-Some.told.now) (spot_text c.args.spot ++ 44 ∷ c.args.rest.now) c.in_ok-found-in-Some.found
     (placed_is c.args.spot c.args.rest.now c.in-Some.told.now c.in-Some.first c.in-Some.last c.in-Some.ensures) c.in_ok-found-in-Some.ensures

@@ -13,7 +13,7 @@ loop-byte-preserved c = (
 )
 
 pub returns-then-byte-eq34 : goal.returns-then-byte-eq34
-returns-then-byte-eq34 c = 
+returns-then-byte-eq34 c =
     quote_here c.args.text.now c.loop-byte.invariant.0 c.loop-byte.rest.now c.in-Some.later.now c.split_at.result.0.now c.split_at.result.1.now c.loop-byte.count c.in-Some.byte.now c.loop-byte.invariant.1 c.in-Some.ensures c.if-byte-eq34.true
     c.split_at.ensures.front c.split_at.ensures.by_index.0
 

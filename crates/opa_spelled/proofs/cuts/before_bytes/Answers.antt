@@ -1,4 +1,4 @@
-use Rattle.std.proofs.Common.{◌+◌, ◌-◌, length, sym, arith}
+use Rattle.std.proofs.Common.{sym, arith}
 use Rattle.opa_spelled.proofs.Cutting.{end_isnt}
 use Rattle.opa_spelled.proofs.cuts.before_bytes.Goals as goal
 

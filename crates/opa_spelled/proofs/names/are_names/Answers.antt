@@ -1,6 +1,6 @@
 use Rattle.std.proofs.Common.{subst}
 use Rattle.opa_spelled.specs.Spelling.{IsName}
-use Rattle.opa_spelled.proofs.Namely.{names_start, names_more, names_done, names_fail}
+use Rattle.opa_spelled.proofs.Namely.{names_start, names_more, names_done}
 use Rattle.opa_spelled.proofs.names.are_names.Goals as goal
 
 pub loop-name-init : goal.loop-name-init

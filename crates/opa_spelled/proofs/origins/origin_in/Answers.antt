@@ -1,4 +1,4 @@
-use Rattle.std.proofs.Common.{sym, ap, ◌∙◌, ◌++◌, codes, subst, ◌≡◌, ℕ, List}
+use Rattle.std.proofs.Common.{◌∙◌}
 use Rattle.opa_spelled.proofs.Oks.{isnt}
 use Rattle.opa_spelled.proofs.Placed.{no_origin}
 use Rattle.opa_spelled.proofs.origins.origin_in.Goals as goal

@@ -1,4 +1,4 @@
-use Rattle.std.proofs.Common.{◌+◌, length, arith}
+use Rattle.std.proofs.Common.{arith}
 use Rattle.opa_spelled.proofs.Daying.{no_day_end, no_at, point_at}
 use Rattle.opa_spelled.proofs.reading.dated_in.Goals as goal
 

@@ -12,5 +12,5 @@ returns-in-None c = ok_weaker c.broken_at.result _ _ (λ r e. subst (IsReadFrom 
 pub returns-in-None-2 : goal.returns-in-None-2
 returns-in-None-2 c =
     ok_weaker c.broken_at-in-None-2.result _ _ (λ r e. subst (IsReadFrom c.args.text.now) (sym e)
-      (no_head c.args.text.now c.in-Some.line.now (lined c.in-Some.rest.now) c.in-Some.ensures.lines (subst (λ o. Reads IsAsked asked_line c.in-Some.line.now o) c.in-None-2.is c.in_ok-head_in-in-Some.ensures)))
+    (no_head c.args.text.now c.in-Some.line.now (lined c.in-Some.rest.now) c.in-Some.ensures.lines (subst (λ o. Reads IsAsked asked_line c.in-Some.line.now o) c.in-None-2.is c.in_ok-head_in-in-Some.ensures)))
     c.broken_at-in-None-2.ensures

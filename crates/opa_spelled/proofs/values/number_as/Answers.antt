@@ -1,4 +1,4 @@
-use Rattle.std.proofs.Common.{◌∙◌, sym}
+use Rattle.std.proofs.Common.{◌∙◌}
 use Rattle.opa_spelled.proofs.Oks.{isnt}
 use Rattle.opa_spelled.proofs.Valued.{neither_number}
 use Rattle.opa_spelled.proofs.values.number_as.Goals as goal
