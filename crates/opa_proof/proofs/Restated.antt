@@ -25,6 +25,7 @@ use Rattle.opa_report_text.specs.Texts as told
 use Rattle.opa_report_text.specs.Texts.{line_text, numbered, first_line, report_text}
 use Rattle.opa_text.specs.Points.{point_text, instance_part, names_text}
 use Rattle.opa_text.specs.Texts.{value_text}
+use Rattle.opa_spelled.specs.Lines.{lined}
 use Rattle.opa_spelled.specs.Printed.{name_part, spot_text, origin_text, printed_text, numbered_line, lines_text, end_line, head_line, spelled_text}
 use Rattle.opa_spelled.specs.Reading.{IsTextOf}
 use Rattle.opa_spelled.specs.Same.{IsSame, AreSame, SamePoint, SaysSame}
@@ -41,13 +42,10 @@ use Rattle.opa_spelled.proofs.Sameness.{one_spelling_holds}
 use Rattle.opa_upheld.specs.Faults.{IsFirstFault}
 use Rattle.opa_upheld.specs.Proofs.{AreHeldUp, IsHeldUp}
 use Rattle.opa_upheld.specs.Told.{listing_of}
-use Rattle.opa_upheld.proofs.Orderly.{reports_are_held_up_holds}
-use Rattle.opa_mean.specs.Rulebases.{value_at}
 use Rattle.opa_proof.specs.Judging.{IsReadAs, IsNotDerivedAt, IsUnnamedAt, Judges, asked_value}
-use Rattle.opa_proof.specs.Laws.{ReportsGetYes}
 use Rattle.opa_proof.specs.Named.{IsFirstUnnamed}
 use Rattle.opa_proof.specs.Naming.{asked_point, named_line, named_point, named_members, named_member, AreNamed}
-use Rattle.opa_proof.specs.Restating.{name_of, spot_of, origin_by, spelled_line, spelled_of, IsRestated, IsOfCase}
+use Rattle.opa_proof.specs.Restating.{name_of, spot_of, origin_by, spelled_line, spelled_of, IsRestated}
 use Rattle.opa_proof.specs.declared.verdict.Verdict.{Verdict}
 use Rattle.opa_proof.specs.declared.verdict.Verdict.TheVariants as verdict
 use Rattle.opa_proof.proofs.Printing.{listed_is}
@@ -64,7 +62,7 @@ part_is i = go (is_same i global)
 point_is : (phrase : List ℕ) (i : InstanceId) → point_text phrase i ≡ spot_text (spot_of phrase i)
 point_is phrase i = ap (λ t. phrase ++ t) (part_is i)
 
-origin_is : (files : List (List ℕ)) (rule : Option Rule) (v : Value) → told.origin_text files rule v ≡ origin_text (origin_by files rule v)
+pub origin_is : (files : List (List ℕ)) (rule : Option Rule) (v : Value) → told.origin_text files rule v ≡ origin_text (origin_by files rule v)
 origin_is files (Some rule) v = refl
 origin_is files None v = go (is_unknown v)
   where
@@ -160,9 +158,9 @@ no_fault b lines n held f = f.isnt (held f.line (stands_in lines n f.line f.stan
 
 -- ---- the verdict
 
-module _ (r : Rulebase) (text : List ℕ) (x : Report) (is : IsRestated r x) (told : report_text r x ≡ text) (few : length text < 2 ^ 64) where
+module _ (r : Rulebase) (text : List ℕ) (x : Report) (is : IsRestated r x) (says : report_text r x ≡ text) (few : length text < 2 ^ 64) where
   own_text : spelled_text (spelled_of r x) ≡ text
-  own_text = sym (text_is r x) ∙ told
+  own_text = sym (text_is r x) ∙ says
 
   own_few : length (spelled_of r x).printed < 2 ^ 64
   own_few = few_printed (spelled_of r x) text own_text few
@@ -171,7 +169,7 @@ module _ (r : Rulebase) (text : List ℕ) (x : Report) (is : IsRestated r x) (to
   says_same s t = one_spelling_holds s (spelled_of r x) t.spelled is.spelled (few_printed s text t.is few) own_few (t.is ∙ sym own_text)
 
   no_syntax : (k : ℕ) → Judges r text (verdict.Syntax k) → ⊥
-  no_syntax k j = spelled_has_none_holds _ (spelled_of r x) k (text_spells (spelled_of r x) text is.spelled own_few own_text) j
+  no_syntax k j = spelled_has_none_holds (lined text) (spelled_of r x) k (text_spells (spelled_of r x) text is.spelled own_few own_text) j
 
   no_name : (k : ℕ) → Judges r text (verdict.Name k) → ⊥
   no_name k j = go j.1.1
@@ -208,8 +206,3 @@ module _ (r : Rulebase) (text : List ℕ) (x : Report) (is : IsRestated r x) (to
   gets_yes held v listed (verdict.Syntax k) j = absurd (no_syntax k j)
   gets_yes held v listed (verdict.Name k) j = absurd (no_name k j)
   gets_yes held v listed (verdict.NotDerived k) j = absurd (no_fault_in held v listed k j)
-
-pub reports_get_yes_holds : ReportsGetYes
-reports_get_yes_holds r text w of j =
-    let h = reports_are_held_up_holds r of.given of.fits of.report of.live of.entries of.days in
-    gets_yes r text of.report of.restated of.told of.few h.0 (value_at r of.given of.report.attr of.report.inst of.report.day) h.1 w j

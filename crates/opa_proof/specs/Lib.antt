@@ -1,3 +1,4 @@
+pub mod Fine
 pub mod Judging
 pub mod Laws
 pub mod Named

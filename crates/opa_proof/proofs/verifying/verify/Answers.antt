@@ -1,5 +1,5 @@
 use Rattle.opa_proof.proofs.Judged.{supported}
-use Rattle.opa_proof.proofs.Restated.{reports_get_yes_holds}
+use Rattle.opa_proof.proofs.Renamed.{reports_get_yes_holds}
 use Rattle.opa_proof.proofs.Saying.{told_judges}
 use Rattle.opa_proof.proofs.verifying.verify.Goals as goal
 

@@ -1,0 +1,272 @@
+-- What is printed of a report of a case names it again.
+use Rattle.std.proofs.Common.{◌≡◌, ◌≢◌, ◌⊎◌, inl, inr, ℕ, zero, suc, ◌+◌, ◌<◌, ◌≤◌, List, [], ◌∷◌, ◌++◌, map, length, flat_map, Bool, true, false, cond, Option, None, Some, Contains, AllPairs, ◌==◌, refl, sym, ◌∙◌, ap, subst, length-append, arith}
+use Rattle.std.specs.Prelude.{position, slice_get, slice_index_or, unwrap_or, nat_lt, ◌&&◌, ◌-◌}
+use Rattle.std.specs.Option.{option_map, option_and_then}
+use Rattle.std.specs.Str.{bytes_eq}
+use Rattle.std.proofs.lemmas.Bool.{and_parts, and_from, eqb-true, ltb-true}
+use Rattle.std.proofs.lemmas.List.{length-map, get_or-map, get_or_append_left, get_or-append-add}
+use Rattle.std.proofs.lemmas.List.Elements.{Contains-append_cases}
+use Rattle.std.proofs.lemmas.Option.{slice_get_within, get_or_from_slice_get, slice_get-get_or}
+use Rattle.opa_value.specs.declared.value.Value.{Value}
+use Rattle.opa_model.specs.declared.ids.AttrId.{AttrId}
+use Rattle.opa_model.specs.declared.ids.EntityId.{EntityId}
+use Rattle.opa_model.specs.declared.ids.RelId.{RelId}
+use Rattle.opa_model.specs.declared.lists.Lists.{Lists}
+use Rattle.opa_model.specs.declared.things.Attribute.{Attribute}
+use Rattle.opa_model.specs.declared.things.Entity.{Entity}
+use Rattle.opa_model.specs.declared.things.Kind.{Kind}
+use Rattle.opa_model.specs.declared.things.Relation.{Relation}
+use Rattle.opa_model.specs.Lookups.{attribute_named, relation_named, attribute_phrases, relation_phrases}
+use Rattle.opa_model.specs.Models.{IsModel, HasAttribute, HasRelation}
+use Rattle.opa_model.proofs.PhrasesLaws.{own_text, position-found, position-none}
+use Rattle.opa_case.specs.Cases.{CaseView, stored}
+use Rattle.opa_case.specs.Live.{container_of, is_live}
+use Rattle.opa_case.proofs.Shaped.{shape_is}
+use Rattle.opa_case.proofs.Stands.{in_upto}
+use Rattle.opa_case.specs.Shapes.{attribute_or, relation_or, no_attribute, no_relation, shape_of}
+use Rattle.opa_cells.specs.Instances.{is_same, global, named}
+use Rattle.opa_cells.specs.declared.instance.InstanceId.{InstanceId}
+use Rattle.opa_cells.proofs.Orders.{same_is, same_itself}
+use Rattle.opa_text.specs.Texts.{value_text}
+use Rattle.opa_tree.specs.declared.rulebase.Rulebase.{Rulebase}
+use Rattle.opa_tree.specs.Rules.{rule_of}
+use Rattle.opa_tree.proofs.Members.{none_in, contains_cases, contains_head, contains_tail, flat_out}
+use Rattle.opa_mean.specs.Completion.{AreFacts, IsContained}
+use Rattle.opa_mean.specs.Given.{base_of, facts_of}
+use Rattle.opa_mean.specs.Mean.{Base, Facts, IsLive}
+use Rattle.opa_mean.specs.Places.{is_of, owner_of}
+use Rattle.opa_mean.specs.Rulebases.{IsOf, value_at}
+use Rattle.opa_mean.specs.Slots.{has_place}
+use Rattle.opa_mean.specs.Uses.{Listed}
+use Rattle.opa_mean.proofs.Fitting.{live_in}
+use Rattle.opa_mean.proofs.Filtered.{filter_out, map_out}
+use Rattle.opa_mean.proofs.LawsOver.{facts}
+use Rattle.opa_report.specs.Promises.{is_point, IsExact, IsDeclaredBy, LineIsDeclared}
+use Rattle.opa_report.specs.ReportLines.{IsReport, slots, keys, by_rank, relations, with_instances, of_entity, lines_of, point_lines, list_lines, member_lines, slot_lines, key_lines, contained_lines, point_line}
+use Rattle.opa_report.specs.Runs.{Run}
+use Rattle.opa_report.specs.declared.lines.Report.{Report}
+use Rattle.opa_report.specs.declared.lines.ReportLine.{ReportLine}
+use Rattle.opa_report.specs.declared.lines.ReportLine.TheVariants as line
+use Rattle.opa_report_text.specs.Texts as told
+use Rattle.opa_spelled.specs.Printed.{origin_text}
+use Rattle.opa_spelled.specs.Spelling.{IsSpelled}
+use Rattle.opa_upheld.proofs.Orderly.{reports_are_held_up_holds}
+use Rattle.opa_spelled.specs.declared.printed.Printed.{Printed}
+use Rattle.opa_proof.specs.Naming.{instance_for, is_printed_so, point_at, list_at, asked_point, named_line, named_members, named_member, named_point, member_line, AreNamed}
+use Rattle.opa_proof.specs.Restating.{name_of, spot_of, origin_by, spelled_line, spelled_of, IsRestated}
+use Rattle.opa_proof.specs.Laws.{ReportsGetYes}
+use Rattle.opa_proof.proofs.Restated.{origin_is, gets_yes}
+
+-- ---- phrases
+
+order : (a b : ℕ) → (a < b) ⊎ ((a ≡ b) ⊎ (b < a))
+order a b = grind arith
+
+own_position : (ps : List (List ℕ)) (n : ℕ) (t : List ℕ) → AllPairs (λ p q. p ≢ q) ps → slice_get ps n ≡ Some t → position (bytes_eq t) ps ≡ Some n
+own_position ps n t apart at = go (position (bytes_eq t) ps) refl
+  where
+    here : (k : ℕ) → slice_get ps k ≡ Some t → slice_index_or ps k t ≡ t
+    here k e = get_or_from_slice_get ps k t t e
+
+    one : (k : ℕ) → slice_get ps k ≡ Some t → (k < n) ⊎ ((k ≡ n) ⊎ (n < k)) → k ≡ n
+    one k e (inl lt) = absurd (apart k n t lt (slice_get_within ps n t at) (here k e ∙ sym (here n at)))
+    one k e (inr (inl same)) = same
+    one k e (inr (inr lt)) = absurd (apart n k t lt (slice_get_within ps k t e) (here n at ∙ sym (here k e)))
+
+    go : (o : Option ℕ) → o ≡ position (bytes_eq t) ps → position (bytes_eq t) ps ≡ Some n
+    go None e = absurd ((position-none t ps None e).0 refl (n, slice_get_within ps n t at, here n at))
+    go (Some k) e = sym e ∙ ap Some (one k (position-found t ps (Some k) e) (order k n))
+
+pairs_left : (xs ys : List (List ℕ)) → AllPairs (λ p q. p ≢ q) (xs ++ ys) → AllPairs (λ p q. p ≢ q) xs
+pairs_left xs ys h i j d lt within e =
+    h i j d lt (omega (arith, within, length-append xs ys)) (get_or_append_left xs ys d i (omega (arith, lt, within)) ∙ e ∙ sym (get_or_append_left xs ys d j within))
+
+pairs_right : (xs ys : List (List ℕ)) → AllPairs (λ p q. p ≢ q) (xs ++ ys) → AllPairs (λ p q. p ≢ q) ys
+pairs_right xs ys h i j d lt within e =
+    h (length xs + i) (length xs + j) d (omega (arith, lt)) (omega (arith, within, length-append xs ys)) (get_or-append-add xs ys i d ∙ e ∙ sym (get_or-append-add xs ys j d))
+
+phrase_at : {A : Type 0} (f : A → List ℕ) (xs : List A) (n : ℕ) (d : A) → n < length xs → slice_get (map f xs) n ≡ Some (f (unwrap_or (slice_get xs n) d))
+phrase_at f xs n d lt =
+    slice_get-get_or (map f xs) n (f d) (omega (arith, lt, length-map xs f)) ∙ ap Some (get_or-map f xs n d (f d) lt)
+    ∙ ap (λ o. Some (f (unwrap_or o d))) (sym (slice_get-get_or xs n d lt))
+
+module _ (m : Lists) (im : IsModel m) where
+  own_attribute : (a : AttrId) → a.0 < length m.attributes → attribute_named m (attribute_or m a).phrase ≡ Some a
+  own_attribute a lt =
+      ap (option_map (λ k. let x : AttrId = record { 0 = k } in x))
+      (own_position (attribute_phrases m) a.0 (attribute_or m a).phrase (pairs_left (attribute_phrases m) (relation_phrases m) im.phrases_differ) (phrase_at (λ (x : Attribute). x.phrase) m.attributes a.0 no_attribute lt))
+
+  own_relation : (q : RelId) → q.0 < length m.relations → relation_named m (relation_or m q).phrase ≡ Some q
+  own_relation q lt =
+      ap (option_map (λ k. let x : RelId = record { 0 = k } in x))
+      (own_position (relation_phrases m) q.0 (relation_or m q).phrase (pairs_right (attribute_phrases m) (relation_phrases m) im.phrases_differ) (phrase_at (λ (x : Relation). x.phrase) m.relations q.0 no_relation lt))
+
+-- ---- instances
+
+-- the instance is the entity's one with its name
+Belongs : ℕ → InstanceId → Type 0
+Belongs e i = instance_for e (name_of i) ≡ Some i
+
+not_global : (k : ℕ) (i : InstanceId) → i.entity.0 ≡ suc k → is_same i global ≡ false
+not_global k i e = go (is_same i global) refl
+  where
+    go : (b : Bool) → is_same i global ≡ b → is_same i global ≡ false
+    go false h = h
+    go true h = absurd (let q : suc k ≡ 0 = sym e ∙ ap (λ (j : InstanceId). j.entity.0) (same_is i global h) in cc q)
+
+module _ (s : Rulebase) (c : CaseView) (is : IsOf s c) where
+  af : AreFacts (base_of s).shape (facts_of c)
+  af = facts s c is
+
+  belongs : (e : ℕ) (i : InstanceId) → IsLive (facts_of c) i → i.entity.0 ≡ e → Belongs e i
+  unfolding Belongs
+  belongs zero i live e =
+      subst (λ (j : InstanceId). instance_for zero (name_of j) ≡ Some j) (sym (af.only_global i live e)) (ap (λ b. instance_for zero (cond b None (Some global.name))) (same_itself global))
+  belongs (suc k) i live e =
+      ap (λ b. instance_for (suc k) (cond b None (Some i.name))) (not_global k i e) ∙ ap (λ (n : ℕ). let j : InstanceId = record { entity = record { 0 = n }; name = i.name } in Some j) (sym e)
+
+  -- an instance that is listed for an entity
+  listed_of : (e : ℕ) (i : InstanceId) → Contains (of_entity (facts_of c) e) i → Belongs e i
+  listed_of e i there = let h = filter_out (is_of e) (facts_of c).instances i there in belongs e i h.0 (eqb-true i.entity.0 e h.1)
+
+  -- ---- lines
+
+  Named : ReportLine → Type 0
+  Named l = named_line s (spelled_line s l) ≡ Some l
+
+  asked_again : (a : AttrId) (i : InstanceId) → a.0 < length s.model.attributes → Belongs (owner_of (base_of s).shape a) i → asked_point s (spot_of (attribute_or s.model a).phrase i) ≡ Some (a, i)
+  unfolding Belongs
+  asked_again a i has own =
+      ap (option_and_then (λ (b : AttrId). option_map (λ (j : InstanceId). (b, j)) (point_at s.model b (spot_of (attribute_or s.model a).phrase i)))) (own_attribute s.model is.is_model a has)
+      ∙ ap (option_map (λ (j : InstanceId). (a, j))) own
+
+  printed_again : (a : AttrId) (v : Value) → is_printed_so s a (attribute_or s.model a).kind v (origin_by s.files (rule_of s.rules a) v) ≡ true
+  printed_again a v =
+      and_from (bytes_eq (value_text (attribute_or s.model a).kind v) (value_text (attribute_or s.model a).kind v)) (bytes_eq (told.origin_text s.files (rule_of s.rules a) v) (origin_text (origin_by s.files (rule_of s.rules a) v)))
+      (own_text (value_text (attribute_or s.model a).kind v))
+      (ap (bytes_eq (told.origin_text s.files (rule_of s.rules a) v)) (sym (origin_is s.files (rule_of s.rules a) v)) ∙ own_text (told.origin_text s.files (rule_of s.rules a) v))
+
+  point_again : (a : AttrId) (i : InstanceId) (f t : ℕ) (v : Value) → a.0 < length s.model.attributes → Belongs (owner_of (base_of s).shape a) i → Named (line.Point a i f t v)
+  unfolding Named
+  point_again a i f t v has own =
+      ap (option_and_then (λ (x : AttrId × InstanceId). cond (is_printed_so s x.0 (attribute_or s.model a).kind v (origin_by s.files (rule_of s.rules a) v)) (Some (line.Point x.0 x.1 f t v)) None)) (asked_again a i has own)
+      ∙ ap (λ b. cond b (Some (line.Point a i f t v)) None) (printed_again a v)
+
+  members_again : (q : RelId) (i : InstanceId) (names : Option (List (List ℕ))) → q.0 < length s.model.relations → Belongs ((base_of s).shape.source q) i → Named (line.Members q i names)
+  unfolding Named Belongs
+  members_again q i names has own =
+      ap (option_and_then (λ (p : RelId). option_map (λ (j : InstanceId). line.Members p j names) (list_at s.model p (spot_of (relation_or s.model q).phrase i)))) (own_relation s.model is.is_model q has)
+      ∙ ap (option_map (λ (j : InstanceId). line.Members q j names)) own
+
+  member_again : (q : RelId) (k i : InstanceId) → q.0 < length s.model.relations → (relation_or s.model q).contains ≡ true → (relation_or s.model q).target.0 ≡ i.entity.0 → Belongs ((base_of s).shape.source q) k → Named (line.Member q k i)
+  unfolding Named Belongs
+  member_again q k i has contains target own =
+      ap (option_and_then (λ (p : RelId). member_line s.model p (spot_of (relation_or s.model q).phrase k) i.name)) (own_relation s.model is.is_model q has)
+      ∙ ap (λ b. cond b (option_map (λ (j : InstanceId). line.Member q j (named (relation_or s.model q).target.0 i.name)) (list_at s.model q (spot_of (relation_or s.model q).phrase k))) None) contains
+      ∙ ap (option_map (λ (j : InstanceId). line.Member q j (named (relation_or s.model q).target.0 i.name))) own
+      ∙ ap (λ (n : ℕ). let j : InstanceId = record { entity = record { 0 = n }; name = i.name } in Some (line.Member q k j)) target
+
+  module _ (x : Report) (exact : IsExact s c x) (declared : IsDeclaredBy s x) where
+    of_points : (l : ReportLine) → Contains (point_lines (base_of s) (facts_of c) exact.used) l → LineIsDeclared s.model l → Named l
+    of_points l there d =
+        let slot = flat_out (λ (p : AttrId × InstanceId). slot_lines (base_of s) (facts_of c) exact.used p.0 p.1) (slots (base_of s) (facts_of c)) l there in
+        let a = slot.0.0 in let i = slot.0.1 in
+        let run = map_out (point_line a i) _ l slot.1.1 in
+        let attr = flat_out (with_instances (base_of s) (facts_of c)) (by_rank (base_of s)) slot.0 slot.1.0 in
+        let inst = map_out (λ (j : InstanceId). (attr.0, j)) (of_entity (facts_of c) (owner_of (base_of s).shape attr.0)) slot.0 attr.1.1 in
+        let same : attr.0 ≡ a = ap (λ (p : AttrId × InstanceId). p.0) inst.1.1 in
+        let own : inst.0 ≡ i = ap (λ (p : AttrId × InstanceId). p.1) inst.1.1 in
+        let here : Contains (of_entity (facts_of c) (owner_of (base_of s).shape a)) i =
+        subst (λ (b : AttrId). Contains (of_entity (facts_of c) (owner_of (base_of s).shape b)) i) same (subst (λ (j : InstanceId). Contains (of_entity (facts_of c) (owner_of (base_of s).shape attr.0)) j) own inst.1.0) in
+        subst Named run.1.1 (point_again a i run.0.first run.0.last run.0.value (subst (LineIsDeclared s.model) (sym run.1.1) d) (listed_of (owner_of (base_of s).shape a) i here))
+
+    of_lists : (l : ReportLine) → Contains (list_lines (base_of s) (facts_of c) exact.used) l → LineIsDeclared s.model l → Named l
+    of_lists l there d =
+        let key = flat_out (λ (p : RelId × InstanceId). key_lines (base_of s) (facts_of c) exact.used p.0 p.1) (keys (base_of s) (facts_of c)) l there in
+        let q = key.0.0 in let i = key.0.1 in
+        let rel = flat_out (λ (r : RelId). map (λ (j : InstanceId). (r, j)) (of_entity (facts_of c) ((base_of s).shape.source r))) (relations (base_of s).shape.relations) key.0 key.1.0 in
+        let inst = map_out (λ (j : InstanceId). (rel.0, j)) (of_entity (facts_of c) ((base_of s).shape.source rel.0)) key.0 rel.1.1 in
+        let same : rel.0 ≡ q = ap (λ (p : RelId × InstanceId). p.0) inst.1.1 in
+        let own : inst.0 ≡ i = ap (λ (p : RelId × InstanceId). p.1) inst.1.1 in
+        let here : Contains (of_entity (facts_of c) ((base_of s).shape.source q)) i =
+        subst (λ (b : RelId). Contains (of_entity (facts_of c) ((base_of s).shape.source b)) i) same (subst (λ (j : InstanceId). Contains (of_entity (facts_of c) ((base_of s).shape.source rel.0)) j) own inst.1.0) in
+        line_of q i here (exact.used (Listed q i)) key.1.1
+      where
+        line_of : (q : RelId) (i : InstanceId) → Contains (of_entity (facts_of c) ((base_of s).shape.source q)) i → (b : Bool) → Contains (cond b (line.Members q i ((facts_of c).members q i) ∷ []) []) l → Named l
+        line_of q i here false h = absurd (none_in l h)
+        line_of q i here true h = the (contains_cases (line.Members q i ((facts_of c).members q i)) l [] h)
+          where
+            the : (line.Members q i ((facts_of c).members q i) ≡ l) ⊎ Contains [] l → Named l
+            the (inl e) = subst Named e (members_again q i ((facts_of c).members q i) (subst (LineIsDeclared s.model) (sym e) d) (listed_of ((base_of s).shape.source q) i here))
+            the (inr h) = absurd (none_in l h)
+
+    of_containers : (l : ReportLine) → Contains (member_lines (base_of s) (facts_of c) exact.owned) l → LineIsDeclared s.model l → Named l
+    of_containers l there d =
+        let inst = flat_out (λ (j : InstanceId). cond (exact.owned j) (contained_lines (base_of s) (facts_of c) j ((facts_of c).container j)) []) (facts_of c).instances l there in
+        owned inst.0 (exact.owned inst.0) inst.1.1
+      where
+        the : (k j : InstanceId) → (facts_of c).container j ≡ Some k → (line.Member ((base_of s).shape.contained j.entity.0) k j ≡ l) ⊎ Contains [] l → Named l
+        the k j e (inr h) = absurd (none_in l h)
+        the k j e (inl same) =
+            let m = shape_of s.model in
+            let shape = shape_is s.model is.is_model in
+            let up = in_upto m (stored c.lists) (m.count - 1) j k (sym (ap (λ l. container_of l j) is.fits.live) ∙ e) in
+            let has = up.2 in
+            let inside : j.entity.0 < m.count = omega (arith, up.1, shape.some) in
+            let q = m.contained j.entity.0 in
+            let live = live_in c k (is.fits.listed q k has.names has.known) in
+            subst Named same (member_again q k j (subst (LineIsDeclared s.model) (sym same) d) (shape.contains j.entity.0 up.0 inside) (shape.target j.entity.0 up.0 inside)
+              (belongs (m.source q) k live (is.fits.sound.source q k has.names has.known)))
+
+        held : (j : InstanceId) (o : Option InstanceId) → (facts_of c).container j ≡ o → Contains (contained_lines (base_of s) (facts_of c) j o) l → Named l
+        held j None e h = absurd (none_in l h)
+        held j (Some k) e h = the k j e (contains_cases (line.Member ((base_of s).shape.contained j.entity.0) k j) l [] h)
+
+        owned : (j : InstanceId) (b : Bool) → Contains (cond b (contained_lines (base_of s) (facts_of c) j ((facts_of c).container j)) []) l → Named l
+        owned j false h = absurd (none_in l h)
+        owned j true h = held j ((facts_of c).container j) refl h
+
+    each_line : (l : ReportLine) → Contains x.lines l → Named l
+    each_line l there = one (Contains-append_cases points (lists ++ members) l (subst (λ ls. Contains ls l) exact.are there))
+      where
+        points : List ReportLine
+        points = point_lines (base_of s) (facts_of c) exact.used
+
+        lists : List ReportLine
+        lists = list_lines (base_of s) (facts_of c) exact.used
+
+        members : List ReportLine
+        members = member_lines (base_of s) (facts_of c) exact.owned
+
+        two : Contains lists l ⊎ Contains members l → Named l
+        two (inl h) = of_lists l h (declared l there)
+        two (inr h) = of_containers l h (declared l there)
+
+        one : Contains points l ⊎ Contains (lists ++ members) l → Named l
+        one (inl h) = of_points l h (declared l there)
+        one (inr h) = two (Contains-append_cases lists members l h)
+
+    lines_named : (ls : List ReportLine) → ((l : ReportLine) → Contains ls l → Named l) → AreNamed s (map (spelled_line s) ls) ls
+    unfolding Named
+    lines_named [] h = tt
+    lines_named (l ∷ ls) h = (h l (contains_head l ls), lines_named ls (λ k there. h k (contains_tail l k ls there)))
+
+    pub restated : is_point s c x.attr x.inst ≡ true → IsSpelled (spelled_of s x) → IsRestated s x
+    restated point can =
+        let outer = and_parts (nat_lt x.attr.0 (length s.model.attributes)) (has_place s c x.attr x.inst) point in
+        let place = and_parts (is_live c.live x.inst) (x.inst.entity.0 == owner_of (shape_of s.model) x.attr) outer.1 in
+        let has : x.attr.0 < length s.model.attributes = ltb-true x.attr.0 (length s.model.attributes) outer.0 in
+        let own = belongs (owner_of (base_of s).shape x.attr) x.inst (live_in c x.inst place.0) (eqb-true x.inst.entity.0 (owner_of (shape_of s.model) x.attr) place.1) in
+        record { spelled = can; asked = asked_again x.attr x.inst has own; lines = lines_named x.lines each_line }
+
+    pub is_alive : is_point s c x.attr x.inst ≡ true → is_live c.live x.inst ≡ true
+    is_alive point =
+        let outer = and_parts (nat_lt x.attr.0 (length s.model.attributes)) (has_place s c x.attr x.inst) point in
+        (and_parts (is_live c.live x.inst) (x.inst.entity.0 == owner_of (shape_of s.model) x.attr) outer.1).0
+
+pub reports_get_yes_holds : ReportsGetYes
+reports_get_yes_holds r text w of j =
+    let x = of.report in
+    let live = is_alive r of.given of.fits x of.exact of.declared of.point in
+    let h = reports_are_held_up_holds r of.given of.fits x live of.entries of.days in
+    gets_yes r text x (restated r of.given of.fits x of.exact of.declared of.point of.printable) of.told of.few h.0 (value_at r of.given x.attr x.inst x.day) h.1 w j
