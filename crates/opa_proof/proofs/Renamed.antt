@@ -2,12 +2,15 @@
 use Rattle.std.proofs.Common.{◌≡◌, ◌≢◌, ◌⊎◌, inl, inr, ℕ, zero, suc, ◌+◌, ◌<◌, ◌≤◌, List, [], ◌∷◌, ◌++◌, map, length, flat_map, Bool, true, false, cond, Option, None, Some, Contains, AllPairs, ◌==◌, refl, sym, ◌∙◌, ap, subst, length-append, arith}
 use Rattle.std.specs.Prelude.{position, slice_get, slice_index_or, unwrap_or, nat_lt, ◌&&◌, ◌-◌}
 use Rattle.std.specs.Option.{option_map, option_and_then}
+use Rattle.std.specs.List.{AllByRecursion}
 use Rattle.std.specs.Str.{bytes_eq}
 use Rattle.std.proofs.lemmas.Bool.{and_parts, and_from, eqb-true, ltb-true}
 use Rattle.std.proofs.lemmas.List.{length-map, get_or-map, get_or_append_left, get_or-append-add}
 use Rattle.std.proofs.lemmas.List.Elements.{Contains-append_cases}
 use Rattle.std.proofs.lemmas.Option.{slice_get_within, get_or_from_slice_get, slice_get-get_or}
+use Rattle.opa_date.specs.declared.TheConstants.{DAYS}
 use Rattle.opa_value.specs.declared.value.Value.{Value}
+use Rattle.opa_value.specs.Truth.{is_unknown}
 use Rattle.opa_model.specs.declared.ids.AttrId.{AttrId}
 use Rattle.opa_model.specs.declared.ids.EntityId.{EntityId}
 use Rattle.opa_model.specs.declared.ids.RelId.{RelId}
@@ -19,7 +22,7 @@ use Rattle.opa_model.specs.declared.things.Relation.{Relation}
 use Rattle.opa_model.specs.Lookups.{attribute_named, relation_named, attribute_phrases, relation_phrases}
 use Rattle.opa_model.specs.Models.{IsModel, HasAttribute, HasRelation}
 use Rattle.opa_model.proofs.PhrasesLaws.{own_text, position-found, position-none}
-use Rattle.opa_case.specs.Cases.{CaseView, stored}
+use Rattle.opa_case.specs.Cases.{CaseView, list_of, stored}
 use Rattle.opa_case.specs.Live.{container_of, is_live}
 use Rattle.opa_case.proofs.Shaped.{shape_is}
 use Rattle.opa_case.proofs.Stands.{in_upto}
@@ -27,21 +30,25 @@ use Rattle.opa_case.specs.Shapes.{attribute_or, relation_or, no_attribute, no_re
 use Rattle.opa_cells.specs.Instances.{is_same, global, named}
 use Rattle.opa_cells.specs.declared.instance.InstanceId.{InstanceId}
 use Rattle.opa_cells.proofs.Orders.{same_is, same_itself}
+use Rattle.opa_text.specs.Laws.{CanBeWritten}
 use Rattle.opa_text.specs.Texts.{value_text}
 use Rattle.opa_tree.specs.declared.rulebase.Rulebase.{Rulebase}
+use Rattle.opa_tree.specs.declared.rules.Rule.{Rule}
 use Rattle.opa_tree.specs.Rules.{rule_of}
 use Rattle.opa_tree.proofs.Members.{none_in, contains_cases, contains_head, contains_tail, flat_out}
 use Rattle.opa_mean.specs.Completion.{AreFacts, IsContained}
 use Rattle.opa_mean.specs.Given.{base_of, facts_of}
-use Rattle.opa_mean.specs.Mean.{Base, Facts, IsLive}
+use Rattle.opa_mean.specs.Mean.{Base, Facts, IsLive, mean}
+use Rattle.opa_mean.specs.Reports.{Entry, InReport, PointIs}
 use Rattle.opa_mean.specs.Places.{is_of, owner_of}
 use Rattle.opa_mean.specs.Rulebases.{IsOf, value_at}
 use Rattle.opa_mean.specs.Slots.{has_place}
-use Rattle.opa_mean.specs.Uses.{Listed}
+use Rattle.opa_mean.specs.Uses.{Use, Point, Listed}
 use Rattle.opa_mean.proofs.Fitting.{live_in}
 use Rattle.opa_mean.proofs.Filtered.{filter_out, map_out}
 use Rattle.opa_mean.proofs.LawsOver.{facts}
-use Rattle.opa_report.specs.Promises.{is_point, IsExact, IsDeclaredBy, LineIsDeclared}
+use Rattle.opa_report.specs.Promises.{is_point, IsExact, ListsEntries, HasDays, IsDeclaredBy, LineIsDeclared}
+use Rattle.opa_report.specs.Supporting as support
 use Rattle.opa_report.specs.ReportLines.{IsReport, slots, keys, by_rank, relations, with_instances, of_entity, lines_of, point_lines, list_lines, member_lines, slot_lines, key_lines, contained_lines, point_line}
 use Rattle.opa_report.specs.Runs.{Run}
 use Rattle.opa_report.specs.declared.lines.Report.{Report}
@@ -49,13 +56,26 @@ use Rattle.opa_report.specs.declared.lines.ReportLine.{ReportLine}
 use Rattle.opa_report.specs.declared.lines.ReportLine.TheVariants as line
 use Rattle.opa_report_text.specs.Texts as told
 use Rattle.opa_spelled.specs.Printed.{origin_text}
-use Rattle.opa_spelled.specs.Spelling.{IsSpelled}
+use Rattle.opa_spelled.specs.Spelling.{AreNames, CanBePrinted, IsOrigin, IsSpelled, MayBeName}
+use Rattle.opa_spelled.specs.declared.printed.Origin.TheVariants as origin
+use Rattle.opa_proof.specs.Fine.{IsPrintableBase, IsPrintableCase}
+use Rattle.opa_proof.proofs.Fining.{value_written}
 use Rattle.opa_upheld.proofs.Orderly.{reports_are_held_up_holds}
 use Rattle.opa_spelled.specs.declared.printed.Printed.{Printed}
 use Rattle.opa_proof.specs.Naming.{instance_for, is_printed_so, point_at, list_at, asked_point, named_line, named_members, named_member, named_point, member_line, AreNamed}
 use Rattle.opa_proof.specs.Restating.{name_of, spot_of, origin_by, spelled_line, spelled_of, IsRestated}
 use Rattle.opa_proof.specs.Laws.{ReportsGetYes}
 use Rattle.opa_proof.proofs.Restated.{origin_is, gets_yes}
+
+-- ---- values
+
+-- a point that a report lists has its value
+told_value : (b : Base) (c : Facts) (p : Use) (e : Entry) → InReport b c p e → (a : AttrId) (i : InstanceId) (d : ℕ) (v : Value) → e ≡ PointIs a i d v → mean b c a i d ≡ v
+told_value b c p _ (InReport.point a' i' d' cone) a i d v e =
+    let x : a' ≡ a = cc e in let y : i' ≡ i = cc e in let z : d' ≡ d = cc e in let w : mean b c a' i' d' ≡ v = cc e in
+    sym (ap (λ k. mean b c k i' d') x ∙ ap (λ k. mean b c a k d') y ∙ ap (λ k. mean b c a i k) z) ∙ w
+told_value b c p _ (InReport.list q j cone) a i d v e = absurd (cc e)
+told_value b c p _ (InReport.member u j k l cone own above up) a i d v e = absurd (cc e)
 
 -- ---- phrases
 
@@ -114,6 +134,13 @@ not_global k i e = go (is_same i global) refl
     go false h = h
     go true h = absurd (let q : suc k ≡ 0 = sym e ∙ ap (λ (j : InstanceId). j.entity.0) (same_is i global h) in cc q)
 
+above_zero : (i : InstanceId) → 0 < i.entity.0 → is_same i global ≡ false
+above_zero i h = go (is_same i global) refl
+  where
+    go : (b : Bool) → is_same i global ≡ b → is_same i global ≡ false
+    go false e = e
+    go true e = absurd (let q : i.entity.0 ≡ 0 = ap (λ (j : InstanceId). j.entity.0) (same_is i global e) in omega (arith, h, q))
+
 module _ (s : Rulebase) (c : CaseView) (is : IsOf s c) where
   af : AreFacts (base_of s).shape (facts_of c)
   af = facts s c is
@@ -125,14 +152,27 @@ module _ (s : Rulebase) (c : CaseView) (is : IsOf s c) where
   belongs (suc k) i live e =
       ap (λ b. instance_for (suc k) (cond b None (Some i.name))) (not_global k i e) ∙ ap (λ (n : ℕ). let j : InstanceId = record { entity = record { 0 = n }; name = i.name } in Some j) (sym e)
 
-  -- an instance that is listed for an entity
-  listed_of : (e : ℕ) (i : InstanceId) → Contains (of_entity (facts_of c) e) i → Belongs e i
-  listed_of e i there = let h = filter_out (is_of e) (facts_of c).instances i there in belongs e i h.0 (eqb-true i.entity.0 e h.1)
+  -- an instance that is live and of the entity
+  abbrev OfEntity : ℕ → InstanceId → Type 0
+  OfEntity e i = IsLive (facts_of c) i × (i.entity.0 ≡ e)
+
+  listed_of : (e : ℕ) (i : InstanceId) → Contains (of_entity (facts_of c) e) i → OfEntity e i
+  listed_of e i there = let h = filter_out (is_of e) (facts_of c).instances i there in (h.0, eqb-true i.entity.0 e h.1)
+
+  own_of : (e : ℕ) (i : InstanceId) → OfEntity e i → Belongs e i
+  own_of e i h = belongs e i h.0 h.1
 
   -- ---- lines
 
   Named : ReportLine → Type 0
   Named l = named_line s (spelled_line s l) ≡ Some l
+
+  -- where the point, or the list, of a line is
+  Placed : ReportLine → Type 0
+  Placed (line.Point a i f t v) = (a.0 < length s.model.attributes) × OfEntity (owner_of (base_of s).shape a) i
+  Placed (line.Members q i names) = (q.0 < length s.model.relations) × (OfEntity ((base_of s).shape.source q) i × (list_of c q i ≡ names))
+  Placed (line.Member q k i) =
+      (q.0 < length s.model.relations) × (((relation_or s.model q).contains ≡ true) × (((relation_or s.model q).target.0 ≡ i.entity.0) × (OfEntity ((base_of s).shape.source q) k × (IsLive (facts_of c) i × (is_same i global ≡ false)))))
 
   asked_again : (a : AttrId) (i : InstanceId) → a.0 < length s.model.attributes → Belongs (owner_of (base_of s).shape a) i → asked_point s (spot_of (attribute_or s.model a).phrase i) ≡ Some (a, i)
   unfolding Belongs
@@ -166,8 +206,15 @@ module _ (s : Rulebase) (c : CaseView) (is : IsOf s c) where
       ∙ ap (option_map (λ (j : InstanceId). line.Member q j (named (relation_or s.model q).target.0 i.name))) own
       ∙ ap (λ (n : ℕ). let j : InstanceId = record { entity = record { 0 = n }; name = i.name } in Some (line.Member q k j)) target
 
+  named_again : (l : ReportLine) → Placed l → Named l
+  unfolding Placed
+  named_again (line.Point a i f t v) h = point_again a i f t v h.0 (own_of (owner_of (base_of s).shape a) i h.1)
+  named_again (line.Members q i names) h = members_again q i names h.0 (own_of ((base_of s).shape.source q) i h.1.0)
+  named_again (line.Member q k i) h = member_again q k i h.0 h.1.0 h.1.1.0 (own_of ((base_of s).shape.source q) k h.1.1.1.0)
+
   module _ (x : Report) (exact : IsExact s c x) (declared : IsDeclaredBy s x) where
-    of_points : (l : ReportLine) → Contains (point_lines (base_of s) (facts_of c) exact.used) l → LineIsDeclared s.model l → Named l
+    of_points : (l : ReportLine) → Contains (point_lines (base_of s) (facts_of c) exact.used) l → LineIsDeclared s.model l → Placed l
+    unfolding Placed
     of_points l there d =
         let slot = flat_out (λ (p : AttrId × InstanceId). slot_lines (base_of s) (facts_of c) exact.used p.0 p.1) (slots (base_of s) (facts_of c)) l there in
         let a = slot.0.0 in let i = slot.0.1 in
@@ -178,9 +225,18 @@ module _ (s : Rulebase) (c : CaseView) (is : IsOf s c) where
         let own : inst.0 ≡ i = ap (λ (p : AttrId × InstanceId). p.1) inst.1.1 in
         let here : Contains (of_entity (facts_of c) (owner_of (base_of s).shape a)) i =
         subst (λ (b : AttrId). Contains (of_entity (facts_of c) (owner_of (base_of s).shape b)) i) same (subst (λ (j : InstanceId). Contains (of_entity (facts_of c) (owner_of (base_of s).shape attr.0)) j) own inst.1.0) in
-        subst Named run.1.1 (point_again a i run.0.first run.0.last run.0.value (subst (LineIsDeclared s.model) (sym run.1.1) d) (listed_of (owner_of (base_of s).shape a) i here))
+        subst Placed run.1.1 (subst (LineIsDeclared s.model) (sym run.1.1) d, listed_of (owner_of (base_of s).shape a) i here)
 
-    of_lists : (l : ReportLine) → Contains (list_lines (base_of s) (facts_of c) exact.used) l → LineIsDeclared s.model l → Named l
+    of_list : (l : ReportLine) → LineIsDeclared s.model l → (q : RelId) (i : InstanceId) → Contains (of_entity (facts_of c) ((base_of s).shape.source q)) i → (b : Bool) → Contains (cond b (line.Members q i ((facts_of c).members q i) ∷ []) []) l → Placed l
+    unfolding Placed
+    of_list l d q i here false h = absurd (none_in l h)
+    of_list l d q i here true h = the (contains_cases (line.Members q i ((facts_of c).members q i)) l [] h)
+      where
+        the : (line.Members q i ((facts_of c).members q i) ≡ l) ⊎ Contains [] l → Placed l
+        the (inl e) = subst Placed e (subst (LineIsDeclared s.model) (sym e) d, (listed_of ((base_of s).shape.source q) i here, refl))
+        the (inr k) = absurd (none_in l k)
+
+    of_lists : (l : ReportLine) → Contains (list_lines (base_of s) (facts_of c) exact.used) l → LineIsDeclared s.model l → Placed l
     of_lists l there d =
         let key = flat_out (λ (p : RelId × InstanceId). key_lines (base_of s) (facts_of c) exact.used p.0 p.1) (keys (base_of s) (facts_of c)) l there in
         let q = key.0.0 in let i = key.0.1 in
@@ -190,43 +246,41 @@ module _ (s : Rulebase) (c : CaseView) (is : IsOf s c) where
         let own : inst.0 ≡ i = ap (λ (p : RelId × InstanceId). p.1) inst.1.1 in
         let here : Contains (of_entity (facts_of c) ((base_of s).shape.source q)) i =
         subst (λ (b : RelId). Contains (of_entity (facts_of c) ((base_of s).shape.source b)) i) same (subst (λ (j : InstanceId). Contains (of_entity (facts_of c) ((base_of s).shape.source rel.0)) j) own inst.1.0) in
-        line_of q i here (exact.used (Listed q i)) key.1.1
-      where
-        line_of : (q : RelId) (i : InstanceId) → Contains (of_entity (facts_of c) ((base_of s).shape.source q)) i → (b : Bool) → Contains (cond b (line.Members q i ((facts_of c).members q i) ∷ []) []) l → Named l
-        line_of q i here false h = absurd (none_in l h)
-        line_of q i here true h = the (contains_cases (line.Members q i ((facts_of c).members q i)) l [] h)
-          where
-            the : (line.Members q i ((facts_of c).members q i) ≡ l) ⊎ Contains [] l → Named l
-            the (inl e) = subst Named e (members_again q i ((facts_of c).members q i) (subst (LineIsDeclared s.model) (sym e) d) (listed_of ((base_of s).shape.source q) i here))
-            the (inr h) = absurd (none_in l h)
+        of_list l d q i here (exact.used (Listed q i)) key.1.1
 
-    of_containers : (l : ReportLine) → Contains (member_lines (base_of s) (facts_of c) exact.owned) l → LineIsDeclared s.model l → Named l
+    of_container : (l : ReportLine) → LineIsDeclared s.model l → (k j : InstanceId) → IsLive (facts_of c) j → (facts_of c).container j ≡ Some k → line.Member ((base_of s).shape.contained j.entity.0) k j ≡ l → Placed l
+    unfolding Placed
+    of_container l d k j live e same =
+        let m = shape_of s.model in
+        let shape = shape_is s.model is.is_model in
+        let up = in_upto m (stored c.lists) (m.count - 1) j k (sym (ap (λ l. container_of l j) is.fits.live) ∙ e) in
+        let has = up.2 in
+        let inside : j.entity.0 < m.count = omega (arith, up.1, shape.some) in
+        let q = m.contained j.entity.0 in
+        let live_k = live_in c k (is.fits.listed q k has.names has.known) in
+        subst Placed same (
+          subst (LineIsDeclared s.model) (sym same) d,
+          (shape.contains j.entity.0 up.0 inside, (shape.target j.entity.0 up.0 inside, ((live_k, is.fits.sound.source q k has.names has.known), (live, above_zero j up.0)))),
+        )
+
+    of_containers : (l : ReportLine) → Contains (member_lines (base_of s) (facts_of c) exact.owned) l → LineIsDeclared s.model l → Placed l
     of_containers l there d =
         let inst = flat_out (λ (j : InstanceId). cond (exact.owned j) (contained_lines (base_of s) (facts_of c) j ((facts_of c).container j)) []) (facts_of c).instances l there in
-        owned inst.0 (exact.owned inst.0) inst.1.1
+        owned inst.0 inst.1.0 (exact.owned inst.0) inst.1.1
       where
-        the : (k j : InstanceId) → (facts_of c).container j ≡ Some k → (line.Member ((base_of s).shape.contained j.entity.0) k j ≡ l) ⊎ Contains [] l → Named l
-        the k j e (inr h) = absurd (none_in l h)
-        the k j e (inl same) =
-            let m = shape_of s.model in
-            let shape = shape_is s.model is.is_model in
-            let up = in_upto m (stored c.lists) (m.count - 1) j k (sym (ap (λ l. container_of l j) is.fits.live) ∙ e) in
-            let has = up.2 in
-            let inside : j.entity.0 < m.count = omega (arith, up.1, shape.some) in
-            let q = m.contained j.entity.0 in
-            let live = live_in c k (is.fits.listed q k has.names has.known) in
-            subst Named same (member_again q k j (subst (LineIsDeclared s.model) (sym same) d) (shape.contains j.entity.0 up.0 inside) (shape.target j.entity.0 up.0 inside)
-              (belongs (m.source q) k live (is.fits.sound.source q k has.names has.known)))
+        the : (k j : InstanceId) → IsLive (facts_of c) j → (facts_of c).container j ≡ Some k → (line.Member ((base_of s).shape.contained j.entity.0) k j ≡ l) ⊎ Contains [] l → Placed l
+        the k j live e (inr h) = absurd (none_in l h)
+        the k j live e (inl same) = of_container l d k j live e same
 
-        held : (j : InstanceId) (o : Option InstanceId) → (facts_of c).container j ≡ o → Contains (contained_lines (base_of s) (facts_of c) j o) l → Named l
-        held j None e h = absurd (none_in l h)
-        held j (Some k) e h = the k j e (contains_cases (line.Member ((base_of s).shape.contained j.entity.0) k j) l [] h)
+        held : (j : InstanceId) → IsLive (facts_of c) j → (o : Option InstanceId) → (facts_of c).container j ≡ o → Contains (contained_lines (base_of s) (facts_of c) j o) l → Placed l
+        held j live None e h = absurd (none_in l h)
+        held j live (Some k) e h = the k j live e (contains_cases (line.Member ((base_of s).shape.contained j.entity.0) k j) l [] h)
 
-        owned : (j : InstanceId) (b : Bool) → Contains (cond b (contained_lines (base_of s) (facts_of c) j ((facts_of c).container j)) []) l → Named l
-        owned j false h = absurd (none_in l h)
-        owned j true h = held j ((facts_of c).container j) refl h
+        owned : (j : InstanceId) → IsLive (facts_of c) j → (b : Bool) → Contains (cond b (contained_lines (base_of s) (facts_of c) j ((facts_of c).container j)) []) l → Placed l
+        owned j live false h = absurd (none_in l h)
+        owned j live true h = held j live ((facts_of c).container j) refl h
 
-    each_line : (l : ReportLine) → Contains x.lines l → Named l
+    each_line : (l : ReportLine) → Contains x.lines l → Placed l
     each_line l there = one (Contains-append_cases points (lists ++ members) l (subst (λ ls. Contains ls l) exact.are there))
       where
         points : List ReportLine
@@ -238,11 +292,11 @@ module _ (s : Rulebase) (c : CaseView) (is : IsOf s c) where
         members : List ReportLine
         members = member_lines (base_of s) (facts_of c) exact.owned
 
-        two : Contains lists l ⊎ Contains members l → Named l
+        two : Contains lists l ⊎ Contains members l → Placed l
         two (inl h) = of_lists l h (declared l there)
         two (inr h) = of_containers l h (declared l there)
 
-        one : Contains points l ⊎ Contains (lists ++ members) l → Named l
+        one : Contains points l ⊎ Contains (lists ++ members) l → Placed l
         one (inl h) = of_points l h (declared l there)
         one (inr h) = two (Contains-append_cases lists members l h)
 
@@ -251,13 +305,68 @@ module _ (s : Rulebase) (c : CaseView) (is : IsOf s c) where
     lines_named [] h = tt
     lines_named (l ∷ ls) h = (h l (contains_head l ls), lines_named ls (λ k there. h k (contains_tail l k ls there)))
 
+    -- ---- what can be printed
+
+    module _ (base : IsPrintableBase s) (own : IsPrintableCase c) (entries : ListsEntries s c x) (days : HasDays x) where
+      name_can : (i : InstanceId) → IsLive (facts_of c) i → MayBeName (name_of i)
+      name_can i live = go (is_same i global) refl
+        where
+          go : (b : Bool) → is_same i global ≡ b → MayBeName (cond b None (Some i.name))
+          go true e = tt
+          go false e = own.instances i live e
+
+      origin_can : (a : AttrId) (v : Value) → IsOrigin (origin_by s.files (rule_of s.rules a) v)
+      origin_can a v = go (rule_of s.rules a) refl
+        where
+          answered : (b : Bool) → IsOrigin (cond b origin.Unanswered origin.Answer)
+          answered true = tt
+          answered false = tt
+
+          go : (o : Option Rule) → rule_of s.rules a ≡ o → IsOrigin (origin_by s.files o v)
+          go None e = answered (is_unknown v)
+          go (Some rule) e = base.places a rule e
+
+      names_can : (q : RelId) (i : InstanceId) (names : Option (List (List ℕ))) → list_of c q i ≡ names → AreNames names
+      names_can q i None e = tt
+      names_can q i (Some ns) e = own.lists q i ns e
+
+      point_can : (a : AttrId) (i : InstanceId) (f t : ℕ) (v : Value) → Contains x.lines (line.Point a i f t v) → CanBeWritten (attribute_or s.model a).kind v
+      point_can a i f t v there =
+          let span = days a i f t v there in
+          let low : f ≤ t = span.0 in
+          let lists = support.point a i f t f v there (omega arith) low in
+          let is_value = told_value (base_of s) (facts_of c) (Point x.attr x.inst x.day) (PointIs a i f v) ((entries (PointIs a i f v)).0 lists) a i f v refl in
+          subst (CanBeWritten (attribute_or s.model a).kind) is_value (value_written s c is base own a i f)
+
+      line_can : (l : ReportLine) → Contains x.lines l → Placed l → CanBePrinted (spelled_line s l)
+      unfolding Placed
+      line_can (line.Point a i f t v) there h =
+          let span = days a i f t v there in
+          ((base.attributes a h.0, name_can i h.1.0), (span.0, (span.1, (point_can a i f t v there, origin_can a v))))
+      line_can (line.Members q i names) there h = ((base.relations q h.0, name_can i h.1.0.0), names_can q i names h.1.1)
+      line_can (line.Member q k i) there h = ((base.relations q h.0, name_can k h.1.1.1.0.0), own.instances i h.1.1.1.1.0 h.1.1.1.1.1)
+
+      lines_can : (ls : List ReportLine) → ((l : ReportLine) → Contains ls l → CanBePrinted (spelled_line s l)) → AllByRecursion CanBePrinted (map (spelled_line s) ls)
+      lines_can [] h = tt
+      lines_can (l ∷ ls) h = (h l (contains_head l ls), lines_can ls (λ k there. h k (contains_tail l k ls there)))
+
+      pub can_be_printed : is_point s c x.attr x.inst ≡ true → x.day < DAYS → IsSpelled (spelled_of s x)
+      can_be_printed point lt =
+          let outer = and_parts (nat_lt x.attr.0 (length s.model.attributes)) (has_place s c x.attr x.inst) point in
+          let place = and_parts (is_live c.live x.inst) (x.inst.entity.0 == owner_of (shape_of s.model) x.attr) outer.1 in
+          record {
+            asked = (base.attributes x.attr (ltb-true x.attr.0 (length s.model.attributes) outer.0), name_can x.inst (live_in c x.inst place.0));
+            day = lt;
+            printed = lines_can x.lines (λ l there. line_can l there (each_line l there));
+          }
+
     pub restated : is_point s c x.attr x.inst ≡ true → IsSpelled (spelled_of s x) → IsRestated s x
     restated point can =
         let outer = and_parts (nat_lt x.attr.0 (length s.model.attributes)) (has_place s c x.attr x.inst) point in
         let place = and_parts (is_live c.live x.inst) (x.inst.entity.0 == owner_of (shape_of s.model) x.attr) outer.1 in
         let has : x.attr.0 < length s.model.attributes = ltb-true x.attr.0 (length s.model.attributes) outer.0 in
         let own = belongs (owner_of (base_of s).shape x.attr) x.inst (live_in c x.inst place.0) (eqb-true x.inst.entity.0 (owner_of (shape_of s.model) x.attr) place.1) in
-        record { spelled = can; asked = asked_again x.attr x.inst has own; lines = lines_named x.lines each_line }
+        record { spelled = can; asked = asked_again x.attr x.inst has own; lines = lines_named x.lines (λ l there. named_again l (each_line l there)) }
 
     pub is_alive : is_point s c x.attr x.inst ≡ true → is_live c.live x.inst ≡ true
     is_alive point =
@@ -269,4 +378,4 @@ reports_get_yes_holds r text w of j =
     let x = of.report in
     let live = is_alive r of.given of.fits x of.exact of.declared of.point in
     let h = reports_are_held_up_holds r of.given of.fits x live of.entries of.days in
-    gets_yes r text x (restated r of.given of.fits x of.exact of.declared of.point of.printable) of.told of.few h.0 (value_at r of.given x.attr x.inst x.day) h.1 w j
+    gets_yes r text x (restated r of.given of.fits x of.exact of.declared of.point (can_be_printed r of.given of.fits x of.exact of.declared of.base of.own of.entries of.days of.point of.day)) of.told of.few h.0 (value_at r of.given x.attr x.inst x.day) h.1 w j

@@ -7,7 +7,7 @@ use Rattle.opa_report.specs.Promises.{ListsEntries, HasDays}
 use Rattle.opa_report.specs.declared.lines.Report.{Report}
 use Rattle.opa_report_text.specs.Texts.{ArePrintable, report_text}
 use Rattle.opa_proof.specs.Judging.{IsUpheld, Judges}
-use Rattle.opa_proof.specs.Restating.{IsOfCase}
+use Rattle.opa_proof.specs.OfCases.{IsOfCase}
 use Rattle.opa_proof.specs.declared.verdict.Verdict.{Verdict}
 use Rattle.opa_proof.specs.declared.verdict.Verdict.TheVariants as verdict
 

@@ -1,22 +1,18 @@
 -- What is printed of a report, as texts.
-use Rattle.std.specs.Prelude.{◌≡◌, ◌<◌, ◌^◌, ℕ, true, List, [], map, length, Option, None, Some, slice_index_or, if◌then◌else◌}
+use Rattle.std.specs.Prelude.{◌≡◌, ℕ, List, [], map, Option, None, Some, slice_index_or, if◌then◌else◌}
 use Rattle.opa_value.specs.declared.value.Value.{Value}
 use Rattle.opa_value.specs.Truth.{is_unknown}
 use Rattle.opa_words.specs.Names.{printed_name}
 use Rattle.opa_model.specs.declared.ids.AttrId.{AttrId}
-use Rattle.opa_case.specs.Cases.{CaseView}
 use Rattle.opa_case.specs.Shapes.{attribute_or, relation_or}
 use Rattle.opa_cells.specs.Instances.{is_same, global}
 use Rattle.opa_cells.specs.declared.instance.InstanceId.{InstanceId}
 use Rattle.opa_tree.specs.declared.rulebase.Rulebase.{Rulebase}
 use Rattle.opa_tree.specs.declared.rules.Rule.{Rule}
 use Rattle.opa_tree.specs.Rules.{rule_of}
-use Rattle.opa_mean.specs.Rulebases.{IsOf}
-use Rattle.opa_report.specs.Promises.{is_point, IsExact, ListsEntries, HasDays, IsDeclaredBy}
 use Rattle.opa_report.specs.declared.lines.Report.{Report}
 use Rattle.opa_report.specs.declared.lines.ReportLine.{ReportLine}
 use Rattle.opa_report.specs.declared.lines.ReportLine.TheVariants as line
-use Rattle.opa_report_text.specs.Texts.{report_text}
 use Rattle.opa_spelled.specs.Spelling.{IsSpelled}
 use Rattle.opa_spelled.specs.declared.printed.Origin.{Origin}
 use Rattle.opa_spelled.specs.declared.printed.Origin.TheVariants as origin
@@ -50,19 +46,3 @@ pub record IsRestated (r : Rulebase) (x : Report) : Type 0 where
   pub spelled : IsSpelled (spelled_of r x)
   pub asked : asked_point r (spelled_of r x).asked ≡ Some (x.attr, x.inst)
   pub lines : AreNamed r (spelled_of r x).printed x.lines
-
--- The text, of fewer than 2^64 bytes as each text, is that of the report of a point of a case which fits the rulebase: it has the
--- lines of the point's cone, and lists just what the report of the point does. All of it can be printed: the phrases are phrases,
--- the names and texts have no control characters, and the numbers are numbers of their kinds.
-pub record IsOfCase (r : Rulebase) (text : List ℕ) : Type 0 where
-  pub given : CaseView
-  pub fits : IsOf r given
-  pub report : Report
-  pub point : is_point r given report.attr report.inst ≡ true
-  pub exact : IsExact r given report
-  pub entries : ListsEntries r given report
-  pub days : HasDays report
-  pub declared : IsDeclaredBy r report
-  pub printable : IsSpelled (spelled_of r report)
-  pub told : report_text r report ≡ text
-  pub few : length text < 2 ^ 64

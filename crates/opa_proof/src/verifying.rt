@@ -1,7 +1,7 @@
 // The verifier.
 ghost use Rattle.std.specs.Prelude.{◌≡◌, IfOk};
 ghost use Rattle.opa_proof.specs.Judging.{IsSupported, Judges};
-ghost use Rattle.opa_proof.specs.Restating.{IsOfCase};
+ghost use Rattle.opa_proof.specs.OfCases.{IsOfCase};
 ghost use Rattle.opa_proof.specs.Telling.{Tells};
 ghost use Rattle.opa_proof.specs.declared.verdict.Verdict.TheVariants as verdicts;
 
