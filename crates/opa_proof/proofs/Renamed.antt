@@ -6,7 +6,7 @@ use Rattle.std.specs.List.{AllByRecursion}
 use Rattle.std.specs.Str.{bytes_eq}
 use Rattle.std.proofs.lemmas.Bool.{and_parts, and_from, eqb-true, ltb-true}
 use Rattle.std.proofs.lemmas.List.{length-map, get_or-map, get_or_append_left, get_or-append-add}
-use Rattle.std.proofs.lemmas.List.Elements.{Contains-append_cases}
+use Rattle.std.proofs.lemmas.List.Elements.{All-contains, Contains-append_cases, Contains-append_left, Contains-append_right}
 use Rattle.std.proofs.lemmas.Option.{slice_get_within, get_or_from_slice_get, slice_get-get_or}
 use Rattle.opa_date.specs.declared.TheConstants.{DAYS}
 use Rattle.opa_value.specs.declared.value.Value.{Value}
@@ -56,7 +56,9 @@ use Rattle.opa_report.specs.declared.lines.ReportLine.{ReportLine}
 use Rattle.opa_report.specs.declared.lines.ReportLine.TheVariants as line
 use Rattle.opa_report_text.specs.Texts as told
 use Rattle.opa_spelled.specs.Printed.{origin_text}
-use Rattle.opa_spelled.specs.Spelling.{AreNames, CanBePrinted, IsOrigin, IsSpelled, MayBeName}
+use Rattle.opa_spelled.specs.Spelling.{AreNames, CanBePhrase, CanBePrinted, IsOrigin, IsSpelled, MayBeName}
+use Rattle.opa_spelled.proofs.Worded.{can_be_phrase}
+use Rattle.opa_verbs.specs.Phrasing.{IsPhrase}
 use Rattle.opa_spelled.specs.declared.printed.Origin.TheVariants as origin
 use Rattle.opa_proof.specs.Fine.{IsPrintableBase, IsPrintableCase}
 use Rattle.opa_proof.proofs.Fining.{value_written}
@@ -65,7 +67,7 @@ use Rattle.opa_spelled.specs.declared.printed.Printed.{Printed}
 use Rattle.opa_proof.specs.Naming.{instance_for, is_printed_so, point_at, list_at, asked_point, named_line, named_members, named_member, named_point, member_line, AreNamed}
 use Rattle.opa_proof.specs.Restating.{name_of, spot_of, origin_by, spelled_line, spelled_of, IsRestated}
 use Rattle.opa_proof.specs.Laws.{ReportsGetYes}
-use Rattle.opa_proof.proofs.Restated.{origin_is, gets_yes}
+use Rattle.opa_proof.proofs.Restated.{origin_is, gets_yes, stands_in}
 
 -- ---- values
 
@@ -315,6 +317,18 @@ module _ (s : Rulebase) (c : CaseView) (is : IsOf s c) where
           go true e = tt
           go false e = own.instances i live e
 
+      attribute_can : (a : AttrId) → a.0 < length s.model.attributes → CanBePhrase (attribute_or s.model a).phrase
+      attribute_can a lt =
+          let t = (attribute_or s.model a).phrase in
+          let there = stands_in (attribute_phrases s.model) a.0 t (phrase_at (λ (y : Attribute). y.phrase) s.model.attributes a.0 no_attribute lt) in
+          can_be_phrase t (base.texts t (Contains-append_left (attribute_phrases s.model) (relation_phrases s.model) t there)) (All-contains IsPhrase (attribute_phrases s.model) t base.readable.attributes there)
+
+      relation_can : (q : RelId) → q.0 < length s.model.relations → CanBePhrase (relation_or s.model q).phrase
+      relation_can q lt =
+          let t = (relation_or s.model q).phrase in
+          let there = stands_in (relation_phrases s.model) q.0 t (phrase_at (λ (y : Relation). y.phrase) s.model.relations q.0 no_relation lt) in
+          can_be_phrase t (base.texts t (Contains-append_right (attribute_phrases s.model) (relation_phrases s.model) t there)) (All-contains IsPhrase (relation_phrases s.model) t base.readable.relations there)
+
       origin_can : (a : AttrId) (v : Value) → IsOrigin (origin_by s.files (rule_of s.rules a) v)
       origin_can a v = go (rule_of s.rules a) refl
         where
@@ -342,9 +356,9 @@ module _ (s : Rulebase) (c : CaseView) (is : IsOf s c) where
       unfolding Placed
       line_can (line.Point a i f t v) there h =
           let span = days a i f t v there in
-          ((base.attributes a h.0, name_can i h.1.0), (span.0, (span.1, (point_can a i f t v there, origin_can a v))))
-      line_can (line.Members q i names) there h = ((base.relations q h.0, name_can i h.1.0.0), names_can q i names h.1.1)
-      line_can (line.Member q k i) there h = ((base.relations q h.0, name_can k h.1.1.1.0.0), own.instances i h.1.1.1.1.0 h.1.1.1.1.1)
+          ((attribute_can a h.0, name_can i h.1.0), (span.0, (span.1, (point_can a i f t v there, origin_can a v))))
+      line_can (line.Members q i names) there h = ((relation_can q h.0, name_can i h.1.0.0), names_can q i names h.1.1)
+      line_can (line.Member q k i) there h = ((relation_can q h.0, name_can k h.1.1.1.0.0), own.instances i h.1.1.1.1.0 h.1.1.1.1.1)
 
       lines_can : (ls : List ReportLine) → ((l : ReportLine) → Contains ls l → CanBePrinted (spelled_line s l)) → AllByRecursion CanBePrinted (map (spelled_line s) ls)
       lines_can [] h = tt
@@ -355,7 +369,7 @@ module _ (s : Rulebase) (c : CaseView) (is : IsOf s c) where
           let outer = and_parts (nat_lt x.attr.0 (length s.model.attributes)) (has_place s c x.attr x.inst) point in
           let place = and_parts (is_live c.live x.inst) (x.inst.entity.0 == owner_of (shape_of s.model) x.attr) outer.1 in
           record {
-            asked = (base.attributes x.attr (ltb-true x.attr.0 (length s.model.attributes) outer.0), name_can x.inst (live_in c x.inst place.0));
+            asked = (attribute_can x.attr (ltb-true x.attr.0 (length s.model.attributes) outer.0), name_can x.inst (live_in c x.inst place.0));
             day = lt;
             printed = lines_can x.lines (λ l there. line_can l there (each_line l there));
           }

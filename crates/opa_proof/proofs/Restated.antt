@@ -148,7 +148,7 @@ never_unnamed r (y ∷ xs) (z ∷ ys) (l ∷ ls) (suc n) x h a at e = never_unna
 
 -- ---- what is held up has no first fault
 
-stands_in : {X : Type 0} (xs : List X) (n : ℕ) (x : X) → slice_get xs n ≡ Some x → Contains xs x
+pub stands_in : {X : Type 0} (xs : List X) (n : ℕ) (x : X) → slice_get xs n ≡ Some x → Contains xs x
 stands_in [] n x e = absurd (cc e)
 stands_in (y ∷ xs) zero x e = (zero, omega arith, let f : y ≡ x = cc e in f)
 stands_in (y ∷ xs) (suc n) x e = let rest = stands_in xs n x e in (suc rest.0, omega (arith, rest.1), rest.2)

@@ -1,15 +1,15 @@
 -- What of a rulebase and of a case can be printed.
-use Rattle.std.specs.Prelude.{◌≡◌, ℕ, List, [], ◌∷◌, ◌++◌, Some, false}
+use Rattle.std.specs.Prelude.{◌≡◌, ℕ, List, [], ◌∷◌, ◌++◌, Some, false, Contains}
 use Rattle.std.specs.List.{AllByRecursion}
+use Rattle.std.specs.Str.{IsUtf8}
 use Rattle.opa_value.specs.declared.value.Value.{Value}
 use Rattle.opa_value.specs.declared.value.Value.TheVariants as value
 use Rattle.opa_value.specs.Numbers.{InRange}
 use Rattle.opa_model.specs.declared.ids.AttrId.{AttrId}
 use Rattle.opa_model.specs.declared.ids.RelId.{RelId}
-use Rattle.opa_model.specs.Models.{HasAttribute, HasRelation}
+use Rattle.opa_model.specs.Lookups.{attribute_phrases, relation_phrases}
 use Rattle.opa_case.specs.Cases.{Answer, CaseView, list_of}
 use Rattle.opa_case.specs.Fits.{Answered}
-use Rattle.opa_case.specs.Shapes.{attribute_or, relation_or}
 use Rattle.opa_cells.specs.Instances.{is_same, global}
 use Rattle.opa_cells.specs.declared.instance.InstanceId.{InstanceId}
 use Rattle.opa_text.specs.Laws.{CanBeQuoted}
@@ -21,7 +21,8 @@ use Rattle.opa_tree.specs.declared.rules.Rule.{Rule}
 use Rattle.opa_tree.specs.Rules.{rule_of}
 use Rattle.opa_mean.specs.Given.{facts_of}
 use Rattle.opa_mean.specs.Mean.{IsLive}
-use Rattle.opa_spelled.specs.Spelling.{CanBePhrase, IsName, IsOrigin}
+use Rattle.opa_spelled.specs.Spelling.{IsName, IsOrigin}
+use Rattle.opa_verbs.specs.Phrasing.{IsReadable}
 use Rattle.opa_proof.specs.Restating.{origin_by}
 
 -- numbers in range, and texts without control characters
@@ -59,10 +60,10 @@ constants_row row = row.cond ++ row.value
 unfoldable pub constants : Expr → List Value
 constants = fold-Expr (List Value) (List Value) constants_step constants_row
 
--- The phrases are phrases, the rules have places that can be printed, and their constants are fine.
+-- Rules can read the model, whose phrases are texts; the rules have places that can be printed, and their constants are fine.
 pub record IsPrintableBase (r : Rulebase) : Type 0 where
-  pub attributes : (a : AttrId) → HasAttribute r.model a → CanBePhrase (attribute_or r.model a).phrase
-  pub relations : (q : RelId) → HasRelation r.model q → CanBePhrase (relation_or r.model q).phrase
+  pub readable : IsReadable r.model
+  pub texts : (t : List ℕ) → Contains (attribute_phrases r.model ++ relation_phrases r.model) t → IsUtf8 t
   pub places : (a : AttrId) (rule : Rule) → rule_of r.rules a ≡ Some rule → IsOrigin (origin_by r.files (Some rule) value.Unknown)
   pub constants_are : (a : AttrId) (rule : Rule) → rule_of r.rules a ≡ Some rule → AreFine (constants rule.expr)
 
