@@ -1,10 +1,10 @@
 -- What rules conclude can be printed, where their constants and the answers can.
-use Rattle.std.proofs.Common.{◌≡◌, ℕ, zero, suc, ◌*◌, ◌<◌, ◌≤◌, ◌%◌, ◌^◌, ℤ, pos, ◌+ℤ◌, ◌-ℤ◌, ◌*ℤ◌, neg_ℤ, Bool, true, false, cond, List, [], ◌∷◌, ◌++◌, filter, map, length, Option, None, Some, refl, sym, ◌∙◌, ap, subst, arith}
-use Rattle.std.specs.Prelude.{nat_lt, nat_le, not, ◌&&◌, ◌||◌, ◌==◌, unsigned_abs}
+use Rattle.std.proofs.Common.{◌≡◌, ℕ, zero, suc, ◌*◌, ◌%◌, ℤ, pos, ◌+ℤ◌, ◌-ℤ◌, ◌*ℤ◌, neg_ℤ, Bool, true, false, cond, List, [], ◌∷◌, ◌++◌, filter, map, length, Option, None, Some, refl, sym, ◌∙◌, ap, subst, arith}
+use Rattle.std.specs.Prelude.{nat_lt, nat_le, not, ◌&&◌, ◌||◌, unsigned_abs}
 use Rattle.std.specs.FinMap.{get}
 use Rattle.std.specs.List.{list_all, list_any, AllByRecursion}
 use Rattle.std.specs.Option.{option_map, option_and_then}
-use Rattle.std.specs.Str.{chars, IsUtf8}
+use Rattle.std.specs.Str.{chars}
 use Rattle.std.proofs.lemmas.Bool.{and_parts, leb-true, ltb-true, eqb-true}
 use Rattle.std.proofs.lemmas.Int.{unsigned_abs-mul}
 use Rattle.std.proofs.lemmas.Str.{IsUtf8-append, chars-append}
@@ -13,15 +13,15 @@ use Rattle.opa_date.specs.Gregorian.{date_of}
 use Rattle.opa_date.specs.Moves.{add_days, add_months, add_years, years_between}
 use Rattle.opa_value.specs.declared.value.Value.{Value}
 use Rattle.opa_value.specs.declared.value.Value.TheVariants as value
-use Rattle.opa_value.specs.Arithmetic.{near, product, quotient, rounded}
+use Rattle.opa_value.specs.Arithmetic.{near, product, quotient}
 use Rattle.opa_value.specs.Fit.{fit_of}
 use Rattle.opa_value.specs.Numbers.{InRange, in_range, kept, most}
 use Rattle.opa_value.specs.Truth.{is_false, is_true, is_unknown, is_uncertain, all_of, any_of, not_of, strict, unless_open}
 use Rattle.opa_value.proofs.Rounding.{rounded_range}
 use Rattle.opa_line.specs.Lines.{value_from}
-use Rattle.opa_window.specs.Days.{days, over_days, last_days, day_value}
+use Rattle.opa_window.specs.Days.{over_days, last_days, day_value}
 use Rattle.opa_window.specs.Folds.{held, number_of, best, best_from, is_less, is_more, sum_value, run_value, total, longest}
-use Rattle.opa_window.specs.Windows.{on_date, on_dates, at_date, in_window, years_value, before, on_or_after}
+use Rattle.opa_window.specs.Windows.{on_date, on_dates, at_date, in_window, years_value}
 use Rattle.opa_words.specs.Characters.{is_control}
 use Rattle.opa_model.specs.declared.ids.AttrId.{AttrId}
 use Rattle.opa_model.specs.declared.things.Kind.{Kind}
@@ -29,13 +29,13 @@ use Rattle.opa_model.specs.declared.things.Kind.TheVariants as kinds
 use Rattle.opa_cells.specs.Instances.{named}
 use Rattle.opa_cells.specs.declared.instance.InstanceId.{InstanceId}
 use Rattle.opa_case.specs.Cases.{Answer, CaseView}
-use Rattle.opa_case.specs.Fits.{Answered, has_two_decimals}
+use Rattle.opa_case.specs.Fits.{has_two_decimals}
 use Rattle.opa_case.specs.Shapes.{Shape, shape_of, attribute_or}
-use Rattle.opa_case.specs.Steps.{has_kind, has_decimals, is_date}
-use Rattle.opa_text.specs.Laws.{CanBeQuoted, CanBeWritten, HasDecimals}
+use Rattle.opa_case.specs.Steps.{has_kind, is_date}
+use Rattle.opa_text.specs.Laws.{CanBeQuoted, CanBeWritten}
 use Rattle.opa_tree.specs.declared.expr.Expr.{Expr}
 use Rattle.opa_tree.specs.declared.expr.Row.{Row}
-use Rattle.opa_tree.specs.declared.expr.Expr.TheOpen.{Expr-F, Row-F, Const, Attr, All, Any, Not, Op, Certain, Known, Over, Window, Rolling, Table}
+use Rattle.opa_tree.specs.declared.expr.Expr.TheOpen.{Expr-F, Const, Attr, All, Any, Not, Op, Certain, Known, Over, Window, Rolling, Table}
 use Rattle.opa_tree.specs.declared.expr.Expr.TheFolds.{fold-Row, fold-roll-Expr, fold_out-Row, map-Expr}
 use Rattle.opa_tree.specs.declared.expr.Expr.TheViews.{roll-Expr}
 use Rattle.opa_tree.specs.declared.kinds.OpKind.{OpKind}
@@ -52,12 +52,11 @@ use Rattle.opa_tree.proofs.Induction.{by_parts, Part, RowPart, without}
 use Rattle.opa_mean.specs.Given.{base_of, facts_of, line_value}
 use Rattle.opa_mean.specs.Looks.{Look}
 use Rattle.opa_mean.specs.Mean.{concluded, fitted, is_money, look_of, mean_by}
-use Rattle.opa_mean.specs.Meaning.{Meaning, RowMeaning, tree_step, value as value_of, each, at_place, choose, certain_of, known_of, amount, true_count, first_value, item, quant_of, over, window, rolling, table}
+use Rattle.opa_mean.specs.Meaning.{Meaning, RowMeaning, tree_step, value as value_of, each, at_place, choose, certain_of, known_of, true_count, first_value, item, quant_of, over, window, rolling, table}
 use Rattle.opa_mean.specs.Operations.{op_of, on_one, on_two, on_number, on_numbers, whole_of, whole_value, truth, equal, less, round, day_or_not, moved, joined}
 use Rattle.opa_mean.specs.Places.{owner_of, place}
 use Rattle.opa_mean.specs.Rulebases.{IsOf, value_at}
 use Rattle.opa_mean.proofs.Levels.{row_value, value-roll, row_value-is}
-use Rattle.opa_kinds.specs.Laws.{kind_of}
 use Rattle.opa_kinds.proofs.LawsHold.{values_have_kinds_holds}
 use Rattle.opa_proof.specs.Fine.{IsFine, AreFine, together, constants_step, constants_row, constants, IsPrintableBase, IsPrintableCase}
 

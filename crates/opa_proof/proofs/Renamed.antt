@@ -1,6 +1,6 @@
 -- What is printed of a report of a case names it again.
-use Rattle.std.proofs.Common.{◌≡◌, ◌≢◌, ◌⊎◌, inl, inr, ℕ, zero, suc, ◌+◌, ◌<◌, ◌≤◌, List, [], ◌∷◌, ◌++◌, map, length, flat_map, Bool, true, false, cond, Option, None, Some, Contains, AllPairs, ◌==◌, refl, sym, ◌∙◌, ap, subst, length-append, arith}
-use Rattle.std.specs.Prelude.{position, slice_get, slice_index_or, unwrap_or, nat_lt, ◌&&◌, ◌-◌}
+use Rattle.std.proofs.Common.{◌≡◌, ◌≢◌, ◌⊎◌, inl, inr, ℕ, zero, suc, ◌+◌, ◌<◌, ◌≤◌, List, [], ◌∷◌, ◌++◌, map, length, Bool, true, false, cond, Option, None, Some, Contains, AllPairs, ◌==◌, refl, sym, ◌∙◌, ap, subst, length-append, arith}
+use Rattle.std.specs.Prelude.{position, slice_get, slice_index_or, unwrap_or, nat_lt, ◌-◌}
 use Rattle.std.specs.Option.{option_map, option_and_then}
 use Rattle.std.specs.List.{AllByRecursion}
 use Rattle.std.specs.Str.{bytes_eq}
@@ -12,15 +12,12 @@ use Rattle.opa_date.specs.declared.TheConstants.{DAYS}
 use Rattle.opa_value.specs.declared.value.Value.{Value}
 use Rattle.opa_value.specs.Truth.{is_unknown}
 use Rattle.opa_model.specs.declared.ids.AttrId.{AttrId}
-use Rattle.opa_model.specs.declared.ids.EntityId.{EntityId}
 use Rattle.opa_model.specs.declared.ids.RelId.{RelId}
 use Rattle.opa_model.specs.declared.lists.Lists.{Lists}
 use Rattle.opa_model.specs.declared.things.Attribute.{Attribute}
-use Rattle.opa_model.specs.declared.things.Entity.{Entity}
-use Rattle.opa_model.specs.declared.things.Kind.{Kind}
 use Rattle.opa_model.specs.declared.things.Relation.{Relation}
 use Rattle.opa_model.specs.Lookups.{attribute_named, relation_named, attribute_phrases, relation_phrases}
-use Rattle.opa_model.specs.Models.{IsModel, HasAttribute, HasRelation}
+use Rattle.opa_model.specs.Models.{IsModel}
 use Rattle.opa_model.proofs.PhrasesLaws.{own_text, position-found, position-none}
 use Rattle.opa_case.specs.Cases.{CaseView, list_of, stored}
 use Rattle.opa_case.specs.Live.{container_of, is_live}
@@ -36,7 +33,7 @@ use Rattle.opa_tree.specs.declared.rulebase.Rulebase.{Rulebase}
 use Rattle.opa_tree.specs.declared.rules.Rule.{Rule}
 use Rattle.opa_tree.specs.Rules.{rule_of}
 use Rattle.opa_tree.proofs.Members.{none_in, contains_cases, contains_head, contains_tail, flat_out}
-use Rattle.opa_mean.specs.Completion.{AreFacts, IsContained}
+use Rattle.opa_mean.specs.Completion.{AreFacts}
 use Rattle.opa_mean.specs.Given.{base_of, facts_of}
 use Rattle.opa_mean.specs.Mean.{Base, Facts, IsLive, mean}
 use Rattle.opa_mean.specs.Reports.{Entry, InReport, PointIs}
@@ -49,8 +46,7 @@ use Rattle.opa_mean.proofs.Filtered.{filter_out, map_out}
 use Rattle.opa_mean.proofs.LawsOver.{facts}
 use Rattle.opa_report.specs.Promises.{is_point, IsExact, ListsEntries, HasDays, IsDeclaredBy, LineIsDeclared}
 use Rattle.opa_report.specs.Supporting as support
-use Rattle.opa_report.specs.ReportLines.{IsReport, slots, keys, by_rank, relations, with_instances, of_entity, lines_of, point_lines, list_lines, member_lines, slot_lines, key_lines, contained_lines, point_line}
-use Rattle.opa_report.specs.Runs.{Run}
+use Rattle.opa_report.specs.ReportLines.{slots, keys, by_rank, relations, with_instances, of_entity, point_lines, list_lines, member_lines, slot_lines, key_lines, contained_lines, point_line}
 use Rattle.opa_report.specs.declared.lines.Report.{Report}
 use Rattle.opa_report.specs.declared.lines.ReportLine.{ReportLine}
 use Rattle.opa_report.specs.declared.lines.ReportLine.TheVariants as line
@@ -63,8 +59,7 @@ use Rattle.opa_spelled.specs.declared.printed.Origin.TheVariants as origin
 use Rattle.opa_proof.specs.Fine.{IsPrintableBase, IsPrintableCase}
 use Rattle.opa_proof.proofs.Fining.{value_written}
 use Rattle.opa_upheld.proofs.Orderly.{reports_are_held_up_holds}
-use Rattle.opa_spelled.specs.declared.printed.Printed.{Printed}
-use Rattle.opa_proof.specs.Naming.{instance_for, is_printed_so, point_at, list_at, asked_point, named_line, named_members, named_member, named_point, member_line, AreNamed}
+use Rattle.opa_proof.specs.Naming.{instance_for, is_printed_so, point_at, list_at, asked_point, named_line, member_line, AreNamed}
 use Rattle.opa_proof.specs.Restating.{name_of, spot_of, origin_by, spelled_line, spelled_of, IsRestated}
 use Rattle.opa_proof.specs.Laws.{ReportsGetYes}
 use Rattle.opa_proof.proofs.Restated.{origin_is, gets_yes, stands_in}

@@ -1,5 +1,5 @@
 -- A report's text, printed again, and Yes to the text of a report whose lines are held up.
-use Rattle.std.proofs.Common.{◌≡◌, ◌⊎◌, inl, inr, ℕ, zero, suc, ◌+◌, ◌<◌, ◌≤◌, ◌^◌, ◌&&◌, List, [], ◌∷◌, ◌++◌, map, length, Bool, true, false, cond, Option, None, Some, Contains, decimal, refl, sym, ◌∙◌, ap, subst, append_assoc, length-append, arith}
+use Rattle.std.proofs.Common.{◌≡◌, inl, inr, ℕ, zero, suc, ◌+◌, ◌<◌, ◌≤◌, ◌^◌, ◌&&◌, List, [], ◌∷◌, ◌++◌, map, length, Bool, true, false, cond, Option, None, Some, Contains, decimal, refl, sym, ◌∙◌, ap, subst, append_assoc, length-append, arith}
 use Rattle.std.specs.Prelude.{codes, slice_get}
 use Rattle.std.specs.Option.{option_and_then}
 use Rattle.std.specs.Str.{bytes_eq}
@@ -8,14 +8,12 @@ use Rattle.opa_value.specs.declared.value.Value.{Value}
 use Rattle.opa_value.specs.Truth.{is_unknown}
 use Rattle.opa_words.specs.Kinds.{quoted}
 use Rattle.opa_model.specs.declared.ids.AttrId.{AttrId}
-use Rattle.opa_model.specs.declared.things.Kind.{Kind}
 use Rattle.opa_case.specs.Shapes.{attribute_or, relation_or}
 use Rattle.opa_cells.specs.Instances.{is_same, global}
 use Rattle.opa_cells.specs.declared.instance.InstanceId.{InstanceId}
 use Rattle.opa_tree.specs.declared.rulebase.Rulebase.{Rulebase}
 use Rattle.opa_tree.specs.declared.rules.Rule.{Rule}
 use Rattle.opa_tree.specs.Rules.{rule_of}
-use Rattle.opa_tree.proofs.Members.{none_in, contains_cases}
 use Rattle.opa_mean.specs.Given.{base_of}
 use Rattle.opa_mean.specs.Mean.{Base}
 use Rattle.opa_report.specs.declared.lines.Report.{Report}
@@ -28,22 +26,17 @@ use Rattle.opa_text.specs.Texts.{value_text}
 use Rattle.opa_spelled.specs.Lines.{lined}
 use Rattle.opa_spelled.specs.Printed.{name_part, spot_text, origin_text, printed_text, numbered_line, lines_text, end_line, head_line, spelled_text}
 use Rattle.opa_spelled.specs.Reading.{IsTextOf}
-use Rattle.opa_spelled.specs.Same.{IsSame, AreSame, SamePoint, SaysSame}
-use Rattle.opa_spelled.specs.Spelling.{IsSpelled}
-use Rattle.opa_spelled.specs.declared.printed.Origin.{Origin}
+use Rattle.opa_spelled.specs.Same.{IsSame, AreSame, SaysSame}
 use Rattle.opa_spelled.specs.declared.printed.Origin.TheVariants as origin
 use Rattle.opa_spelled.specs.declared.printed.Printed.{Printed}
 use Rattle.opa_spelled.specs.declared.printed.Printed.TheVariants as printed
 use Rattle.opa_spelled.specs.declared.printed.Spelled.{Spelled}
-use Rattle.opa_spelled.specs.declared.printed.Spot.{Spot}
 use Rattle.opa_spelled.proofs.Breaking.{spelled_has_none_holds}
 use Rattle.opa_spelled.proofs.Feeding.{text_spells}
 use Rattle.opa_spelled.proofs.Sameness.{one_spelling_holds}
 use Rattle.opa_upheld.specs.Faults.{IsFirstFault}
-use Rattle.opa_upheld.specs.Proofs.{AreHeldUp, IsHeldUp}
-use Rattle.opa_upheld.specs.Told.{listing_of}
+use Rattle.opa_upheld.specs.Proofs.{AreHeldUp}
 use Rattle.opa_proof.specs.Judging.{IsReadAs, IsNotDerivedAt, IsUnnamedAt, Judges, asked_value}
-use Rattle.opa_proof.specs.Named.{IsFirstUnnamed}
 use Rattle.opa_proof.specs.Naming.{asked_point, named_line, named_point, named_members, named_member, AreNamed}
 use Rattle.opa_proof.specs.Restating.{name_of, spot_of, origin_by, spelled_line, spelled_of, IsRestated}
 use Rattle.opa_proof.specs.declared.verdict.Verdict.{Verdict}
@@ -115,7 +108,7 @@ named_same : (r : Rulebase) (x y : Printed) → IsSame x y → named_line r x �
 named_same r (printed.Point p s t k v o) (printed.Point q a b l w u) h =
     ap (λ z. named_point r z s t k v o) h.spot ∙ ap (λ z. named_point r q z t k v o) h.first ∙ ap (λ z. named_point r q a z k v o) h.last ∙ ap (λ z. named_point r q a b k v z) h.origin ∙ ap (λ z. named_point r q a b k z u) h.value
     ∙ ap (λ z. option_and_then (λ (x : AttrId × InstanceId). cond (bytes_eq (value_text (attribute_or r.model x.0).kind w) z && bytes_eq (told.origin_text r.files (rule_of r.rules x.0) w) (origin_text u)) (Some (line.Point x.0 x.1 a b w)) None) (asked_point r q))
-        (ap (value_text k) (sym h.value) ∙ h.shown)
+    (ap (value_text k) (sym h.value) ∙ h.shown)
 named_same r (printed.Members p names) (printed.Members q others) h = ap (λ z. named_members r.model z names) h.0 ∙ ap (named_members r.model q) h.1
 named_same r (printed.Member p n) (printed.Member q m) h = ap (λ z. named_member r.model z n) h.0 ∙ ap (named_member r.model q) h.1
 named_same r (printed.Point p s t k v o) (printed.Members q others) h = absurd h

@@ -1,5 +1,5 @@
 -- What is printed of a verdict, from what its parts ensure.
-use Rattle.std.proofs.Common.{◌≡◌, List, ℕ, [], ◌∷◌, Option, None, Some, refl, sym, subst, cond, Bool, true, false}
+use Rattle.std.proofs.Common.{◌≡◌, List, ℕ, [], ◌∷◌, Option, None, Some, refl, sym, subst, Bool, true, false}
 use Rattle.std.specs.Prelude.{if◌then◌else◌}
 use Rattle.std.specs.List.{AllByRecursion}
 use Rattle.std.specs.Option.{option_or}
@@ -17,8 +17,8 @@ use Rattle.opa_tree.specs.declared.rulebase.Rulebase.{Rulebase}
 use Rattle.opa_upheld.specs.Proofs.{AreHeldUp}
 use Rattle.opa_upheld.specs.Told.{first_told, value_by}
 use Rattle.opa_upheld.proofs.Orderly.{held_up_supports_holds}
-use Rattle.opa_proof.specs.Judging.{IsTextOfReport, IsSupported, Judges, asked_value}
-use Rattle.opa_proof.specs.Telling.{SaysSupported, Tells, refused_text, supported_text}
+use Rattle.opa_proof.specs.Judging.{IsTextOfReport, Judges, asked_value}
+use Rattle.opa_proof.specs.Telling.{Tells, refused_text, supported_text}
 use Rattle.opa_proof.specs.declared.verdict.Verdict.{Verdict}
 use Rattle.opa_proof.specs.declared.verdict.Verdict.TheVariants as verdict
 

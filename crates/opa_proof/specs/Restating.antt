@@ -3,7 +3,6 @@ use Rattle.std.specs.Prelude.{◌≡◌, ℕ, List, [], map, Option, None, Some,
 use Rattle.opa_value.specs.declared.value.Value.{Value}
 use Rattle.opa_value.specs.Truth.{is_unknown}
 use Rattle.opa_words.specs.Names.{printed_name}
-use Rattle.opa_model.specs.declared.ids.AttrId.{AttrId}
 use Rattle.opa_case.specs.Shapes.{attribute_or, relation_or}
 use Rattle.opa_cells.specs.Instances.{is_same, global}
 use Rattle.opa_cells.specs.declared.instance.InstanceId.{InstanceId}
