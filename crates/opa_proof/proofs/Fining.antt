@@ -5,7 +5,7 @@ use Rattle.std.specs.FinMap.{get}
 use Rattle.std.specs.List.{list_all, list_any, AllByRecursion}
 use Rattle.std.specs.Option.{option_map, option_and_then}
 use Rattle.std.specs.Str.{chars}
-use Rattle.std.proofs.lemmas.Bool.{and_parts, leb-true, ltb-true, eqb-true}
+use Rattle.std.proofs.lemmas.Bool.{not-true, and_parts, leb-true, ltb-true, eqb-true}
 use Rattle.std.proofs.lemmas.Int.{unsigned_abs-mul}
 use Rattle.std.proofs.lemmas.Str.{IsUtf8-append, chars-append}
 use Rattle.opa_date.specs.declared.TheConstants.{DAYS}
@@ -58,7 +58,9 @@ use Rattle.opa_mean.specs.Places.{owner_of, place}
 use Rattle.opa_mean.specs.Rulebases.{IsOf, value_at}
 use Rattle.opa_mean.proofs.Levels.{row_value, value-roll, row_value-is}
 use Rattle.opa_kinds.proofs.LawsHold.{values_have_kinds_holds}
-use Rattle.opa_proof.specs.Fine.{IsFine, AreFine, together, constants_step, constants_row, constants, IsPrintableBase, IsPrintableCase}
+use Rattle.opa_case.specs.Clean.{is_clean_answer, is_clean_value}
+use Rattle.opa_spelled.proofs.Cleanness.{quoted_from}
+use Rattle.opa_proof.specs.Fine.{IsHeld, IsFine, AreFine, together, constants_step, constants_row, constants, IsPrintableBase, IsPrintableCase}
 
 -- ---- single values
 
@@ -446,13 +448,25 @@ fit_cents (value.Bool b) = tt
 fit_cents (value.Words t) = tt
 fit_cents (value.Day d) = tt
 
+fine_of : (v : Value) → is_clean_value v ≡ true → IsHeld v → IsFine v
+fine_of (value.Words t) h k = quoted_from t k (not-true (list_any is_control t) h)
+fine_of (value.Num n) h k = k
+fine_of value.Unknown h k = tt
+fine_of value.Uncertain h k = tt
+fine_of (value.Bool b) h k = tt
+fine_of (value.Day d) h k = tt
+
+fine_answer : (l : Answer) → is_clean_answer l ≡ true → AllByRecursion (λ p. IsHeld p.1) l → AllByRecursion (λ p. IsFine p.1) l
+fine_answer [] h k = tt
+fine_answer (p ∷ l) h k = let both = and_parts (is_clean_value p.1) (is_clean_answer l) h in (fine_of p.1 both.0 k.0, fine_answer l both.1 k.1)
+
 module _ (r : Rulebase) (c : CaseView) (is : IsOf r c) (base : IsPrintableBase r) (own : IsPrintableCase c) where
   answers_fine : (a : AttrId) (i : InstanceId) (d : ℕ) → IsFine ((facts_of c).answer a i d)
   answers_fine a i d = go (get c.answers (a.0, i)) refl
     where
       go : (o : Option Answer) → get c.answers (a.0, i) ≡ o → IsFine (line_value o d)
       go None e = tt
-      go (Some l) e = line_fine l d (own.answers a i l e)
+      go (Some l) e = line_fine l d (fine_answer l (own.clean.texts a i l e) (own.answers a i l e))
 
   steps_fine : (n : ℕ) (a : AttrId) (i : InstanceId) (d : ℕ) → IsFine (mean_by (base_of r) (facts_of c) n a i d)
   unfolding mean_by

@@ -56,6 +56,19 @@ use Rattle.opa_spelled.specs.Spelling.{AreNames, CanBePhrase, CanBePrinted, IsOr
 use Rattle.opa_spelled.proofs.Worded.{can_be_phrase}
 use Rattle.opa_verbs.specs.Phrasing.{IsPhrase}
 use Rattle.opa_spelled.specs.declared.printed.Origin.TheVariants as origin
+use Rattle.std.specs.FinMap.{get}
+use Rattle.std.specs.List.{list_any}
+use Rattle.std.specs.Prelude.{not, ◌||◌, ◌&&◌}
+use Rattle.std.specs.Str.{IsUtf8}
+use Rattle.std.proofs.lemmas.Bool.{not-true}
+use Rattle.opa_case.proofs.Losing.{is_every}
+use Rattle.opa_case.proofs.Stands.{either_has, text_is as text_same}
+use Rattle.opa_case.specs.Cases.{are_names, is_empty}
+use Rattle.opa_case.specs.Clean.{are_clean_names, is_clean_text, is_control}
+use Rattle.opa_case.specs.Live.{Names}
+use Rattle.opa_cells.specs.Instances.{is_text}
+use Rattle.opa_spelled.proofs.Cleanness.{quoted_from}
+use Rattle.opa_spelled.specs.Spelling.{IsName}
 use Rattle.opa_proof.specs.Fine.{IsPrintableBase, IsPrintableCase}
 use Rattle.opa_proof.proofs.Fining.{value_written}
 use Rattle.opa_upheld.proofs.Orderly.{reports_are_held_up_holds}
@@ -73,6 +86,28 @@ told_value b c p _ (InReport.point a' i' d' cone) a i d v e =
     sym (ap (λ k. mean b c k i' d') x ∙ ap (λ k. mean b c a k d') y ∙ ap (λ k. mean b c a i k) z) ∙ w
 told_value b c p _ (InReport.list q j cone) a i d v e = absurd (cc e)
 told_value b c p _ (InReport.member u j k l cone own above up) a i d v e = absurd (cc e)
+
+-- ---- names
+
+names_are : (ns : Names) → are_names ns ≡ true → are_clean_names ns ≡ true → AllByRecursion IsUtf8 ns → AllByRecursion IsName ns
+names_are [] a h u = tt
+names_are (n ∷ ns) a h u =
+    let outer = and_parts (not (is_empty n) && not (list_any (is_text n) ns)) (are_names ns) a in
+    let own = and_parts (not (is_empty n)) (not (list_any (is_text n) ns)) outer.0 in
+    let both = and_parts (is_clean_text n) (are_clean_names ns) h in
+    ((filled n own.0, quoted_from n u.0 (not-true (list_any is_control n) both.0)), names_are ns outer.1 both.1 u.1)
+  where
+    filled : (n : List ℕ) → not (is_empty n) ≡ true → 0 < length n
+    filled [] e = absurd (cc e)
+    filled (b ∷ bs) e = omega arith
+
+one_name : (ns : Names) (n : List ℕ) → AllByRecursion IsName ns → list_any (is_text n) ns ≡ true → IsName n
+one_name [] n h e = absurd (cc e)
+one_name (m ∷ ns) n h e = go (is_text n m) refl e (λ k. one_name ns n h.1 k)
+  where
+    go : (b : Bool) → is_text n m ≡ b → (b || list_any (is_text n) ns) ≡ true → (list_any (is_text n) ns ≡ true → IsName n) → IsName n
+    go true t e rest = subst IsName (sym (text_same n m t)) h.0
+    go false t e rest = rest e
 
 -- ---- phrases
 
@@ -141,6 +176,13 @@ above_zero i h = go (is_same i global) refl
 module _ (s : Rulebase) (c : CaseView) (is : IsOf s c) where
   af : AreFacts (base_of s).shape (facts_of c)
   af = facts s c is
+
+  some_entity : (i : InstanceId) → IsLive (facts_of c) i → is_same i global ≡ false → 0 < i.entity.0
+  some_entity i live apart = go i.entity.0 refl
+    where
+      go : (e : ℕ) → i.entity.0 ≡ e → 0 < i.entity.0
+      go zero h = absurd (let f : true ≡ false = sym (ap (λ (j : InstanceId). is_same j global) (af.only_global i live h) ∙ same_itself global) ∙ apart in cc f)
+      go (suc e) h = omega (arith, h)
 
   belongs : (e : ℕ) (i : InstanceId) → IsLive (facts_of c) i → i.entity.0 ≡ e → Belongs e i
   unfolding Belongs
@@ -305,12 +347,21 @@ module _ (s : Rulebase) (c : CaseView) (is : IsOf s c) where
     -- ---- what can be printed
 
     module _ (base : IsPrintableBase s) (own : IsPrintableCase c) (entries : ListsEntries s c x) (days : HasDays x) where
+      instance_can : (i : InstanceId) → IsLive (facts_of c) i → is_same i global ≡ false → IsName i.name
+      instance_can i live apart =
+          let m = shape_of s.model in
+          let held = af.contained i live (some_entity i live apart) in
+          let up = in_upto m (stored c.lists) (m.count - 1) i held.container (sym (ap (λ l. container_of l i) is.fits.live) ∙ held.is) in
+          let has = up.2 in
+          let q = m.contained i.entity.0 in
+          one_name has.names i.name (names_are has.names (is.fits.sound.names q held.container has.names has.known) (own.clean.names q held.container has.names has.known) (own.names q held.container has.names has.known)) has.listed
+
       name_can : (i : InstanceId) → IsLive (facts_of c) i → MayBeName (name_of i)
       name_can i live = go (is_same i global) refl
         where
           go : (b : Bool) → is_same i global ≡ b → MayBeName (cond b None (Some i.name))
           go true e = tt
-          go false e = own.instances i live e
+          go false e = instance_can i live e
 
       attribute_can : (a : AttrId) → a.0 < length s.model.attributes → CanBePhrase (attribute_or s.model a).phrase
       attribute_can a lt =
@@ -335,9 +386,23 @@ module _ (s : Rulebase) (c : CaseView) (is : IsOf s c) where
           go None e = answered (is_unknown v)
           go (Some rule) e = base.places a rule e
 
+      live_names : (t : ℕ) → 0 < t → (ns : List (List ℕ)) → AllByRecursion (λ n. IsLive (facts_of c) (named t n)) ns → AllByRecursion IsName ns
+      live_names t pos [] h = tt
+      live_names t pos (n ∷ ns) h = (instance_can (named t n) h.0 (above_zero (named t n) pos), live_names t pos ns h.1)
+
+      list_can : (q : RelId) (i : InstanceId) (ns : List (List ℕ)) → list_of c q i ≡ Some ns → AllByRecursion IsName ns
+      list_can q i ns e = go (either_has (get c.lists (q.0, i)) (get c.every (q.0, i)) ns e)
+        where
+          go : (get c.lists (q.0, i) ≡ Some ns) ⊎ (get c.every (q.0, i) ≡ Some ns) → AllByRecursion IsName ns
+          go (inl g) = names_are ns (is.fits.sound.names q i ns g) (own.clean.names q i ns g) (own.names q i ns g)
+          go (inr g) =
+              let m = shape_of s.model in
+              let every : m.every q ≡ true = is_every m (stored c.lists) q.0 i ns (sym (ap (λ k. get k (q.0, i)) is.fits.every) ∙ g) in
+              live_names (m.target q) ((shape_is s.model is.is_model).over_another q every) ns (af.listed q i ns e)
+
       names_can : (q : RelId) (i : InstanceId) (names : Option (List (List ℕ))) → list_of c q i ≡ names → AreNames names
       names_can q i None e = tt
-      names_can q i (Some ns) e = own.lists q i ns e
+      names_can q i (Some ns) e = list_can q i ns e
 
       point_can : (a : AttrId) (i : InstanceId) (f t : ℕ) (v : Value) → Contains x.lines (line.Point a i f t v) → CanBeWritten (attribute_or s.model a).kind v
       point_can a i f t v there =
@@ -353,7 +418,7 @@ module _ (s : Rulebase) (c : CaseView) (is : IsOf s c) where
           let span = days a i f t v there in
           ((attribute_can a h.0, name_can i h.1.0), (span.0, (span.1, (point_can a i f t v there, origin_can a v))))
       line_can (line.Members q i names) there h = ((relation_can q h.0, name_can i h.1.0.0), names_can q i names h.1.1)
-      line_can (line.Member q k i) there h = ((relation_can q h.0, name_can k h.1.1.1.0.0), own.instances i h.1.1.1.1.0 h.1.1.1.1.1)
+      line_can (line.Member q k i) there h = ((relation_can q h.0, name_can k h.1.1.1.0.0), instance_can i h.1.1.1.1.0 h.1.1.1.1.1)
 
       lines_can : (ls : List ReportLine) → ((l : ReportLine) → Contains ls l → CanBePrinted (spelled_line s l)) → AllByRecursion CanBePrinted (map (spelled_line s) ls)
       lines_can [] h = tt

@@ -1,5 +1,5 @@
 -- What of a rulebase and of a case can be printed.
-use Rattle.std.specs.Prelude.{◌≡◌, ℕ, List, [], ◌∷◌, ◌++◌, Some, false, Contains}
+use Rattle.std.specs.Prelude.{◌≡◌, ℕ, List, [], ◌∷◌, ◌++◌, Some, Contains}
 use Rattle.std.specs.List.{AllByRecursion}
 use Rattle.std.specs.Str.{IsUtf8}
 use Rattle.opa_value.specs.declared.value.Value.{Value}
@@ -8,9 +8,10 @@ use Rattle.opa_value.specs.Numbers.{InRange}
 use Rattle.opa_model.specs.declared.ids.AttrId.{AttrId}
 use Rattle.opa_model.specs.declared.ids.RelId.{RelId}
 use Rattle.opa_model.specs.Lookups.{attribute_phrases, relation_phrases}
-use Rattle.opa_case.specs.Cases.{Answer, CaseView, list_of}
-use Rattle.opa_case.specs.Fits.{Answered}
-use Rattle.opa_cells.specs.Instances.{is_same, global}
+use Rattle.opa_case.specs.Cases.{Answer, CaseView}
+use Rattle.opa_case.specs.Clean.{IsClean}
+use Rattle.opa_case.specs.Live.{Names}
+use Rattle.opa_case.specs.Fits.{Answered, Known as IsKnown}
 use Rattle.opa_cells.specs.declared.instance.InstanceId.{InstanceId}
 use Rattle.opa_text.specs.Laws.{CanBeQuoted}
 use Rattle.opa_tree.specs.declared.expr.Expr.{Expr}
@@ -19,9 +20,7 @@ use Rattle.opa_tree.specs.declared.expr.Expr.TheFolds.{fold-Expr}
 use Rattle.opa_tree.specs.declared.rulebase.Rulebase.{Rulebase}
 use Rattle.opa_tree.specs.declared.rules.Rule.{Rule}
 use Rattle.opa_tree.specs.Rules.{rule_of}
-use Rattle.opa_mean.specs.Given.{facts_of}
-use Rattle.opa_mean.specs.Mean.{IsLive}
-use Rattle.opa_spelled.specs.Spelling.{IsName, IsOrigin}
+use Rattle.opa_spelled.specs.Spelling.{IsOrigin}
 use Rattle.opa_verbs.specs.Phrasing.{IsReadable}
 use Rattle.opa_proof.specs.Restating.{origin_by}
 
@@ -67,8 +66,14 @@ pub record IsPrintableBase (r : Rulebase) : Type 0 where
   pub places : (a : AttrId) (rule : Rule) → rule_of r.rules a ≡ Some rule → IsOrigin (origin_by r.files (Some rule) value.Unknown)
   pub constants_are : (a : AttrId) (rule : Rule) → rule_of r.rules a ≡ Some rule → AreFine (constants rule.expr)
 
--- The names have no control characters, and the answers are fine.
+-- a text in UTF-8, a number in range, as a program holds them
+abbrev pub IsHeld : Value → Type 0
+IsHeld (value.Num n) = InRange n
+IsHeld (value.Words t) = IsUtf8 t
+IsHeld v = Unit {0}
+
+-- The case is clean, and its names and answers are texts and numbers as a program holds them.
 pub record IsPrintableCase (c : CaseView) : Type 0 where
-  pub instances : (i : InstanceId) → IsLive (facts_of c) i → is_same i global ≡ false → IsName i.name
-  pub lists : (q : RelId) (i : InstanceId) (names : List (List ℕ)) → list_of c q i ≡ Some names → AllByRecursion IsName names
-  pub answers : (a : AttrId) (i : InstanceId) (l : Answer) → Answered c.answers a i l → AllByRecursion (λ p. IsFine p.1) l
+  pub clean : IsClean c
+  pub names : (q : RelId) (i : InstanceId) (names : Names) → IsKnown c.lists q i names → AllByRecursion IsUtf8 names
+  pub answers : (a : AttrId) (i : InstanceId) (l : Answer) → Answered c.answers a i l → AllByRecursion (λ p. IsHeld p.1) l

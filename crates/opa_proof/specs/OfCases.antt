@@ -10,8 +10,8 @@ use Rattle.opa_report_text.specs.Texts.{report_text}
 use Rattle.opa_proof.specs.Fine.{IsPrintableBase, IsPrintableCase}
 
 -- The text, of fewer than 2^64 bytes as each text, is that of the report of a point of a case which fits the rulebase: it has the
--- lines of the point's cone, and lists just what the report of the point does. What stands in the rulebase and in the case can be
--- printed: phrases are phrases, and no name, text or place of a rule has a control character.
+-- lines of the point's cone, and lists just what the report of the point does. Rules can read the rulebase's model, its constants
+-- and the places of its rules can be printed, and the case is clean.
 pub record IsOfCase (r : Rulebase) (text : List ℕ) : Type 0 where
   pub base : IsPrintableBase r
   pub given : CaseView
