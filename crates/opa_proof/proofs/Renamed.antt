@@ -74,7 +74,9 @@ use Rattle.opa_proof.proofs.Fining.{value_written}
 use Rattle.opa_upheld.proofs.Orderly.{reports_are_held_up_holds}
 use Rattle.opa_proof.specs.Naming.{instance_for, is_printed_so, point_at, list_at, asked_point, named_line, member_line, AreNamed}
 use Rattle.opa_proof.specs.Restating.{name_of, spot_of, origin_by, spelled_line, spelled_of, IsRestated}
-use Rattle.opa_proof.specs.Laws.{ReportsGetYes}
+use Rattle.opa_proof.specs.Laws.{ReportsAreSupported, ReportsGetYes}
+use Rattle.opa_proof.specs.Telling.{Tells}
+use Rattle.opa_proof.proofs.Saying.{told_judges}
 use Rattle.opa_proof.proofs.Restated.{origin_is, gets_yes, stands_in}
 
 -- ---- values
@@ -453,3 +455,6 @@ reports_get_yes_holds r text w of j =
     let live = is_alive r of.given of.fits x of.exact of.declared of.point in
     let h = reports_are_held_up_holds r of.given of.fits x live of.entries of.days in
     gets_yes r text x (restated r of.given of.fits x of.exact of.declared of.point (can_be_printed r of.given of.fits x of.exact of.declared of.base of.own of.entries of.days of.point of.day)) of.told of.few h.0 (value_at r of.given x.attr x.inst x.day) h.1 w j
+
+pub reports_are_supported_holds : ReportsAreSupported
+reports_are_supported_holds r text said w of t = subst (λ v. Tells r text v said) (reports_get_yes_holds r text w of (told_judges r text w said t)) t

@@ -8,6 +8,7 @@ use Rattle.opa_report.specs.declared.lines.Report.{Report}
 use Rattle.opa_report_text.specs.Texts.{ArePrintable, report_text}
 use Rattle.opa_proof.specs.Judging.{IsUpheld, Judges}
 use Rattle.opa_proof.specs.OfCases.{IsOfCase}
+use Rattle.opa_proof.specs.Telling.{SaysSupported, Tells}
 use Rattle.opa_proof.specs.declared.verdict.Verdict.{Verdict}
 use Rattle.opa_proof.specs.declared.verdict.Verdict.TheVariants as verdict
 
@@ -18,3 +19,7 @@ ReportsAreUpheld = (r : Rulebase) (c : CaseView) → IsOf r c → (x : Report) �
 -- Yes is the verdict on the text of a report of a case
 abbrev pub ReportsGetYes : Type 0
 ReportsGetYes = (r : Rulebase) (text : List ℕ) (v : Verdict) → IsOfCase r text → Judges r text v → v ≡ verdict.Yes
+
+-- so what is told of such a text says that its value is supported
+abbrev pub ReportsAreSupported : Type 0
+ReportsAreSupported = (r : Rulebase) (text said : List ℕ) (v : Verdict) → IsOfCase r text → Tells r text v said → SaysSupported r text said
