@@ -5,30 +5,25 @@ use Rattle.std.specs.List.{AllByRecursion}
 use Rattle.opa_date.specs.declared.TheConstants.{DAYS}
 use Rattle.opa_value.specs.declared.value.Value.{Value}
 use Rattle.opa_model.specs.declared.ids.AttrId.{AttrId}
-use Rattle.opa_model.specs.declared.lists.Lists.{Lists}
 use Rattle.opa_case.specs.Shapes.{attribute_or}
 use Rattle.opa_cells.specs.declared.instance.InstanceId.{InstanceId}
 use Rattle.opa_tree.specs.declared.rulebase.Rulebase.{Rulebase}
 use Rattle.opa_tree.proofs.Members.{none_in, contains_cases}
-use Rattle.opa_mean.specs.Given.{base_of}
 use Rattle.opa_report.specs.Promises.{HaveDays}
-use Rattle.opa_report.specs.declared.lines.Report.{Report}
 use Rattle.opa_report.specs.declared.lines.ReportLine.{ReportLine}
 use Rattle.opa_report.specs.declared.lines.ReportLine.TheVariants as line
-use Rattle.opa_report_text.specs.Texts.{report_text, first_line}
+use Rattle.opa_report_text.specs.Texts.{first_line}
 use Rattle.opa_spelled.specs.declared.printed.Printed.{Printed}
-use Rattle.opa_spelled.specs.declared.printed.Printed.TheVariants as printed
 use Rattle.opa_spelled.specs.declared.printed.Spelled.{Spelled}
 use Rattle.opa_spelled.specs.Dated.{IsDated}
 use Rattle.opa_spelled.specs.Printed.{lines_text, end_line}
 use Rattle.opa_spelled.specs.Reading.{IsTextOf}
-use Rattle.opa_upheld.specs.Proofs.{AreHeldUp}
 use Rattle.opa_upheld.proofs.Orderly.{held_up_supports_holds, reports_are_held_up_holds}
 use Rattle.opa_mean.specs.Rulebases.{value_at}
 use Rattle.opa_proof.specs.Laws.{ReportsAreUpheld}
-use Rattle.opa_proof.specs.Judging.{IsTextOfReport, asked_value, IsUpheld, Judges, IsSupported}
+use Rattle.opa_proof.specs.Judging.{IsTextOfReport, IsUpheld, Judges, IsSupported}
 use Rattle.opa_proof.specs.Named.{IsFirstUnnamed}
-use Rattle.opa_proof.specs.Naming.{named_line, asked_point, AreNamed, point_line, named_point, named_members, named_member, member_line, point_at, list_at}
+use Rattle.opa_proof.specs.Naming.{named_line, asked_point, AreNamed}
 use Rattle.opa_proof.specs.declared.verdict.Verdict.{Verdict}
 use Rattle.opa_proof.specs.declared.verdict.Verdict.TheVariants as verdict
 use Rattle.opa_proof.proofs.Printing.{asked_is, lines_are, head_is, line_days}

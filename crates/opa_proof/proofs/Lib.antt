@@ -1,3 +1,6 @@
+pub mod Fining
 pub mod Judged
 pub mod Printing
+pub mod Renamed
+pub mod Restated
 pub mod Saying

@@ -1,5 +1,5 @@
 -- What is named is printed so.
-use Rattle.std.proofs.Common.{◌≡◌, ℕ, zero, suc, ◌+◌, ◌<◌, ◌≤◌, ◌&&◌, List, [], ◌∷◌, ◌++◌, map, length, Bool, true, false, cond, Option, None, Some, refl, sym, ◌∙◌, ap, subst, append_assoc, arith}
+use Rattle.std.proofs.Common.{◌≡◌, ℕ, zero, suc, ◌+◌, ◌<◌, ◌≤◌, List, [], ◌∷◌, ◌++◌, map, length, Bool, true, false, cond, Option, None, Some, refl, sym, ◌∙◌, ap, subst, append_assoc, arith}
 use Rattle.std.specs.Prelude.{codes, position, slice_get, unwrap_or}
 use Rattle.std.specs.Option.{option_map, option_and_then}
 use Rattle.std.specs.Str.{bytes_eq}
@@ -35,7 +35,7 @@ use Rattle.opa_spelled.specs.declared.printed.Origin.{Origin}
 use Rattle.opa_spelled.specs.declared.printed.Printed.{Printed}
 use Rattle.opa_spelled.specs.declared.printed.Printed.TheVariants as printed
 use Rattle.opa_spelled.specs.Dated.{IsDated}
-use Rattle.opa_spelled.specs.Printed.{name_part, spot_text, origin_text, days_text, placed_text, numbered_line, lines_text, end_line, head_line}
+use Rattle.opa_spelled.specs.Printed.{name_part, spot_text, origin_text, days_text, numbered_line, lines_text, end_line, head_line}
 use Rattle.opa_proof.specs.Naming.{instance_for, is_printed_so, point_line, point_at, list_at, member_line, asked_point, named_point, named_members, named_member, named_line, AreNamed}
 
 some_same : {X : Type 0} (x y : X) → Some x ≡ Some y → x ≡ y
@@ -137,7 +137,7 @@ module _ (b : Rulebase) where
       )
 
   -- a line of names behind a colon
-  listed_is : (n : ℕ) (front p point more : List ℕ) → point ≡ p → decimal n ++ (32 ∷ front ++ (point ++ (codes ": " ++ (more ++ 10 ∷ [])))) ≡ decimal n ++ (codes " " ++ ((front ++ (p ++ (codes ": " ++ more))) ++ 10 ∷ []))
+  pub listed_is : (n : ℕ) (front p point more : List ℕ) → point ≡ p → decimal n ++ (32 ∷ front ++ (point ++ (codes ": " ++ (more ++ 10 ∷ [])))) ≡ decimal n ++ (codes " " ++ ((front ++ (p ++ (codes ": " ++ more))) ++ 10 ∷ []))
   listed_is n front p point more e =
       ap (λ x. decimal n ++ (32 ∷ front ++ (x ++ (codes ": " ++ (more ++ 10 ∷ []))))) e
       ∙ ap (λ x. decimal n ++ 32 ∷ x) (ap (λ x. front ++ x) (sym (append_assoc p (codes ": " ++ more) (10 ∷ []))) ∙ sym (append_assoc front (p ++ (codes ": " ++ more)) (10 ∷ [])))

@@ -1,5 +1,5 @@
 -- What is printed of a verdict, from what its parts ensure.
-use Rattle.std.proofs.Common.{◌≡◌, List, ℕ, [], ◌∷◌, Option, None, Some, refl, sym, subst, cond, Bool, true, false}
+use Rattle.std.proofs.Common.{◌≡◌, List, ℕ, [], ◌∷◌, Option, None, Some, refl, sym, subst, Bool, true, false}
 use Rattle.std.specs.Prelude.{if◌then◌else◌}
 use Rattle.std.specs.List.{AllByRecursion}
 use Rattle.std.specs.Option.{option_or}
@@ -17,14 +17,14 @@ use Rattle.opa_tree.specs.declared.rulebase.Rulebase.{Rulebase}
 use Rattle.opa_upheld.specs.Proofs.{AreHeldUp}
 use Rattle.opa_upheld.specs.Told.{first_told, value_by}
 use Rattle.opa_upheld.proofs.Orderly.{held_up_supports_holds}
-use Rattle.opa_proof.specs.Judging.{IsTextOfReport, IsSupported, Judges, asked_value}
-use Rattle.opa_proof.specs.Telling.{SaysSupported, Tells, refused_text, supported_text}
+use Rattle.opa_proof.specs.Judging.{IsTextOfReport, Judges, asked_value}
+use Rattle.opa_proof.specs.Telling.{Tells, refused_text, supported_text}
 use Rattle.opa_proof.specs.declared.verdict.Verdict.{Verdict}
 use Rattle.opa_proof.specs.declared.verdict.Verdict.TheVariants as verdict
 
 module _ (r : Rulebase) (text : List ℕ) where
-  pub tells_syntax : (k : ℕ) (w : Verdict) (said : List ℕ) → w ≡ verdict.Syntax k → said ≡ refused_text (verdict.Syntax k) → Tells r text w said
-  tells_syntax k w said e s = subst (λ v. Tells r text v said) (sym e) (tt, s)
+  pub tells_syntax : (k : ℕ) (w : Verdict) (said : List ℕ) → w ≡ verdict.Syntax k → said ≡ refused_text (verdict.Syntax k) → Judges r text (verdict.Syntax k) → Tells r text w said
+  tells_syntax k w said e s j = subst (λ v. Tells r text v said) (sym e) (j, s)
 
   pub tells_name : (k : ℕ) (w : Verdict) (said : List ℕ) → w ≡ verdict.Name k → said ≡ refused_text (verdict.Name k) → Judges r text (verdict.Name k) → Tells r text w said
   tells_name k w said e s j = subst (λ v. Tells r text v said) (sym e) (j, s)

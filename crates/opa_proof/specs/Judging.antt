@@ -10,12 +10,14 @@ use Rattle.opa_report.specs.declared.lines.Report.{Report}
 use Rattle.opa_report.specs.Supporting.{Lists}
 use Rattle.opa_report_text.specs.Texts.{ArePrintable, report_text}
 use Rattle.opa_spelled.specs.declared.printed.Spelled.{Spelled}
+use Rattle.opa_spelled.specs.Lines.{lined}
 use Rattle.opa_spelled.specs.Reading.{IsTextOf}
+use Rattle.opa_spelled.specs.Spelling.{IsUnspelledAt}
 use Rattle.opa_upheld.specs.Faults.{IsFirstFault}
 use Rattle.opa_upheld.specs.Proofs.{AreHeldUp}
 use Rattle.opa_upheld.specs.Told.{listing_of}
 use Rattle.opa_proof.specs.Named.{IsFirstUnnamed}
-use Rattle.opa_proof.specs.Naming.{asked_point}
+use Rattle.opa_proof.specs.Naming.{asked_point, AreNamed}
 use Rattle.opa_proof.specs.declared.verdict.Verdict.{Verdict}
 use Rattle.opa_proof.specs.declared.verdict.Verdict.TheVariants as verdict
 
@@ -23,6 +25,14 @@ use Rattle.opa_proof.specs.declared.verdict.Verdict.TheVariants as verdict
 pub record IsTextOfReport (r : Rulebase) (text : List ℕ) (x : Report) : Type 0 where
   pub is : report_text r x ≡ text
   pub printable : ArePrintable r.model x
+
+-- the text is spelled so, and by its names it is the report
+pub record IsReadAs (r : Rulebase) (text : List ℕ) (x : Report) : Type 0 where
+  pub spelled : Spelled
+  pub told : IsTextOf text spelled
+  pub asked : asked_point r spelled.asked ≡ Some (x.attr, x.inst)
+  pub day : spelled.day ≡ x.day
+  pub lines : AreNamed r spelled.printed x.lines
 
 -- the value that a report lists for its point
 abbrev pub asked_value : Report → Option Value
@@ -46,9 +56,9 @@ pub record IsUpheld (r : Rulebase) (text : List ℕ) : Type 0 where
 
 abbrev pub Judges : Rulebase → List ℕ → Verdict → Type 0
 Judges r text verdict.Yes = IsUpheld r text
-Judges r text (verdict.Syntax k) = Unit {0}
+Judges r text (verdict.Syntax k) = IsUnspelledAt (lined text) k
 Judges r text (verdict.Name k) = (s : Spelled) × (IsTextOf text s × IsUnnamedAt r s k)
-Judges r text (verdict.NotDerived k) = (x : Report) × (IsTextOfReport r text x × IsNotDerivedAt r x k)
+Judges r text (verdict.NotDerived k) = (x : Report) × (IsTextOfReport r text x × (IsReadAs r text x × IsNotDerivedAt r x k))
 
 -- The text is a report's, and what it lists supports the value that it prints for the point of its first line.
 pub record IsSupported (r : Rulebase) (text : List ℕ) : Type 0 where

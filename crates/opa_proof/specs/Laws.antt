@@ -1,12 +1,25 @@
 -- What holds of the texts of reports.
+use Rattle.std.specs.Prelude.{◌≡◌, ℕ, List}
 use Rattle.opa_case.specs.Cases.{CaseView, IsLive}
 use Rattle.opa_tree.specs.declared.rulebase.Rulebase.{Rulebase}
 use Rattle.opa_mean.specs.Rulebases.{IsOf}
 use Rattle.opa_report.specs.Promises.{ListsEntries, HasDays}
 use Rattle.opa_report.specs.declared.lines.Report.{Report}
 use Rattle.opa_report_text.specs.Texts.{ArePrintable, report_text}
-use Rattle.opa_proof.specs.Judging.{IsUpheld}
+use Rattle.opa_proof.specs.Judging.{IsUpheld, Judges}
+use Rattle.opa_proof.specs.OfCases.{IsOfCase}
+use Rattle.opa_proof.specs.Telling.{SaysSupported, Tells}
+use Rattle.opa_proof.specs.declared.verdict.Verdict.{Verdict}
+use Rattle.opa_proof.specs.declared.verdict.Verdict.TheVariants as verdict
 
 -- the text of a report of a case is upheld: all of its lines are held up, and the value of its point is listed
 abbrev pub ReportsAreUpheld : Type 0
 ReportsAreUpheld = (r : Rulebase) (c : CaseView) → IsOf r c → (x : Report) → IsLive c x.inst → ListsEntries r c x → HasDays x → ArePrintable r.model x → IsUpheld r (report_text r x)
+
+-- Yes is the verdict on the text of a report of a case
+abbrev pub ReportsGetYes : Type 0
+ReportsGetYes = (r : Rulebase) (text : List ℕ) (v : Verdict) → IsOfCase r text → Judges r text v → v ≡ verdict.Yes
+
+-- so what is told of such a text says that its value is supported
+abbrev pub ReportsAreSupported : Type 0
+ReportsAreSupported = (r : Rulebase) (text said : List ℕ) (v : Verdict) → IsOfCase r text → Tells r text v said → SaysSupported r text said

@@ -3,7 +3,7 @@ ghost use Rattle.std.specs.Prelude.{◌≡◌, ◌+◌, None, Some, IfOk};
 ghost use Rattle.std.specs.Option.{option_copied};
 ghost use Rattle.opa_report.specs.Promises.{HaveDays};
 ghost use Rattle.opa_spelled.specs.Reading.{IsTextOf};
-ghost use Rattle.opa_proof.specs.Judging.{IsTextOfReport};
+ghost use Rattle.opa_proof.specs.Judging.{IsReadAs, IsTextOfReport};
 ghost use Rattle.opa_proof.specs.Naming.{asked_point};
 ghost use Rattle.opa_proof.specs.Telling.{Tells};
 ghost use Rattle.opa_upheld.specs.Told.{listing_of, value_by};
@@ -88,6 +88,7 @@ fn judge_lines(
 /// What is said of the text of a report.
 fn derive(alloc: Global, base: &Rulebase, text: &[u8], report: &Report) -> Result<Told, NoMemory>
     requires text { IsTextOfReport base.now text.now report.now }
+    requires read { IsReadAs base.now text.now report.now }
     requires days { HaveDays report.now.lines }
     ensures { IfOk result (λ t. Tells base.now text.now t.verdict t.text) }
 {

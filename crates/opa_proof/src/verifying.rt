@@ -1,6 +1,7 @@
 // The verifier.
 ghost use Rattle.std.specs.Prelude.{◌≡◌, IfOk};
 ghost use Rattle.opa_proof.specs.Judging.{IsSupported, Judges};
+ghost use Rattle.opa_proof.specs.OfCases.{IsOfCase};
 ghost use Rattle.opa_proof.specs.Telling.{Tells};
 ghost use Rattle.opa_proof.specs.declared.verdict.Verdict.TheVariants as verdicts;
 
@@ -17,6 +18,7 @@ use std::alloc::Global;
 pub fn verify(alloc: Global, base: &Rulebase, report: &[u8]) -> Result<Verdict, NoMemory>
     ensures judged { IfOk result (Judges base.now report.now) }
     ensures supported { IfOk result (λ v. v ≡ verdicts.Yes → IsSupported base.now report.now) }
+    ensures complete { IfOk result (λ v. IsOfCase base.now report.now → v ≡ verdicts.Yes) }
 {
     let told = tell(alloc, base, report)?;
     Ok(told.verdict)

@@ -1,18 +1,14 @@
 -- Control characters in bytes as in characters.
-use Rattle.std.proofs.Common.{◌≡◌, ℕ, ◌<◌, length, List, [], ◌∷◌, ◌++◌, Bool, true, false, refl, sym, ap, subst, ◌∙◌, arith}
-use Rattle.std.specs.Prelude.{nat_lt, not, ◌||◌, ◌==◌}
+use Rattle.std.proofs.Common.{◌≡◌, ℕ, suc, ◌<◌, length, get_or, List, [], ◌∷◌, ◌++◌, Bool, true, false, Decides, refl, sym, ap, ◌∙◌, arith, append-nil}
+use Rattle.std.specs.Prelude.{nat_lt, not, ◌||◌}
 use Rattle.std.specs.List.{list_any, AllByRecursion}
-use Rattle.std.specs.Str.{chars, IsUtf8, bytes_eq}
-use Rattle.std.specs.Cmp.Lexicographic.{bytes_decides}
+use Rattle.std.specs.Str.{chars, IsUtf8}
 use lib.Utf8.{encode, encodes}
 use Rattle.std.proofs.lemmas.Bool.{ltb-true}
-use Rattle.std.proofs.lemmas.Str.{encodes-chars, encode_ascii}
+use Rattle.std.proofs.lemmas.Str.{encodes-chars, encode_ascii, inside_one}
 use Rattle.opa_words.specs.Characters.{is_control}
-use Rattle.opa_words.specs.Cuts.{Cuts}
-use Rattle.opa_words.specs.Reserved.{are_phrase, phrase_text}
-use Rattle.opa_words.specs.declared.kinds.Token.{Token}
 use Rattle.opa_text.specs.Laws.{CanBeQuoted}
-use Rattle.opa_spelled.specs.Spelling.{CanBePhrase, is_plain, CanBePrinted}
+use Rattle.opa_spelled.specs.Spelling.{CanBePrinted}
 use Rattle.opa_spelled.specs.declared.printed.Printed.{Printed}
 use Rattle.opa_spelled.specs.declared.printed.Printed.TheVariants as printed
 use Rattle.opa_spelled.specs.Dated.{IsDated}
@@ -57,12 +53,41 @@ all_clean (c ∷ cs) h = ap (λ t. t || list_any is_control cs) (one_clean c (no
 pub quoted_from : (t : List ℕ) → IsUtf8 t → list_any is_control t ≡ false → CanBeQuoted t
 quoted_from t u h = record { utf8 = u; plain = all_clean (chars t) (ap (list_any is_control) (encodes-chars t u) ∙ h) }
 
--- ---- phrases
+-- and back
 
-pub phrase_is : (text phrase : List ℕ) (ts : List Token) → IsUtf8 text → Cuts (length text) (chars text) ts → are_phrase text ts ≡ true → phrase ≡ phrase_text text ts → bytes_eq phrase text ≡ true → is_plain text ≡ true → CanBePhrase phrase
-phrase_is text phrase ts u cuts are p same plain =
-    let is : phrase ≡ text = (bytes_decides phrase text).0 same in
-    subst CanBePhrase (sym is) (record { utf8 = u; phrase = record { tokens = ts; cut = cuts; phrase = are; spaced = sym p ∙ is }; plain = plain })
+not_at : (xs : List ℕ) → ((i : ℕ) → i < length xs → is_control (get_or xs i 0) ≡ false) → list_any is_control xs ≡ false
+not_at [] h = refl
+not_at (x ∷ xs) h = ap (λ t. t || list_any is_control xs) (h 0 (omega arith)) ∙ not_at xs (λ i l. h (suc i) (omega (arith, l)))
+
+byte_clean : (c i : ℕ) → is_control c ≡ false → i < length (encode c) → is_control (get_or (encode c) i 0) ≡ false
+byte_clean c i n l = go (is_control (get_or (encode c) i 0)) refl
+  where
+    go : (b : Bool) → is_control (get_or (encode c) i 0) ≡ b → is_control (get_or (encode c) i 0) ≡ false
+    go false e = e
+    go true e =
+        let is : c ≡ get_or (encode c) i 0 = inside_one c [] (encode c) i (sym (append-nil (encode c))) l (ltb-true (get_or (encode c) i 0) 128 (low (get_or (encode c) i 0) e)) in
+        absurd (let f : true ≡ false = sym e ∙ ap is_control (sym is) ∙ n in cc f)
+
+none_both : (xs ys : List ℕ) → list_any is_control xs ≡ false → list_any is_control ys ≡ false → list_any is_control (xs ++ ys) ≡ false
+none_both [] ys h k = k
+none_both (x ∷ xs) ys h k = ap (λ t. t || list_any is_control (xs ++ ys)) (or_left (is_control x) (list_any is_control xs) h) ∙ none_both xs ys (or_right (is_control x) (list_any is_control xs) h) k
+
+bytes_clean : (cs : List ℕ) → list_any is_control cs ≡ false → list_any is_control (encodes cs) ≡ false
+bytes_clean [] h = refl
+bytes_clean (c ∷ cs) h = none_both (encode c) (encodes cs) (not_at (encode c) (λ i l. byte_clean c i (or_left (is_control c) (list_any is_control cs) h) l)) (bytes_clean cs (or_right (is_control c) (list_any is_control cs) h))
+
+pub clean_bytes : (t : List ℕ) → CanBeQuoted t → list_any is_control t ≡ false
+clean_bytes t h = ap (list_any is_control) (sym (encodes-chars t h.utf8)) ∙ bytes_clean (chars t) h.plain
+
+not_true : (b : Bool) → not b ≡ true → b ≡ false
+not_true true h = absurd (cc h)
+not_true false h = refl
+
+pub clean_decides : (t bytes : List ℕ) (b : Bool) → IsUtf8 t → bytes ≡ t → b ≡ list_any is_control bytes → Decides (not b) (CanBeQuoted t)
+clean_decides t bytes b u e k = (
+  λ yes. quoted_from t u (ap (list_any is_control) (sym e) ∙ sym k ∙ not_true b yes),
+  λ can. ap not (k ∙ ap (list_any is_control) e ∙ clean_bytes t can),
+)
 
 -- ---- days
 

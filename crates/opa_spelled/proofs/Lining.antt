@@ -1,7 +1,7 @@
 -- The lines of a text, one after another.
 use Rattle.std.proofs.Common.{◌≡◌, ℕ, ◌+◌, ◌<◌, List, [], ◌∷◌, ◌++◌, Bool, true, false, cond, not, ◌&&◌, ◌==◌, take, length, refl, sym, ◌∙◌, ap, arith, append_assoc, append-nil, length-append}
-use Rattle.std.proofs.lemmas.Bool.{eq-eqb, ne_eqb}
-use Rattle.opa_spelled.specs.Lines.{Lined, onto_line, with_byte, lined, with_line}
+use Rattle.std.proofs.lemmas.Bool.{ne_eqb}
+use Rattle.opa_spelled.specs.Lines.{Lined, with_byte, lined, with_line}
 use Rattle.opa_spelled.proofs.Cutting.{taken}
 
 -- no line feed is among the bytes

@@ -1,8 +1,10 @@
 -- What holds of spelled texts.
-use Rattle.std.specs.Prelude.{◌≡◌, ℕ}
+use Rattle.std.specs.Prelude.{◌≡◌, ◌<◌, ◌^◌, ℕ, length}
 use Rattle.opa_spelled.specs.declared.printed.Spelled.{Spelled}
-use Rattle.opa_spelled.specs.Lines.{Lined}
-use Rattle.opa_spelled.specs.Spelling.{Spells, IsUnspelledAt}
+use Rattle.opa_spelled.specs.Lines.{Lined, lined}
+use Rattle.opa_spelled.specs.Printed.{spelled_text}
+use Rattle.opa_spelled.specs.Same.{SaysSame}
+use Rattle.opa_spelled.specs.Spelling.{IsSpelled, Spells, IsUnspelledAt}
 
 -- a text has at most one line that breaks it first, and none where it is spelled
 abbrev pub OneFirstFault : Type 0
@@ -10,3 +12,11 @@ OneFirstFault = (t : Lined) (j k : ℕ) → IsUnspelledAt t j → IsUnspelledAt 
 
 abbrev pub SpelledHasNone : Type 0
 SpelledHasNone = (t : Lined) (r : Spelled) (k : ℕ) → Spells t r → IsUnspelledAt t k → ⊥
+
+-- a report that can be printed is spelled by its text
+abbrev pub TextsAreSpelled : Type 0
+TextsAreSpelled = (s : Spelled) → IsSpelled s → length s.printed < 2 ^ 64 → Spells (lined (spelled_text s)) s
+
+-- reports with the same text say the same
+abbrev pub OneSpelling : Type 0
+OneSpelling = (s t : Spelled) → IsSpelled s → IsSpelled t → length s.printed < 2 ^ 64 → length t.printed < 2 ^ 64 → spelled_text s ≡ spelled_text t → SaysSame s t

@@ -1,5 +1,5 @@
 -- Which texts are spelled as reports, and the first line that breaks one which isn't.
-use Rattle.std.specs.Prelude.{◌≡◌, ◌⊎◌, ℕ, Bool, true, false, not, ◌||◌, ◌==◌, ◌≤◌, ◌<◌, ◌+◌, ◌-◌, ◌^◌, List, [], ◌∷◌, ◌++◌, length, take, Option, None, Some, MatchOption, if◌then◌else◌}
+use Rattle.std.specs.Prelude.{◌≡◌, ◌⊎◌, ℕ, Bool, true, not, ◌||◌, ◌==◌, ◌≤◌, ◌<◌, ◌+◌, ◌-◌, ◌^◌, List, [], ◌++◌, length, take, Option, None, Some, MatchOption}
 use Rattle.std.specs.List.{list_all, AllByRecursion}
 use Rattle.std.specs.Str.{IsUtf8}
 use Rattle.opa_date.specs.declared.TheConstants.{DAYS}
@@ -77,6 +77,6 @@ EndsEarly t k = (k ≡ length t.lines + 1) × (BeginReport t.lines × ((r : Spel
 abbrev pub IsUnspelledAt : Lined → ℕ → Type 0
 IsUnspelledAt t k = BreaksAt t.lines k ⊎ EndsEarly t k
 
--- what is read of a text: there is nothing with this text, or it is this
+-- what is read of a text: nothing that can be printed is printed so, or this is
 abbrev pub Reads : {X : Type 0} → (X → Type 0) → (X → List ℕ) → List ℕ → Option X → Type 0
 Reads {X} P told bytes o = MatchOption o ((x : X) → P x → told x ≡ bytes → ⊥) (λ x. P x × (told x ≡ bytes))

@@ -10,3 +10,13 @@ pub fn one_first_fault()
 pub fn spelled_has_none()
     ensures { law.SpelledHasNone }
 {}
+
+/// A report that can be printed is spelled by its text.
+pub fn texts_are_spelled()
+    ensures { law.TextsAreSpelled }
+{}
+
+/// Reports with the same text say the same.
+pub fn one_spelling()
+    ensures { law.OneSpelling }
+{}

@@ -4,16 +4,19 @@
 mod body;
 mod clean;
 mod cuts;
+mod days;
 mod laws;
 mod lines;
+mod names;
 mod origins;
 mod printed;
 mod reading;
 mod spots;
 mod texts;
+mod told;
 mod values;
 
-pub use laws::{one_first_fault, spelled_has_none};
+pub use laws::{one_first_fault, one_spelling, spelled_has_none, texts_are_spelled};
 pub use printed::{Origin, Printed, Spelled, Spot};
 pub use reading::{Reading, read_report};
 pub use texts::origin_text;

@@ -1,17 +1,20 @@
 // A whole text, read line by line.
-ghost use Rattle.std.specs.Prelude.{◌≡◌, ◌<◌, ◌++◌, ℕ, List as Seq, IfOk, IfSome};
+ghost use Rattle.std.specs.Prelude.{◌≡◌, ◌<◌, ◌∷◌, ◌++◌, [], ℕ, List as Seq, codes, IfOk, MatchOption};
 ghost use Rattle.std.specs.Str.{bytes_eq};
 ghost use Rattle.opa_date.specs.declared.TheConstants.{DAYS};
-ghost use Rattle.opa_spelled.specs.Spelling.{CanBePrinted, IsSpot};
+ghost use Rattle.opa_date.specs.Texts.{day_text};
+ghost use Rattle.opa_spelled.specs.Lines.{lined, with_line};
+ghost use Rattle.opa_spelled.specs.Spelling.{CanBePrinted, IsSpot, Reads};
 ghost use Rattle.opa_spelled.specs.Printed as meant;
-ghost use Rattle.opa_spelled.specs.Reading.{IsReadFrom};
+ghost use Rattle.opa_spelled.specs.Reading.{IsAsked, IsPointAt, IsReadFrom, asked_line};
+ghost use Rattle.opa_spelled.specs.declared.reading.Reading.TheVariants as readings;
 
-use crate::body::{day_of, line_in};
+use crate::body::line_in;
 use crate::cuts::{before, past};
+use crate::days::day_of;
 use crate::lines::first_line;
 use crate::printed::{Printed, Spelled, Spot};
 use crate::spots::spot_in;
-use crate::texts::{head_text, numbered_text};
 use opa_io::{List, NoMemory};
 use std::alloc::Global;
 
@@ -27,70 +30,45 @@ pub fn read_report(alloc: Global, text: &[u8]) -> Result<Reading, NoMemory>
     ensures { IfOk result (IsReadFrom text.now) }
 {
     match first_line(text) {
-        None => Ok(Reading::BrokenAt(1)),
-        Some((line, rest)) => match head_of(alloc, line)? {
-            None => Ok(Reading::BrokenAt(1)),
+        None => broken_at(1),
+        Some((line, rest)) => match head_in(alloc, line)? {
+            None => broken_at(1),
             Some((asked, day)) => lines_of(alloc, text, asked, day, rest),
         },
     }
 }
 
-/// The point and the day of the first line, if this is their text.
-fn head_of(alloc: Global, line: &[u8]) -> Result<Option<(Spot, u32)>, NoMemory>
-    ensures { IfOk result (λ o. IfSome o (λ x. IsSpot x.0 × ((x.1 < DAYS) × (meant.head_line x.0 x.1 ≡ line.now)))) }
-{
-    match head_in(alloc, line)? {
-        None => Ok(None),
-        Some((asked, day)) => head_as(alloc, asked, day, line),
-    }
-}
-
-fn head_as(
-    alloc: Global,
-    asked: Spot,
-    day: u32,
-    line: &[u8],
-) -> Result<Option<(Spot, u32)>, NoMemory>
-    requires spot { IsSpot asked }
-    requires day { day < DAYS }
-    ensures { IfOk result (λ o. IfSome o (λ x. IsSpot x.0 × ((x.1 < DAYS) × (meant.head_line x.0 x.1 ≡ line.now)))) }
-{
-    let printed = head_text(alloc, &asked, day)?;
-    if !is_text(printed.as_str(), line) {
-        return Ok(None);
-    }
-    Ok(Some((asked, day)))
-}
-
-fn is_text(text: &str, bytes: &[u8]) -> bool
-    ensures { result ≡ bytes_eq text.now bytes.now }
-{
-    text.as_bytes() == bytes
-}
-
+/// The point and the day of the first line.
 fn head_in(alloc: Global, line: &[u8]) -> Result<Option<(Spot, u32)>, NoMemory>
-    ensures spot { IfOk result (λ o. IfSome o (λ x. IsSpot x.0)) }
-    ensures day { IfOk result (λ o. IfSome o (λ x. x.1 < DAYS)) }
+    ensures { IfOk result (Reads IsAsked asked_line line.now) }
 {
-    match head_parts(line) {
+    match body_of("report ", line) {
         None => Ok(None),
-        Some((spot, day)) => match spot_in(alloc, spot)? {
+        Some(asked) => match dated_in(asked) {
             None => Ok(None),
-            Some(asked) => Ok(Some((asked, day))),
+            Some((point, day)) => match spot_in(alloc, point)? {
+                None => Ok(None),
+                Some(spot) => Ok(Some((spot, day))),
+            },
         },
     }
 }
 
-fn head_parts(line: &[u8]) -> Option<(&[u8], u32)>
-    ensures { IfSome result (λ x. x.1 < DAYS) }
+/// A point and the day behind it.
+fn dated_in(text: &[u8]) -> Option<(&[u8], u32)>
+    ensures { MatchOption result ((p : Seq ℕ) (d : ℕ) → IsPointAt p d text.now → ⊥) (λ x. IsPointAt x.0.now x.1 text.now) }
 {
-    let asked = before("\n".as_bytes(), past("report ".as_bytes(), line)?)?;
-    if asked.len() < 10 {
+    if text.len() < 10 {
         return None;
     }
-    let (front, date) = asked.split_at(asked.len() - 10);
-    let day = day_of(date)?;
-    Some((before(" at ".as_bytes(), front)?, day))
+    let (front, date) = text.split_at(text.len() - 10);
+    match day_of(date) {
+        None => None,
+        Some(day) => match before(" at ", front) {
+            None => None,
+            Some(point) => Some((point, day)),
+        },
+    }
 }
 
 /// The lines behind the first one.
@@ -104,6 +82,7 @@ fn lines_of(
     requires asked { IsSpot asked }
     requires day { day < DAYS }
     requires start { text.now ≡ meant.head_line asked day ++ start.now }
+    requires lines { lined text.now ≡ with_line (meant.head_line asked day) (lined start.now) }
     ensures { IfOk result (IsReadFrom text.now) }
 {
     let mut printed = List::new(alloc);
@@ -120,7 +99,7 @@ fn lines_of(
                 printed,
             }));
         }
-        match numbered_of(alloc, number, line)? {
+        match numbered_in(alloc, number, line)? {
             None => return broken_at(number + 1),
             Some(found) => {
                 printed.push(found)?;
@@ -132,7 +111,7 @@ fn lines_of(
 }
 
 fn broken_at(line: u64) -> Result<Reading, NoMemory>
-    ensures { (text : Seq ℕ) → IfOk result (IsReadFrom text) }
+    ensures { IfOk result (λ r. r ≡ readings.BrokenAt line) }
 {
     match u32::try_from(line) {
         Ok(line) => Ok(Reading::BrokenAt(line)),
@@ -140,42 +119,35 @@ fn broken_at(line: u64) -> Result<Reading, NoMemory>
     }
 }
 
-/// The line with this number, if this is its text.
-fn numbered_of(alloc: Global, number: u64, line: &[u8]) -> Result<Option<Printed>, NoMemory>
-    ensures { IfOk result (λ o. IfSome o (λ x. CanBePrinted x × (meant.numbered_line number x ≡ line.now))) }
+fn is_text(text: &str, bytes: &[u8]) -> bool
+    ensures { result ≡ bytes_eq text.now bytes.now }
 {
-    match numbered_in(alloc, number, line)? {
-        None => Ok(None),
-        Some(found) => numbered_as(alloc, number, found, line),
-    }
+    text.as_bytes() == bytes
 }
 
-fn numbered_as(
-    alloc: Global,
-    number: u64,
-    found: Printed,
-    line: &[u8],
-) -> Result<Option<Printed>, NoMemory>
-    requires { CanBePrinted found }
-    ensures { IfOk result (λ o. IfSome o (λ x. CanBePrinted x × (meant.numbered_line number x ≡ line.now))) }
-{
-    let printed = numbered_text(alloc, number, &found)?;
-    if !is_text(printed.as_str(), line) {
-        return Ok(None);
-    }
-    Ok(Some(found))
-}
-
+/// The line with this number.
 fn numbered_in(alloc: Global, number: u64, line: &[u8]) -> Result<Option<Printed>, NoMemory>
-    ensures { IfOk result (λ o. IfSome o CanBePrinted) }
+    ensures { IfOk result (Reads CanBePrinted (meant.numbered_line number) line.now) }
 {
     let start = format!(in alloc; "{} ", number)?;
-    match body_of(start.as_bytes(), line) {
+    match body_of(start.as_str(), line) {
         None => Ok(None),
-        Some(body) => line_in(alloc, body),
+        Some(body) => {
+            let found = line_in(alloc, body)?;
+            Ok(found)
+        }
     }
 }
 
-fn body_of<'t>(start: &[u8], line: &'t [u8]) -> Option<&'t [u8]> {
-    before("\n".as_bytes(), past(start, line)?)
+/// What stands between these bytes and the line's end.
+fn body_of<'t>(start: &str, line: &'t [u8]) -> Option<&'t [u8]>
+    ensures { MatchOption result ((b : Seq ℕ) → line.now ≡ start.now ++ (b ++ 10 ∷ []) → ⊥) (λ b. line.now ≡ start.now ++ (b.now ++ 10 ∷ [])) }
+{
+    match past(start, line) {
+        None => None,
+        Some(rest) => match before("\n", rest) {
+            None => None,
+            Some(body) => Some(body),
+        },
+    }
 }

@@ -33,4 +33,4 @@ returns-in_ok-told-in-Some-2 c =
     let listed : asked_value r ≡ Some c.in-Some.value.now = sym (ap (λ ls. (listing_of ls).value r.attr r.inst r.day) c.as_slice-lines.ensures) ∙ sym c.listed.ensures ∙ ap option_copied c.in-Some.is in
     let told = c.in_ok-told-in-Some-2 in
     tells_not_derived c.args.base.now c.args.text.now c.in_ok-line-in-Some-2.line told.told.verdict told.told.text told.ensures.verdict told.ensures.text
-    (r, (c.requires.text, inr (c.in-Some.value.now, (listed, (c.in-Some-2.place, (c.in_ok-line-in-Some-2.ensures, subst (λ ls. IsFirstFault b ls c.in-Some-2.place) c.as_slice-lines.ensures first))))))
+    (r, (c.requires.text, (c.requires.read, inr (c.in-Some.value.now, (listed, (c.in-Some-2.place, (c.in_ok-line-in-Some-2.ensures, subst (λ ls. IsFirstFault b ls c.in-Some-2.place) c.as_slice-lines.ensures first)))))))

@@ -1,4 +1,4 @@
-use Rattle.std.proofs.Common.{inr, subst}
+use Rattle.std.proofs.Common.{inr, subst, refl}
 use Rattle.opa_proof.specs.Named.{AreNamedUpTo}
 use Rattle.opa_proof.proofs.Judged.{text_is, days_are}
 use Rattle.opa_proof.proofs.Saying.{tells_name}
@@ -9,6 +9,17 @@ derive-requires-clause-text c =
     let r = c.args.base.now in let s = c.args.spelled.now in
     text_is r c.args.text.now s c.args.attr c.args.inst c.in-All.lines c.requires.text c.requires.asked
     (subst (AreNamedUpTo r s.printed) c.in-All.is (subst (λ xs. AreNamedUpTo r xs c.in_ok-place.field-0) c.as_slice.ensures c.in_ok-place.ensures))
+
+pub derive-requires-clause-read : goal.derive-requires-clause-read
+derive-requires-clause-read c =
+    let r = c.args.base.now in let s = c.args.spelled.now in
+    record {
+      spelled = s;
+      told = c.requires.text;
+      asked = c.requires.asked;
+      day = refl;
+      lines = subst (AreNamedUpTo r s.printed) c.in-All.is (subst (λ xs. AreNamedUpTo r xs c.in_ok-place.field-0) c.as_slice.ensures c.in_ok-place.ensures);
+    }
 
 pub derive-requires-clause-days : goal.derive-requires-clause-days
 derive-requires-clause-days c =

@@ -1,4 +1,5 @@
 use Rattle.opa_proof.proofs.Judged.{supported}
+use Rattle.opa_proof.proofs.Renamed.{reports_get_yes_holds}
 use Rattle.opa_proof.proofs.Saying.{told_judges}
 use Rattle.opa_proof.proofs.verifying.verify.Goals as goal
 
@@ -7,3 +8,6 @@ returns-clause-judged c = told_judges c.args.base.now c.args.report.now c.in_ok-
 
 pub returns-clause-supported : goal.returns-clause-supported
 returns-clause-supported c = λ yes. supported c.args.base.now c.args.report.now c.in_ok-told.told.verdict (told_judges c.args.base.now c.args.report.now c.in_ok-told.told.verdict c.in_ok-told.told.text c.in_ok-told.ensures) yes
+
+pub returns-clause-complete : goal.returns-clause-complete
+returns-clause-complete c = λ of. reports_get_yes_holds c.args.base.now c.args.report.now c.in_ok-told.told.verdict of (told_judges c.args.base.now c.args.report.now c.in_ok-told.told.verdict c.in_ok-told.told.text c.in_ok-told.ensures)

@@ -1,7 +1,5 @@
-use Rattle.std.proofs.Common.{◌+◌, ◌-◌, length, sym, arith}
-use Rattle.opa_spelled.proofs.Cutting.{end_isnt}
+use Rattle.std.proofs.Common.{◌≡◌, ◌++◌, ℕ, List, MatchOption, subst}
 use Rattle.opa_spelled.proofs.cuts.before.Goals as goal
 
-pub returns-in-None : goal.returns-in-None
-returns-in-None c =
-    end_isnt c.args.text.now c.split_at.result.0.now c.split_at.result.1.now c.args.last.now (sym c.split_at.ensures.by_index.0) (omega (arith, c.split_at.ensures.back_len, c.if-text-last.false)) c.in-None.ensures
+pub returns : goal.returns
+returns c = subst (λ f. MatchOption c.before_bytes.result ((first : List ℕ) → c.args.text.now ≡ first ++ f → ⊥) (λ first. c.args.text.now ≡ first.now ++ f)) c.as_bytes.ensures.value c.before_bytes.ensures

@@ -1,4 +1,4 @@
-use Rattle.std.proofs.Common.{ℕ, List, [], ◌∷◌, ◌++◌, ◌+◌, ◌||◌, not, true, sym, subst, ap, ◌∙◌}
+use Rattle.std.proofs.Common.{ℕ, List, [], ◌∷◌, ◌++◌, ◌+◌, ◌||◌, not, sym, subst, ap, ◌∙◌}
 use Rattle.opa_spelled.specs.Cuts.{is_mark}
 use Rattle.opa_spelled.proofs.Cutting.{Passed, passed_quote, passed_plain, or_true}
 use Rattle.opa_spelled.proofs.cuts.cut.Goals as goal
