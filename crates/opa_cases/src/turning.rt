@@ -1,0 +1,128 @@
+// The session goes from one case to another.
+ghost use Rattle.std.specs.Prelude.{◌≡◌, ◌≢◌, None, IfOk, OnOk, false, is_some};
+ghost use Rattle.std.specs.FinMap as map;
+ghost use Rattle.opa_case.specs.Cases.{no_case};
+ghost use Rattle.opa_infer.specs.Sessions.{rules_of};
+ghost use Rattle.opa_cases.specs.Caseload.{is_full as is_full_of};
+ghost use Rattle.opa_cases.specs.Holding.{opens_of, open_of, OpenFits, PileFits, IsTurned};
+ghost use Rattle.opa_cases.specs.Scripts.{fresh, opened};
+
+use crate::caseload::Caseload;
+use crate::kept::{Current, OpenCase};
+use opa_case::{Case, empty_fits};
+use opa_io::{List, NoMemory, Steps, Txt};
+use opa_listen::Listener;
+use opa_mean::Held;
+use opa_tree::Rulebase;
+use std::alloc::Global;
+use std::sync::ledger::Ledger;
+
+/// How many names may be open.
+const MOST_NAMES: usize = 100_000;
+
+/// A case that was just opened.
+fn fresh(alloc: Global, base: &Rulebase) -> OpenCase
+    ensures fresh { result ≡ fresh }
+    ensures fits { OpenFits base.now result }
+{
+    // The count shows the model's form.
+    let _count = base.model.attribute_count();
+    empty_fits();
+    OpenCase {
+        case: Case::new(alloc),
+        reached: 0,
+        pile: List::new(alloc),
+    }
+}
+
+impl Caseload {
+    /// Whether no further name may be opened, and this one isn't open.
+    pub(crate) fn is_full(&self, name: &Txt) -> bool
+        ensures { result ≡ is_full_of (opens_of self.now.session self.now.current self.now.others) name.now }
+    {
+        match &self.current {
+            None => !self.others.has(name) && self.others.len() >= MOST_NAMES,
+            Some(current) => {
+                current.name != *name && !self.others.has(name) && self.others.len() + 1 >= MOST_NAMES
+            }
+        }
+    }
+
+    /// Lays the case that the session holds beside the others.
+    fn lay_down(&mut self, alloc: Global, current: Current) -> Result<(), NoMemory>
+        requires none { self.old.current ≡ None }
+        requires fits { PileFits (rules_of self.old.session) current.pile }
+        ensures ok { OnOk result (self.new.others ≡ map.insert self.old.others current.name (open_of self.old.session current)) }
+        ensures session { self.new.session ≡ self.old.session }
+        ensures none { self.new.current ≡ None }
+    {
+        let case = self.session.case().copy(alloc)?;
+        let Current {
+            name,
+            reached,
+            pile,
+        } = current;
+        self.others.insert(
+            name,
+            OpenCase {
+                case,
+                reached,
+                pile,
+            },
+        )
+    }
+
+    /// Takes a case from the others, or opens it, and brings it into the session.
+    fn take_up<L: Ledger>(
+        &mut self,
+        alloc: Global,
+        name: Txt,
+        steps: &mut Steps<L>,
+    ) -> Result<Current, NoMemory>
+        requires none { self.old.current ≡ None }
+        ensures ok { IfOk result (IsTurned name self.old.others self.new.session self.new.others) }
+        ensures fits { IfOk result (λ c. PileFits (rules_of self.old.session) c.pile) }
+        ensures base { rules_of self.new.session ≡ rules_of self.old.session }
+        ensures none { self.new.current ≡ None }
+    {
+        let OpenCase {
+            case,
+            reached,
+            pile,
+        } = match self.others.take(&name) {
+            Some(found) => found,
+            None => fresh(alloc, self.session.base()),
+        };
+        let mut nobody: Vec<Box<dyn Listener>> = Vec::new(alloc);
+        self.session.replace_case(alloc, case, &mut nobody, steps)?;
+        Ok(Current {
+            name,
+            reached,
+            pile,
+        })
+    }
+
+    /// Brings the case of a name into the session, and takes it out of what is open.
+    pub(crate) fn turn_to<L: Ledger>(
+        &mut self,
+        alloc: Global,
+        name: &Txt,
+        steps: &mut Steps<L>,
+    ) -> Result<Current, NoMemory>
+        ensures ok { IfOk result (IsTurned name.now (opens_of self.old.session self.old.current self.old.others) self.new.session self.new.others) }
+        ensures fits { IfOk result (λ c. PileFits (rules_of self.old.session) c.pile) }
+        ensures base { rules_of self.new.session ≡ rules_of self.old.session }
+        ensures none { self.new.current ≡ None }
+    {
+        match self.current.take() {
+            None => self.take_up(alloc, name.copy(alloc)?, steps),
+            Some(current) => {
+                if current.name == *name {
+                    return Ok(current);
+                }
+                self.lay_down(alloc, current)?;
+                self.take_up(alloc, name.copy(alloc)?, steps)
+            }
+        }
+    }
+}
