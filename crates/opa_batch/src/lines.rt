@@ -1,14 +1,13 @@
 // The line that a cell stands for, and the command that it is.
 ghost use Rattle.std.specs.Prelude.{◌≡◌, IfOk, IfErr};
 ghost use Rattle.opa_script.specs.Commands.{IsCommand, IsNoCommand};
-ghost use Rattle.opa_script.specs.Laws.{HasLine, IsInRange, IsWellFormed};
+ghost use Rattle.opa_script.specs.Laws.{IsInRange, IsWellFormed};
 ghost use Rattle.opa_batch.specs.Rows as meant;
 
 use crate::head::{Head, Sort};
-use opa_case::ChangeCommand;
 use opa_io::NoMemory;
 use opa_model::Model;
-use opa_script::{CmdFault, Command, commands_are_in_range, read_command};
+use opa_script::{CmdFault, Command, commands_are_in_range, is_well_formed, read_command};
 use std::alloc::Global;
 
 fn word_of(sort: Sort) -> &'static str
@@ -29,40 +28,6 @@ pub(crate) fn line_of(alloc: Global, head: &Head, cell: &[u8]) -> Result<Vec<u8>
     line.extend_from_slice(b" = ")?;
     line.extend_from_slice(cell)?;
     Ok(line)
-}
-
-/// What a change answers is a line.
-fn has_line(change: &ChangeCommand)
-    ensures { HasLine change.now }
-{
-    match change {
-        ChangeCommand::Answer(_, _, line) => {
-            let _pairs = line.segments();
-        }
-        ChangeCommand::Withdraw(_, _)
-        | ChangeCommand::SetList(_, _, _)
-        | ChangeCommand::Forget(_, _) => {}
-    }
-}
-
-/// What a command answers is a line.
-fn is_well_formed(command: &Command)
-    ensures { IsWellFormed command.now }
-{
-    match command {
-        Command::Change(change) => has_line(change),
-        Command::Nothing
-        | Command::ShowAttr(_, _)
-        | Command::ShowMembers(_, _)
-        | Command::Save(_)
-        | Command::Load(_)
-        | Command::Goals
-        | Command::Next
-        | Command::Screen
-        | Command::Report(_, _, _)
-        | Command::Stats
-        | Command::Dismiss(_) => {}
-    }
 }
 
 /// The command that a line is.

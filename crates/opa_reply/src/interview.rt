@@ -11,7 +11,6 @@ ghost use Rattle.opa_reply.specs.Interviews.{interview, LacksAsked, StopsAsked, 
 
 use crate::carrying::respond;
 use crate::lines::{is_long_reply, text_of};
-use crate::replying::is_well_formed;
 use opa_case::Question;
 use opa_goals::next_is_declared;
 use opa_infer::Session;
@@ -20,7 +19,7 @@ use opa_listen::Listener;
 use opa_mean::Held;
 use opa_model::Model;
 use opa_need::next;
-use opa_script::{CmdFault, Command, read_reply, replies_are_in_range};
+use opa_script::{CmdFault, Command, is_well_formed, read_reply, replies_are_in_range};
 use opa_talk::{Halt, Prompt, Replier};
 use opa_told::prompt_told;
 use opa_tree::Rulebase;

@@ -4,4 +4,5 @@
 mod told;
 mod whole;
 
+pub use told::origin_text;
 pub use whole::report_text;

@@ -14,8 +14,8 @@ use opa_value::Value;
 use opa_words::{printed_name, quoted};
 use std::alloc::Global;
 
-/// Where a value comes from.
-pub(crate) fn origin_text(
+/// Where a value of an attribute comes from: its rule, or an answer.
+pub fn origin_text(
     alloc: Global,
     base: &Rulebase,
     attr: AttrId,

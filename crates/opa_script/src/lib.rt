@@ -6,6 +6,7 @@ mod command;
 mod examples;
 mod fault;
 mod files;
+mod formed;
 mod laws;
 mod lines;
 mod points;
@@ -19,6 +20,7 @@ mod verbs;
 pub use command::Command;
 pub use examples::{Generated, generate};
 pub use fault::CmdFault;
+pub use formed::is_well_formed;
 pub use laws::{
     commands_are_in_range, one_command, one_reply, refused_or_read, refused_or_replied,
     replies_are_in_range,

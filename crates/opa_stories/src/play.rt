@@ -1,14 +1,16 @@
 // Plays a story: the public call over a shelf, a source and a sink in memory.
-ghost use Rattle.std.specs.Prelude.{◌≡◌, ◌<◌};
+ghost use Rattle.std.specs.Prelude.{◌≡◌, ◌<◌, ◌^◌, length};
 
 use crate::story::{Fault, Story, StoryFile};
-use opa_io::{List, MemShelf, MemSink, MemSource, NoMemory, Steps};
+use opa_desk::desk;
+use opa_io::{List, MemShelf, MemSink, MemSource, NoMemory, Shelf, Sink, Source, Status, Steps};
 use opa_listen::{Journal, Listener, Watch};
 use opa_model::AttrId;
 use opa_top::run;
 use std::alloc::Global;
 use std::marker::Brand;
 use std::sync::ledger::{Blank, Ledger};
+use tests_listen::Fussy;
 
 /// What a run did otherwise than its story says.
 #[derive(Drop)]
@@ -54,6 +56,25 @@ fn watch(alloc: Global, attribute: u32) -> Result<Watch, NoMemory> {
     Ok(Watch::new(alloc, attrs))
 }
 
+/// Does what the words ask for, of the program that the first of them names.
+fn status_of<S: Source, F: Shelf, K: Sink, L: Ledger>(
+    alloc: Global,
+    words: &[String],
+    shelf: &mut F,
+    source: &mut S,
+    sink: &mut K,
+    listeners: &mut Vec<Box<dyn Listener>>,
+    steps: &mut Steps<L>,
+) -> Status
+    requires fewer { length listeners.old.items < 2 ^ 64 }
+{
+    if words.first().is_some_and(|name| name.as_str() == "desk") {
+        desk(alloc, words, shelf, source, sink, steps)
+    } else {
+        run(alloc, words, shelf, source, sink, listeners, steps)
+    }
+}
+
 /// Runs what the story asks for. Answers what differs, where something does.
 pub fn play(alloc: Global, story: &Story) -> Result<Option<Difference>, Fault> {
     counted::<Brand>(alloc, Blank::new(1), story)
@@ -79,12 +100,15 @@ fn counted<L: Ledger>(
     let mut source = MemSource::new(input, reads, story.read.max(1));
     let writes = failing.writes.as_slice().to_vec(alloc)?;
     let mut sink = MemSink::new(alloc, writes, story.written.max(1));
-    // A journal of all changes, and a watch on one attribute.
+    // A journal of all changes, a watch on one attribute, and one that wants memory.
     let mut listeners: Vec<Box<dyn Listener>> = Vec::new(alloc);
     listeners.push(Box::new(alloc, Journal::new(alloc))?)?;
     let watch = watch(alloc, story.watched)?;
     listeners.push(Box::new(alloc, watch)?)?;
-    let status = run(
+    if story.refuses > 0 {
+        listeners.push(Box::new(alloc, Fussy::new(alloc, story.refuses, 1))?)?;
+    }
+    let status = status_of(
         alloc,
         &story.words,
         &mut shelf,

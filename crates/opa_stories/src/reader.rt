@@ -195,6 +195,7 @@ fn read_number(story: &mut Story, heading: &str, rest: &str) -> bool {
     match heading {
         "status" => story.status = value,
         "watched" => story.watched = u32::try_from(value).unwrap_or(u32::MAX),
+        "refuses" => story.refuses = u32::try_from(value).unwrap_or(u32::MAX),
         "bytes a read" => story.read = usize::try_from(value).unwrap_or(usize::MAX),
         "bytes a write" => story.written = usize::try_from(value).unwrap_or(usize::MAX),
         _ => return false,
@@ -252,7 +253,7 @@ fn read_heading<F: Shelf>(
             }
         }
         "gone" => reading.story.gone.push(String::from_str(alloc, rest)?)?,
-        "status" | "watched" | "bytes a read" | "bytes a write" => {
+        "status" | "watched" | "refuses" | "bytes a read" | "bytes a write" => {
             return Ok(read_number(&mut reading.story, heading, rest));
         }
         _ => return read_failing(alloc, &mut reading.story.failing, heading, rest),

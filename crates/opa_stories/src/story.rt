@@ -30,6 +30,8 @@ pub struct Story {
     pub status: u64,
     /// The number of the attribute that the second listener watches.
     pub watched: u32,
+    /// The so-manieth request for room is refused by a third listener, which watches all attributes; 0 where there is none.
+    pub refuses: u32,
     /// The most bytes that a read or a write moves.
     pub read: usize,
     pub written: usize,
@@ -48,6 +50,7 @@ impl Story {
             gone: Vec::new(alloc),
             status: 0,
             watched: 0,
+            refuses: 0,
             read: 4_096,
             written: 4_096,
             failing: Failing {

@@ -6,7 +6,7 @@ use std::alloc::Global;
 
 /// It watches all attributes, and answers want of memory when it is asked for room for the so manieth time.
 #[derive(Drop)]
-pub(crate) struct Fussy {
+pub struct Fussy {
     kept: Vec<Change>,
     asked: u32,
     refuses: u32,
@@ -14,7 +14,7 @@ pub(crate) struct Fussy {
 }
 
 impl Fussy {
-    pub(crate) fn new(alloc: Global, refuses: u32, style: u32) -> Fussy {
+    pub fn new(alloc: Global, refuses: u32, style: u32) -> Fussy {
         Fussy {
             kept: Vec::new(alloc),
             asked: 0,

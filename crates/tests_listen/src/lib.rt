@@ -1,9 +1,10 @@
-//! Listeners that are told of changes, one of a caller's own among them: tests alone.
+//! Listeners that are told of changes, one of a caller's own among them, which the stories take too: tests alone.
 #![tactic(auto)]
 
 #[cfg(test)]
 mod changes;
-#[cfg(test)]
 mod fussy;
 #[cfg(test)]
 mod told;
+
+pub use fussy::Fussy;
