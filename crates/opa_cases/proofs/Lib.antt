@@ -1,4 +1,5 @@
 pub mod ReadLaws
+pub mod OrderLaws
 pub mod OpenLaws
 pub mod Suppositions
 pub mod Alone

@@ -37,12 +37,12 @@ one_front bytes n m r s a b =
 
 -- ---- names
 
-pub no_text : (text : List ℕ) → BeginsWithNoText (past_blanks text) → IsNoFront text
+pub no_text : (text : List ℕ) → BeginsWithNoText text → IsNoFront text
 no_text text none name rest is = none name rest is.begins.front
 
-pub too_long_name : (text name rest : List ℕ) → BeginsWithText (past_blanks text) name rest → is_short name ≡ false → IsNoFront text
+pub too_long_name : (text name rest : List ℕ) → BeginsWithText text name rest → is_short name ≡ false → IsNoFront text
 too_long_name text name rest begins long other left is =
-    let e = one_front (past_blanks text) name other rest left begins is.begins in
+    let e = one_front text name other rest left begins is.begins in
     let no : true ≡ false = sym is.short ∙ ap is_short (sym e.0) ∙ long in cc no
 
 left_of : (a b : Bool) → (a && b) ≡ true → a ≡ true
@@ -64,7 +64,7 @@ both true b h k = k
 both false b h k = absurd (cc h)
 
 module _ (read : List ℕ) (short : length (bytes_of read) ≤ LONGEST) where
-  pub is_named : (name rest : List ℕ) → IsUtf8 (text_of read) → IsFront (text_of read) name rest → IsNamed read name rest
+  pub is_named : (name rest : List ℕ) → IsUtf8 (past_blanks (text_of read)) → IsFront (past_blanks (text_of read)) name rest → IsNamed read name rest
   is_named name rest utf8 front = record {
     short = short;
     utf8 = utf8;
@@ -73,7 +73,7 @@ module _ (read : List ℕ) (short : length (bytes_of read) ≤ LONGEST) where
     few = at_most (length name) 100 (right_of (nat_le 1 (length name)) (nat_le (length name) 100) front.short);
   }
 
-  pub is_unnamed : IsNoFront (text_of read) → IsUnnamed read
+  pub is_unnamed : IsNoFront (past_blanks (text_of read)) → IsUnnamed read
   is_unnamed none name rest is =
       none name rest (record { begins = is.begins; short = both (nat_le 1 (length name)) (nat_le (length name) 100) (says_most 1 (length name) is.some) (says_most (length name) 100 is.few) })
 

@@ -35,10 +35,10 @@ with_cases x open_cases = held x.rules open_cases x.files
 abbrev pub MOST_NAMES : ℕ
 MOST_NAMES = 100000
 
--- The line isn't too long, is a text, and begins, after blanks, with a name of 1 to 100 bytes between quotes, and this follows.
+-- The line isn't too long, and behind blanks it is a text that begins with a name of 1 to 100 bytes between quotes, and this follows.
 pub record IsNamed (read name rest : List ℕ) : Type 0 where
   pub short : length (bytes_of read) ≤ LONGEST
-  pub utf8 : IsUtf8 (text_of read)
+  pub utf8 : IsUtf8 (past_blanks (text_of read))
   pub begins : BeginsWithText (past_blanks (text_of read)) name rest
   pub some : 1 ≤ length name
   pub few : length name ≤ 100

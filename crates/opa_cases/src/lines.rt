@@ -35,7 +35,7 @@ pub(crate) fn text_of(line: &[u8]) -> &[u8]
 }
 
 /// What follows the blanks at the front.
-fn past_blanks(text: &[u8]) -> &[u8]
+pub(crate) fn past_blanks(text: &[u8]) -> &[u8]
     ensures { result.now ≡ script.past_blanks text.now }
 {
     let mut rest = text;

@@ -1,12 +1,9 @@
 // The name of a case in front of a line, and behind which its replies stand.
-ghost use Rattle.std.specs.Prelude.{◌≡◌, ◌≤◌, ◌<◌, length, ◌==◌, IfOk, IfSome, MatchOption, ◌||◌};
-ghost use Rattle.std.specs.Option.{option_map};
-ghost use Rattle.opa_words.specs.Scan.{one};
-ghost use Rattle.opa_script.specs.Lines as script;
+ghost use Rattle.std.specs.Prelude.{◌≡◌, IfOk, MatchOption};
 ghost use Rattle.opa_cases.specs.Caseload.{IsNamed, IsUnnamed, behind_name as text_behind, front_of as meant_front};
 ghost use Rattle.opa_cases.specs.Naming.{IsFront, IsNoFront, is_short as is_short_name};
 
-use crate::lines::{bytes_of, text_of};
+use crate::lines::{bytes_of, past_blanks, text_of};
 use opa_io::{NoMemory, Txt};
 use opa_talk::cut;
 use opa_words::{front_text, quoted};
@@ -23,33 +20,11 @@ pub(crate) struct CaseLine<'t> {
     pub(crate) rest: &'t str,
 }
 
-/// What follows a blank.
-fn behind_blank(text: &str) -> Option<&str>
-    ensures rest { option_map (λ x. x.now) result ≡ one (λ b. (b == 32) || (b == 9)) text.now }
-    ensures shorter { IfSome result (λ x. length x.now < length text.now) }
-{
-    match text.strip_prefix(' ') {
-        Some(rest) => Some(rest),
-        None => text.strip_prefix('\t'),
-    }
-}
-
-/// What follows the blanks at the front.
-fn past_blanks(text: &str) -> &str
-    ensures { result.now ≡ script.past_blanks text.now }
-{
-    let mut rest = text;
-    while let Some(later) = behind_blank(rest) {
-        rest = later;
-    }
-    rest
-}
-
-/// The name of a case in front of a text, behind blanks.
+/// The name of a case in front of a text.
 fn named_in<'t>(alloc: Global, text: &'t str) -> Result<Option<CaseLine<'t>>, NoMemory>
     ensures { IfOk result (λ o. MatchOption o (IsNoFront text.now) (λ n. IsFront text.now n.name n.rest.now)) }
 {
-    match front_text(alloc, past_blanks(text)) {
+    match front_text(alloc, text) {
         Err(_) => Err(NoMemory),
         Ok(None) => Ok(None),
         Ok(Some((name, rest))) => if is_short(&name) {
@@ -75,7 +50,7 @@ pub(crate) fn named<'t>(alloc: Global, line: &'t [u8]) -> Result<Option<CaseLine
     if bytes_of(line).len() > LONGEST {
         return Ok(None);
     }
-    match str::from_utf8(text_of(line)) {
+    match str::from_utf8(past_blanks(text_of(line))) {
         Err(_) => Ok(None),
         Ok(text) => named_in(alloc, text),
     }

@@ -8,7 +8,7 @@ ghost use Rattle.opa_cases.specs.Orders.{IsOrder, IsNoOrder, IsOrderInRange, Ord
 
 use crate::lines::is_idle;
 use opa_model::Model;
-use opa_script::{CmdFault, Command, commands_are_in_range, read_command};
+use opa_script::{CmdFault, Command, commands_are_in_range, is_well_formed, read_command};
 use opa_words::{Pieces, Token, TokenKind, WordFault, tokens};
 use std::alloc::Global;
 
@@ -108,7 +108,10 @@ fn command(alloc: Global, model: &Model, line: &str) -> Result<Order, CmdFault>
     commands_are_in_range();
     match read_command(alloc, model, line.as_bytes()) {
         Err(fault) => Err(fault),
-        Ok(command) => Ok(Order::Does(command)),
+        Ok(command) => {
+            is_well_formed(&command);
+            Ok(Order::Does(command))
+        }
     }
 }
 
