@@ -1,5 +1,5 @@
 -- What the rest of a line, behind the name of its case, asks for.
-use Rattle.std.specs.Prelude.{◌≡◌, ◌≢◌, ℕ, List, [], ◌∷◌, Bool, true, false, ◌||◌, codes, if◌then◌else◌}
+use Rattle.std.specs.Prelude.{◌≡◌, ◌≢◌, ℕ, List, [], ◌∷◌, Bool, true, false, codes, if◌then◌else◌}
 use Rattle.std.specs.List.{All}
 use Rattle.std.specs.Str.{bytes_eq, chars}
 use Rattle.opa_model.specs.declared.lists.Lists.{Lists}
@@ -19,24 +19,25 @@ use Rattle.opa_cases.specs.declared.orders.Asked.TheVariants as asked
 use Rattle.opa_cases.specs.declared.orders.Order.{Order}
 use Rattle.opa_cases.specs.declared.orders.Order.TheVariants as order
 
--- the words of the commands that a caseload takes
-abbrev pub is_taken : List ℕ → Bool
-is_taken w =
-    bytes_eq w (codes "answer") || bytes_eq w (codes "withdraw") || bytes_eq w (codes "list") || bytes_eq w (codes "forget")
-    || bytes_eq w (codes "show") || bytes_eq w (codes "goals") || bytes_eq w (codes "next") || bytes_eq w (codes "stats")
-
 -- this is asked for, if it stands alone
 abbrev pub only : Bool → Asked → Asked
 only alone a = if alone then a else asked.Nothing
 
--- what a word asks for that stands in front, alone or not
+-- what a word asks for that stands in front, alone or not: a command that a caseload takes, or a supposition, its end, or that of the
+-- case
 abbrev pub asked_by_word : List ℕ → Bool → Asked
 asked_by_word w alone =
-    if is_taken w then asked.Command
-    else if bytes_eq w (codes "suppose") then only alone asked.Suppose
-    else if bytes_eq w (codes "undo") then only alone asked.Undo
-    else if bytes_eq w (codes "close") then only alone asked.Close
-    else asked.Nothing
+    if bytes_eq w (codes "answer") then asked.Command else
+    if bytes_eq w (codes "withdraw") then asked.Command else
+    if bytes_eq w (codes "list") then asked.Command else
+    if bytes_eq w (codes "forget") then asked.Command else
+    if bytes_eq w (codes "show") then asked.Command else
+    if bytes_eq w (codes "goals") then asked.Command else
+    if bytes_eq w (codes "next") then asked.Command else
+    if bytes_eq w (codes "stats") then asked.Command else
+    if bytes_eq w (codes "suppose") then only alone asked.Suppose else
+    if bytes_eq w (codes "undo") then only alone asked.Undo else
+    if bytes_eq w (codes "close") then only alone asked.Close else asked.Nothing
 
 abbrev pub asked_by : TokenKind → List ℕ → Bool → Asked
 asked_by kind.Word w alone = asked_by_word w alone

@@ -38,7 +38,14 @@ fn asked_by_word(word: &str, alone: bool) -> Asked
     ensures { result ≡ meant.asked_by_word word.now alone }
 {
     match word {
-        "answer" | "withdraw" | "list" | "forget" | "show" | "goals" | "next" | "stats" => Asked::Command,
+        "answer" => Asked::Command,
+        "withdraw" => Asked::Command,
+        "list" => Asked::Command,
+        "forget" => Asked::Command,
+        "show" => Asked::Command,
+        "goals" => Asked::Command,
+        "next" => Asked::Command,
+        "stats" => Asked::Command,
         "suppose" => only(alone, Asked::Suppose),
         "undo" => only(alone, Asked::Undo),
         "close" => only(alone, Asked::Close),
