@@ -3,6 +3,8 @@ pub mod OrderLaws
 pub mod OpenLaws
 pub mod Suppositions
 pub mod Alone
+pub mod EndLaws
+pub mod Heard
 pub mod InOrder
 pub mod OpenedLaws
 pub mod TalkLaws

@@ -19,6 +19,7 @@ use Rattle.opa_cases.specs.Serving.{IsOpened, SaysAll, SaysFront, SaysWhole, Tal
 use Rattle.opa_cases.specs.Statuses.{WroteRefusal, WroteFront, Wrote, WroteLines, LeftOff, OpensBase, OpensRefusal, HasCause, Completes, status_of}
 use Rattle.opa_cases.specs.Promises.{Promises}
 use Rattle.opa_cases.proofs.Alone.{alone}
+use Rattle.opa_cases.proofs.Heard.{heard}
 use Rattle.opa_cases.proofs.InOrder.{in_order}
 use Rattle.opa_cases.proofs.Suppositions.{leave_nothing}
 
@@ -230,6 +231,7 @@ module _ (name : List ℕ) (old new : Outside) (s : Status) (r : Ran name old ne
     files = files_stay name old new s r;
     in_order = in_order;
     each_alone = alone;
+    each_heard = heard;
     suppositions = leave_nothing;
     parts = cuts_anywhere caseload;
   }

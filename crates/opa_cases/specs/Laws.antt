@@ -1,12 +1,13 @@
 -- Laws of a caseload: a supposition that is taken back leaves nothing, and each case's replies are those that it would get alone.
-use Rattle.std.specs.Prelude.{◌≡◌, ◌≢◌, ◌≤◌, ◌+◌, ◌⊎◌, ℕ, List, [], ◌∷◌, ◌++◌, length, map, Option, Some}
+use Rattle.std.specs.Prelude.{◌≡◌, ◌≢◌, ◌≤◌, ◌+◌, ◌⊎◌, ◌==◌, ℕ, List, [], ◌∷◌, ◌++◌, length, map, flat_map, Option, Some, if◌then◌else◌}
 use Rattle.std.specs.List.{concat}
 use Rattle.std.specs.FinMap as cases
 use Rattle.opa_tree.specs.declared.rulebase.Rulebase.{Rulebase}
+use Rattle.opa_talk.specs.Lines.{lines, IsPart}
 use Rattle.opa_talk.specs.Transcript.{IsTranscript}
 use Rattle.opa_cases.specs.declared.kept.OpenCase.{OpenCase}
 use Rattle.opa_cases.specs.Scripts.{Replies, IsScript, Undoes, supposed}
-use Rattle.opa_cases.specs.Caseload.{Held, IsNamed, RepliesLine, behind_name, caseload, refused_cases}
+use Rattle.opa_cases.specs.Caseload.{Held, IsNamed, RepliesLine, behind_name, caseload, front_of, refused_cases}
 
 -- Lines of a case that keep it open and never leave fewer than so many suppositions: from one state of it to another.
 abbrev pub IsAbove : Rulebase → ℕ → OpenCase → List (List ℕ) → OpenCase → Type 0
@@ -41,3 +42,20 @@ abbrev pub EachAlone : Type 0
 EachAlone =
     (x y : Held) (name : List ℕ) (reads texts rests picked : List (List ℕ)) → ArePrinted x reads texts y → Picks name reads texts rests picked
     → (parts : List (List ℕ)) × IsScript x.rules (cases.get x.open_cases name) rests parts (cases.get y.open_cases name) × (picked ≡ map (behind_name name) parts)
+
+-- what follows a front, where the bytes begin with it, and else nothing
+abbrev pub behind : List ℕ → List ℕ → List ℕ
+behind [] bytes = bytes
+behind (f ∷ front) [] = []
+behind (f ∷ front) (b ∷ bytes) = if f == b then behind front bytes else []
+
+-- of the lines of a text, those that begin with the quoted name and a blank, without these
+abbrev pub said_to : List ℕ → List ℕ → List ℕ
+said_to name text = flat_map (behind (front_of name)) (lines text)
+
+-- Of all that is printed, the lines that begin with the quoted name and a blank are, without these, what the lines of that name
+-- would print alone.
+abbrev pub EachHeard : Type 0
+EachHeard =
+    (x y : Held) (name : List ℕ) (reads texts rests picked : List (List ℕ)) → IsPart name → ArePrinted x reads texts y → Picks name reads texts rests picked
+    → (parts : List (List ℕ)) × IsScript x.rules (cases.get x.open_cases name) rests parts (cases.get y.open_cases name) × (said_to name (concat texts) ≡ concat parts)

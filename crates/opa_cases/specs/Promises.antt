@@ -4,7 +4,7 @@ use Rattle.opa_io.specs.declared.fault.Status.{Status}
 use Rattle.opa_outside.specs.Outside.{Outside}
 use Rattle.opa_talk.specs.Transcript.{CutsAnywhere}
 use Rattle.opa_cases.specs.Caseload.{caseload}
-use Rattle.opa_cases.specs.Laws.{InOrder, EachAlone, SuppositionsLeaveNothing}
+use Rattle.opa_cases.specs.Laws.{InOrder, EachAlone, EachHeard, SuppositionsLeaveNothing}
 use Rattle.opa_cases.specs.Serving.{Ran}
 use Rattle.opa_cases.specs.Statuses.{Wrote, LeftOff, HasCause, Completes}
 
@@ -25,6 +25,8 @@ pub record Promises (name : List ℕ) (old new : Outside) (result : Status) : Ty
   pub in_order : InOrder
   -- Each case's replies are those that it would get alone.
   pub each_alone : EachAlone
+  -- So they are heard: the lines that begin with its quoted name and a blank are, without these, those that it would get alone.
+  pub each_heard : EachHeard
   -- A supposition that is taken back leaves nothing.
   pub suppositions : SuppositionsLeaveNothing
   -- An input may be cut at any line feed: the replies to the rest go on from what the first part leaves.
