@@ -1,6 +1,6 @@
 -- The cases that are open, where one of them is in the session.
 use Rattle.std.proofs.Common.{◌≡◌, ◌<◌, ◌≤◌, ◌+◌, ◌∷◌, [], ℕ, Bool, true, false, cond, List, refl, sym, ap, ◌∙◌, subst, arith, inl, inr, is_some}
-use Rattle.std.specs.Prelude.{Option, None, Some, not, ◌&&◌, nat_lt}
+use Rattle.std.specs.Prelude.{Option, None, Some, ◌||◌}
 use Rattle.std.specs.FinMap as map
 use Rattle.std.specs.Ordering.{nat_cmp, eq_by_cmp}
 use Rattle.std.specs.Cmp.{eq_by_cmp_equiv}
@@ -14,7 +14,7 @@ use Rattle.opa_infer.specs.Sessions.{rules_of, held_of}
 use Rattle.opa_tree.specs.declared.rulebase.Rulebase.{Rulebase}
 use Rattle.opa_cases.specs.declared.kept.Current.{Current}
 use Rattle.opa_cases.specs.declared.kept.OpenCase.{OpenCase}
-use Rattle.opa_cases.specs.Caseload.{Opens, put, is_full, MOST_NAMES}
+use Rattle.opa_cases.specs.Caseload.{Opens, put}
 use Rattle.opa_cases.specs.Holding.{opens_of, open_of, AllFit, OpenFits, PileFits, IsApart, IsTurned}
 use Rattle.opa_cases.specs.Scripts.{opened, fresh, left_by}
 
@@ -65,6 +65,16 @@ module _ (m : Opens) (k : List ℕ) where
   pub len_inserted : (v : OpenCase) → is_some (map.get m k) ≡ false → map.len (map.insert m k v) ≡ map.len m + 1
   len_inserted v none = map.len-insert nat_list_cmp_total m k v ∙ ap (λ b. cond b (map.len m) (map.len m + 1)) none
 
+or_there : (b : Bool) (v : OpenCase) (o : Option OpenCase) → (b || is_some o) ≡ is_some (cond b (Some v) o)
+or_there true v o = refl
+or_there false v o = refl
+
+-- a name is open if it is the session's, or among the others
+pub has_with : (m : Opens) (k q : List ℕ) (v : OpenCase) → (bytes_eq k q || is_some (map.get m q)) ≡ is_some (map.get (map.insert m k v) q)
+has_with m k q v =
+    ap (λ b. b || is_some (map.get m q)) (sym (is_eq-slice_cmp k q) ∙ (eq_by_cmp_equiv nat_list_cmp_total).symm k q)
+    ∙ or_there (is q k) v (map.get m q) ∙ ap is_some (sym (map.get-insert nat_list_cmp_total m k v q))
+
 -- ---- turning to a name
 
 module _ (s : Session) (c : Current) (others : Opens) (name : List ℕ) where
@@ -91,9 +101,13 @@ module _ (before : Opens) (name : List ℕ) (s : Session) (others : Opens) where
   after_line false c rest named =
       ap (λ n. map.insert others n (open_of s c)) named ∙ ap (λ o. map.insert o name (open_of s c)) rest ∙ insert-remove before name (open_of s c)
 
-  pub apart_after : (closed : Bool) (c : Current) → others ≡ map.remove before name → c.name ≡ name → IsApart (current_by closed c) others
-  apart_after true c rest named = tt
-  apart_after false c rest named = ap (λ n. is_some (map.get others n)) named ∙ ap (λ o. is_some (map.get o name)) rest ∙ gone before name
+  pub apart_after : (c : Current) → others ≡ map.remove before name → c.name ≡ name → IsApart (Some c) others
+  apart_after c rest named d e =
+      ap (λ (o : Option Current). is_some (map.get others (name_in o))) (sym e) ∙ ap (λ n. is_some (map.get others n)) named ∙ ap (λ o. is_some (map.get o name)) rest ∙ gone before name
+    where
+      name_in : Option Current → List ℕ
+      name_in None = []
+      name_in (Some x) = x.name
 
 -- ---- all fit
 

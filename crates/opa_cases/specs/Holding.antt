@@ -1,5 +1,6 @@
 -- What a caseload holds: a session with the case of the line before, and the others beside it.
-use Rattle.std.specs.Prelude.{◌≡◌, ℕ, Bool, false, List, All, Option, None, Some, is_some, IfSome}
+use Rattle.std.specs.Prelude.{◌≡◌, ℕ, false, List, All, Option, None, Some, is_some}
+use Rattle.std.specs.Option.{ForSome}
 use Rattle.std.specs.FinMap as map
 use Rattle.opa_case.specs.Cases.{CaseView}
 use Rattle.opa_case.specs.Fits.{Fits}
@@ -40,12 +41,11 @@ AllFit r cases = (name : List ℕ) (s : OpenCase) → map.get cases name ≡ Som
 
 -- the others haven't the name of the session's case
 abbrev pub IsApart : Option Current → Opens → Type 0
-IsApart None others = Unit {0}
-IsApart (Some c) others = is_some (map.get others c.name) ≡ false
+IsApart o others = ForSome o (λ c. is_some (map.get others c.name) ≡ false)
 
+-- and what is kept of the session's case
 abbrev pub CurrentFits : Rulebase → Option Current → Type 0
-CurrentFits r None = Unit {0}
-CurrentFits r (Some c) = PileFits r c.pile
+CurrentFits r o = ForSome o (λ c. PileFits r c.pile)
 
 -- ---- on the way there
 

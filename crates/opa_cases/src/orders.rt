@@ -1,10 +1,8 @@
 // What the rest of a line, behind the name of its case, asks for.
-ghost use Rattle.std.specs.Prelude.{◌≡◌, ◌≤◌, length, true, false, IfOk, IfErr};
-ghost use Rattle.std.specs.Str.{bytes_eq};
+ghost use Rattle.std.specs.Prelude.{◌≡◌, ◌≤◌, length, IfOk, IfErr};
 ghost use Rattle.opa_words.specs.Pieces.{seen, AreOfKind};
-ghost use Rattle.opa_script.specs.Lines.{HasTokens};
 ghost use Rattle.opa_cases.specs.Orders as meant;
-ghost use Rattle.opa_cases.specs.Orders.{IsOrder, IsNoOrder, IsOrderInRange, Orders, OrdersNothing, IsCut, IsNotCut};
+ghost use Rattle.opa_cases.specs.Orders.{IsOrder, IsOrderInRange, OrdersNothing, IsCut, IsNotCut};
 
 use crate::lines::is_idle;
 use opa_model::Model;

@@ -1,5 +1,5 @@
 // The session goes from one case to another.
-ghost use Rattle.std.specs.Prelude.{◌≡◌, ◌≢◌, None, IfOk, OnOk, false, is_some};
+ghost use Rattle.std.specs.Prelude.{◌≡◌, None, IfOk, IfSome, OnOk, is_some};
 ghost use Rattle.std.specs.FinMap as map;
 ghost use Rattle.opa_case.specs.Cases.{no_case};
 ghost use Rattle.opa_infer.specs.Sessions.{rules_of};
@@ -35,17 +35,44 @@ fn fresh(alloc: Global, base: &Rulebase) -> OpenCase
     }
 }
 
+/// The case that was found, or one that was just opened.
+fn found_or_fresh(alloc: Global, base: &Rulebase, found: Option<OpenCase>) -> OpenCase
+    requires fits { IfSome found (OpenFits base.now) }
+    ensures opened { result ≡ opened found }
+    ensures fits { OpenFits base.now result }
+{
+    match found {
+        Some(open_case) => open_case,
+        None => fresh(alloc, base),
+    }
+}
+
 impl Caseload {
+    /// Whether a name is open.
+    fn has(&self, name: &Txt) -> bool
+        ensures { result ≡ is_some (map.get (opens_of self.now.session self.now.current self.now.others) name.now) }
+    {
+        match &self.current {
+            None => self.others.has(name),
+            Some(current) => current.name == *name || self.others.has(name),
+        }
+    }
+
+    /// How many names are open.
+    fn count(&self) -> usize
+        ensures { result ≡ map.len (opens_of self.now.session self.now.current self.now.others) }
+    {
+        match &self.current {
+            None => self.others.len(),
+            Some(_) => self.others.len() + 1,
+        }
+    }
+
     /// Whether no further name may be opened, and this one isn't open.
     pub(crate) fn is_full(&self, name: &Txt) -> bool
         ensures { result ≡ is_full_of (opens_of self.now.session self.now.current self.now.others) name.now }
     {
-        match &self.current {
-            None => !self.others.has(name) && self.others.len() >= MOST_NAMES,
-            Some(current) => {
-                current.name != *name && !self.others.has(name) && self.others.len() + 1 >= MOST_NAMES
-            }
-        }
+        !self.has(name) && self.count() >= MOST_NAMES
     }
 
     /// Lays the case that the session holds beside the others.
@@ -85,14 +112,12 @@ impl Caseload {
         ensures base { rules_of self.new.session ≡ rules_of self.old.session }
         ensures none { self.new.current ≡ None }
     {
+        let found = self.others.take(&name);
         let OpenCase {
             case,
             reached,
             pile,
-        } = match self.others.take(&name) {
-            Some(found) => found,
-            None => fresh(alloc, self.session.base()),
-        };
+        } = found_or_fresh(alloc, self.session.base(), found);
         let mut nobody: Vec<Box<dyn Listener>> = Vec::new(alloc);
         self.session.replace_case(alloc, case, &mut nobody, steps)?;
         Ok(Current {
