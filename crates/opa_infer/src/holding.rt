@@ -1,5 +1,5 @@
 // What is seen of a session.
-ghost use Rattle.std.specs.Prelude.{◌≡◌, ◌↔◌, true, is_some, IfSome};
+ghost use Rattle.std.specs.Prelude.{◌≡◌, ◌<◌, ◌↔◌, true, is_some, length, IfSome};
 ghost use Rattle.opa_date.specs.declared.TheConstants.{DAYS};
 ghost use Rattle.opa_line.specs.Lines.{StandsFor};
 ghost use Rattle.opa_mean.specs.Rulebases.{IsOf, value_at};
@@ -8,11 +8,12 @@ ghost use Rattle.opa_infer.specs.Sessions.{rules_of, held_of, reached_of};
 ghost use Rattle.opa_case.specs.Laws.{IsDeclared};
 ghost use Rattle.opa_case.specs.Shapes.{shape_of};
 ghost use Rattle.opa_goals.specs.Rulebases.{rulebase_of};
+ghost use Rattle.opa_goals.specs.States as states;
 
 use crate::session::Session;
 use crate::told::told_line;
 use opa_case::{Case, ChangeCommand, InstanceId};
-use opa_goals::Frees;
+use opa_goals::{Frees, GoalState, goal_state};
 use opa_line::Line;
 use opa_mean::{Held, has_place};
 use opa_model::AttrId;
@@ -61,6 +62,16 @@ impl Session {
         ensures { result ≡ reached_of self.now }
     {
         self.dirty
+    }
+
+    /// The state of the goal with a number. What is settled has the same value on every day in every completion of the case.
+    pub fn goal_state(&self, goal: u32) -> GoalState
+        requires goal { goal < length (rules_of self.now).model.goals }
+        ensures state { states.HasState (rules_of self.now) (held_of self.now) goal result }
+        ensures exact { states.IsStateOfGoal (rules_of self.now) (held_of self.now) goal result }
+        ensures stays { states.StaysSettledThere (rules_of self.now) (held_of self.now) goal result }
+    {
+        goal_state(self, &self.frees, goal)
     }
 
     /// Whether the instance is live and of the attribute's entity.

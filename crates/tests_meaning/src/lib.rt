@@ -19,3 +19,5 @@ mod points;
 mod printed;
 #[cfg(test)]
 mod told;
+#[cfg(test)]
+mod wanting;

@@ -1,0 +1,110 @@
+"""Writes the worst inputs within the limits that each reader is known to have, into the folder in which it runs, and a line for each
+of how it is run.
+
+    python3 docs/worst_inputs.py && sh worst_runs.sh OPA DESK
+
+docs/PERFORMANCE.md has what each took.
+"""
+
+FILE, INPUT, LINE = 8_388_608, 67_108_864, 65_536
+HEAD = "global\n  number x\n"
+runs = []
+
+
+def write(name, text, most):
+    data = text.encode() if isinstance(text, str) else text
+    assert len(data) <= most, (name, len(data))
+    with open(name, "wb") as file:
+        file.write(data)
+
+
+def filled(front, line, most):
+    """A text with a line as often as it fits."""
+    return front + line * ((most - len(front)) // len(line))
+
+
+def run(name, words, given="/dev/null"):
+    runs.append(f'"$1" {words} < {given}' if not words.startswith("desk ") else f'"$2" {words[5:]} < {given}')
+    runs[-1] = f"echo {name}; /usr/bin/time -f '%e s, %M KB, status %x' {runs[-1]} > /dev/null"
+
+
+# Rule files: tokens, blocks, phrases, brackets, groups
+write("words.txt", filled(HEAD, "x = " + "a " * ((LINE - 6) // 2) + "\n", FILE), FILE)
+run("rules_of_short_words", "check words.txt")
+phrase = " ".join("a" * 500)
+write("phrases.txt", filled(f"global\n  number {phrase}\n  number x\n", "x = " + "a " * ((LINE - 6) // 2) + "\n", FILE), FILE)
+run("rules_of_words_under_a_long_phrase", "check phrases.txt")
+write("comparisons.txt", filled(f"global\n  number {phrase}\n  bool y\n", "y if\n  " + " + ".join(["a a a"] * 8000) + " > 1\n", FILE), FILE)
+run("operands_that_begin_a_long_phrase", "check comparisons.txt")
+write("feeds.txt", "\n" * FILE, FILE)
+run("rules_of_line_feeds", "check feeds.txt")
+write("levels.txt", filled("", "a\n  b\n    c\n", FILE), FILE)
+run("rules_of_levels", "check levels.txt")
+write("brackets.txt", filled(HEAD, "x = " + "(" * 64 + "1" + ")" * 64 + "\n", FILE), FILE)
+run("rules_of_brackets", "check brackets.txt")
+write("quotes.txt", HEAD + 'x = "' + "a" * 60000 + "\n", FILE)
+run("a_text_that_never_closes", "check quotes.txt")
+write("attributes.txt", "global\n" + "".join(f"  number {'b ' * 480}{n}\n" for n in range(4000)), FILE)
+run("long_phrases_that_differ_at_their_ends", "check attributes.txt")
+
+# Tables
+table = 'global\n  number x\n  number y\ntable "t.csv"\n'
+write("table.txt", table, FILE)
+write("t.csv", filled("conclusion x,y\n", "1,1\n", FILE), FILE)
+run("a_table_of_short_records", "check table.txt")
+write("quoted.txt", table.replace("t.csv", "q.csv"), FILE)
+write("q.csv", filled('conclusion x,y\n"', '""', FILE), FILE)
+run("a_table_of_quotes_that_never_close", "check quoted.txt")
+
+# Saved cases
+write("case.txt", HEAD, FILE)
+write("load_input.txt", 'load "s.json"\n' * 10, FILE)
+for name, text in {
+    "nested": "[" * FILE,
+    "objects": '{"a":' * (FILE // 5),
+    "escapes": '{"a":"' + "\\u0041" * ((FILE - 10) // 6) + '"}',
+    "digits": '{"a":' + "1" * (FILE - 10) + "}",
+    "keys": "{" + ",".join(f'"{n}":0' for n in range(700_000)) + "}",
+}.items():
+    write(f"{name}.json", text, FILE)
+    write(f"{name}_input.txt", f'load "{name}.json"\n', FILE)
+    run(f"a_saved_case_of_{name}", "run case.txt", f"{name}_input.txt")
+
+# Inputs
+write("shows.txt", filled("", "show x\n", INPUT), INPUT)
+run("lines_that_show", "run case.txt", "shows.txt")
+write("short.txt", filled("", "a\n", INPUT), INPUT)
+run("lines_of_one_letter", "run case.txt", "short.txt")
+write("long.txt", filled("", "a " * 32767 + "\n", INPUT), INPUT)
+run("long_lines", "run case.txt", "long.txt")
+write("points.txt", filled("", "answer x = 1" + "".join(f"; from {1600 + n % 800}-01-01 {n % 7}" for n in range(800)) + "\n", INPUT), INPUT)
+run("answers_of_many_change_points", "run case.txt", "points.txt")
+
+# Reports
+front = "report x at 2024-01-01\n"
+write("members.txt", filled(front, '1 member the people: "a"\n', INPUT), INPUT)
+run("a_report_of_members", "verify case.txt members.txt")
+write("runs.txt", filled(front, "1 x, 1600-01-01 to 2399-12-31: 1, answer\n", INPUT), INPUT)
+run("a_report_of_runs", "verify case.txt runs.txt")
+write("words_report.txt", filled(front, "a " * 32767 + "\n", INPUT), INPUT)
+run("a_report_of_words", "verify case.txt words_report.txt")
+
+# Batches
+write("goal.txt", "global\n  number x\ngoal x\n", FILE)
+write("records.csv", filled("x\n", "1\n", INPUT), INPUT)
+run("a_batch_of_short_records", "desk batch goal.txt", "records.csv")
+write("heads.csv", filled("", "x,", INPUT), INPUT)
+run("a_batch_of_many_heads", "desk batch goal.txt", "heads.csv")
+write("cells.csv", filled("x\n", ",", INPUT), INPUT)
+run("a_batch_of_empty_cells", "desk batch goal.txt", "cells.csv")
+write("open.csv", filled('x\n"', '""', INPUT), INPUT)
+run("a_batch_of_quotes_that_never_close", "desk batch goal.txt", "open.csv")
+
+# Caseloads
+write("names.txt", filled("", '"a" goals\n', INPUT), INPUT)
+run("a_caseload_of_one_name", "desk cases goal.txt", "names.txt")
+write("turns.txt", filled("", '"a" answer x = 1\n"b" answer x = 2\n', INPUT), INPUT)
+run("a_caseload_of_two_names_in_turn", "desk cases goal.txt", "turns.txt")
+
+with open("worst_runs.sh", "w") as file:
+    file.write("\n".join(runs) + "\n")
