@@ -126,12 +126,12 @@ first_alike [] [] r s e = refl
 first_alike [] (c ∷ m) r s e = none (c == 34) refl e
   where
     none : (t : Bool) → (c == 34) ≡ t → 34 ∷ 32 ∷ r ≡ cond t (34 ∷ 34 ∷ doubled m) (c ∷ doubled m) ++ 34 ∷ 32 ∷ s → [] ≡ c ∷ m
-    none true q h = absurd (let d : 32 ≡ 34 = cc h in cc d)
+    none true q h = absurd (let d : ◌≡◌ {A = ℕ} 32 34 = cc h in cc d)
     none false q h = absurd (let d : 34 ≡ c = cc h in grind (arith, d, q))
 first_alike (c ∷ n) [] r s e = none (c == 34) refl e
   where
     none : (t : Bool) → (c == 34) ≡ t → cond t (34 ∷ 34 ∷ doubled n) (c ∷ doubled n) ++ 34 ∷ 32 ∷ r ≡ 34 ∷ 32 ∷ s → c ∷ n ≡ []
-    none true q h = absurd (let d : 34 ≡ 32 = cc h in cc d)
+    none true q h = absurd (let d : ◌≡◌ {A = ℕ} 34 32 = cc h in cc d)
     none false q h = absurd (let d : c ≡ 34 = cc h in grind (arith, d, q))
 first_alike (c ∷ n) (d ∷ m) r s e = both (c == 34) (d == 34) refl refl e (first_alike n m r s)
   where
@@ -166,11 +166,11 @@ behind_own (f ∷ front) rest = ap (λ t. if t then behind front (front ++ rest)
 behind_none : (front bytes : List ℕ) → ((rest : List ℕ) → bytes ≡ front ++ rest → ⊥) → behind front bytes ≡ []
 behind_none [] bytes no = absurd (no bytes refl)
 behind_none (f ∷ front) [] no = refl
-behind_none (f ∷ front) (b ∷ bytes) no = go (f == b) refl
+behind_none (f ∷ front) (b ∷ bytes) no = go (f == b) refl (λ same. behind_none front bytes (λ rest q. no rest (ap (λ x. x ∷ bytes) same ∙ ap (λ x. f ∷ x) q)))
   where
-    go : (t : Bool) → (f == b) ≡ t → (if t then behind front bytes else []) ≡ []
-    go true e = let same : b ≡ f = grind (arith, e) in behind_none front bytes (λ rest q. no rest (ap (λ x. x ∷ bytes) same ∙ ap (λ x. f ∷ x) q))
-    go false e = refl
+    go : (t : Bool) → (f == b) ≡ t → (b ≡ f → behind front bytes ≡ []) → (if t then behind front bytes else []) ≡ []
+    go true e more = more (grind (arith, e))
+    go false e more = refl
 
 flat-append : (f : List ℕ → List ℕ) (xs ys : List (List ℕ)) → flat_map f (xs ++ ys) ≡ flat_map f xs ++ flat_map f ys
 flat-append f [] ys = refl
@@ -203,9 +203,11 @@ module _ (m said : List ℕ) (part : IsPart m) (ends : EndsLine said) where
   of_behind = record { all = map (λ l. front_of m ++ l) of_said.all; whole = fronted_whole (front_of m) (front_part m part) of_said.all of_said.whole; joined = behind_is }
 
   heard_own : said_to m (behind_name m said) ≡ said
+  unfolding of_behind
   heard_own = ap (flat_map (behind (front_of m))) (lines_all (behind_name m said) of_behind) ∙ own_lines m of_said.all ∙ sym of_said.joined
 
   heard_other : (n : List ℕ) → (m ≡ n → ⊥) → said_to n (behind_name m said) ≡ []
+  unfolding of_behind
   heard_other n other = ap (flat_map (behind (front_of n))) (lines_all (behind_name m said) of_behind) ∙ other_lines n m other of_said.all
 
 -- ---- lines of a caseload

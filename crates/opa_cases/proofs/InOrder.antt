@@ -11,7 +11,7 @@ InTurn x reads text y = (texts : List (List ℕ)) × ArePrinted x reads texts y 
 in_turn : (x y : Held) (reads : List (List ℕ)) (text : List ℕ) → Prints caseload x reads text y → InTurn x reads text y
 in_turn x y [] text h = ([], (refl, h.1), h.0)
 in_turn x y (read ∷ more) text (inl over) = absurd (let no : false ≡ true = over.0 in cc no)
-in_turn x y (read ∷ more) text (inr (going, said, next, rest, replies, (printed, is))) =
+in_turn x y (read ∷ more) text (inr (going, (said, next, rest, replies, printed, is))) =
     let t = in_turn next y more rest printed in
     (said ∷ t.0, (said, next, replies, (t.0, t.1, refl)), is ∙ ap (λ r. said ++ r) t.2)
 

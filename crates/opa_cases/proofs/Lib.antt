@@ -1,6 +1,8 @@
 pub mod ReadLaws
 pub mod OrderLaws
 pub mod OpenLaws
+pub mod FitLaws
+pub mod BehindLaws
 pub mod Suppositions
 pub mod Alone
 pub mod EndLaws

@@ -9,6 +9,7 @@ use Rattle.std.specs.Str.{bytes_eq}
 use Rattle.std.proofs.lemmas.Map.Lookups.{exact_bytes}
 use Rattle.std.proofs.lemmas.Map.Views.{tells_apart}
 use Rattle.std.proofs.lemmas.Map.Text.{is_eq-slice_cmp}
+use Rattle.std.proofs.lemmas.Slice.Eq.{bytes_eq-Decides}
 use Rattle.opa_infer.specs.declared.session.Session.{Session}
 use Rattle.opa_infer.specs.Sessions.{rules_of, held_of}
 use Rattle.opa_tree.specs.declared.rulebase.Rulebase.{Rulebase}
@@ -87,6 +88,29 @@ module _ (s : Session) (c : Current) (others : Opens) (name : List ℕ) where
         rest = sym (remove-insert others c.name (open_of s c) ∙ remove_absent others c.name apart);
         same = sym (ap opened (get_inserted others c.name (open_of s c)));
       })
+
+-- the session's case is the one that is asked for
+pub turned_current : (s : Session) (o : Option Current) (c : Current) (others : Opens) (name : List ℕ) → o ≡ Some c → bytes_eq c.name name ≡ true → IsApart o others → IsTurned name (opens_of s o others) s others c
+turned_current s o c others name e same apart =
+    let P : Option Current → Type 0 = λ x. IsTurned name (opens_of s x others) s others c in
+    subst P (sym e) (turned_there s c others name ((bytes_eq-Decides c.name name).0 same) (apart c e))
+
+pub turned_beside : (s t : Session) (o : Option Current) (others laid rest : Opens) (c : Current) (name : List ℕ) → laid ≡ opens_of s o others → IsTurned name laid t rest c → IsTurned name (opens_of s o others) t rest c
+turned_beside s t o others laid rest c name e h = let P : Opens → Type 0 = λ m. IsTurned name m t rest c in subst P e h
+
+-- no case is the session's
+pub opens_none : (s : Session) (o : Option Current) (others : Opens) → o ≡ None → others ≡ opens_of s o others
+opens_none s o others e = ap (λ x. opens_of s x others) (sym e)
+
+pub opens_laid : (s : Session) (o : Option Current) (c : Current) (others laid : Opens) → o ≡ Some c → laid ≡ map.insert others c.name (open_of s c) → laid ≡ opens_of s o others
+opens_laid s o c others laid e h = h ∙ ap (λ x. opens_of s x others) (sym e)
+
+module _ (s : Session) (o : Option Current) (c : Current) (others : Opens) (e : o ≡ Some c) where
+  pub has_some : (name : List ℕ) → (bytes_eq c.name name || is_some (map.get others name)) ≡ is_some (map.get (opens_of s o others) name)
+  has_some name = has_with others c.name name (open_of s c) ∙ ap (λ x. is_some (map.get (opens_of s x others) name)) (sym e)
+
+  pub count_some : is_some (map.get others c.name) ≡ false → map.len others + 1 ≡ map.len (opens_of s o others)
+  count_some apart = sym (len_inserted others c.name (open_of s c) apart) ∙ ap (λ x. map.len (opens_of s x others)) (sym e)
 
 -- ---- what is open after a line
 

@@ -1,20 +1,17 @@
 -- How a line of a caseload is read.
 use Rattle.std.proofs.Common.{◌≡◌, ◌≢◌, ◌≤◌, inl, inr, ℕ, Bool, true, false, List, [], ◌∷◌, ◌++◌, length, length-append, refl, sym, ap, ◌∙◌, subst, arith}
 use Rattle.std.specs.Prelude.{◌&&◌, nat_le, Result, Ok, Err, IfOk, IfErr}
-use Rattle.std.specs.Str.{IsUtf8}
 use Rattle.opa_words.specs.Fronts.{BeginsWithText, BeginsWithNoText}
 use Rattle.opa_words.specs.Kinds.{quoted}
 use Rattle.opa_words.proofs.QuoteLaws.{quoted_tells_apart}
-use Rattle.opa_script.specs.Lines.{past_blanks}
 use Rattle.opa_script.specs.declared.fault.CmdFault.{CmdFault}
 use Rattle.opa_script.specs.declared.fault.CmdFault.TheVariants as fault
-use Rattle.opa_reply.specs.Lines.{bytes_of, text_of, LONGEST}
 use Rattle.opa_tree.specs.declared.rulebase.Rulebase.{Rulebase}
 use Rattle.opa_model.specs.declared.lists.Lists.{Lists}
 use Rattle.opa_cases.specs.declared.kept.OpenCase.{OpenCase}
 use Rattle.opa_cases.specs.declared.orders.Order.{Order}
 use Rattle.opa_cases.specs.Caseload.{IsNamed, IsUnnamed}
-use Rattle.opa_cases.specs.Naming.{IsFront, IsNoFront, is_short}
+use Rattle.opa_cases.specs.Naming.{IsFront, IsNoFront, IsText, IsNoText, is_short}
 use Rattle.opa_cases.specs.Orders.{IsOrder, IsNoOrder, OrdersNothing}
 use Rattle.opa_cases.specs.Scripts.{Responds, IsReadAs}
 
@@ -63,19 +60,26 @@ both : (a b : Bool) → a ≡ true → b ≡ true → (a && b) ≡ true
 both true b h k = k
 both false b h k = absurd (cc h)
 
-module _ (read : List ℕ) (short : length (bytes_of read) ≤ LONGEST) where
-  pub is_named : (name rest : List ℕ) → IsUtf8 (past_blanks (text_of read)) → IsFront (past_blanks (text_of read)) name rest → IsNamed read name rest
-  is_named name rest utf8 front = record {
-    short = short;
-    utf8 = utf8;
-    begins = front.begins;
-    some = at_most 1 (length name) (left_of (nat_le 1 (length name)) (nat_le (length name) 100) front.short);
-    few = at_most (length name) 100 (right_of (nat_le 1 (length name)) (nat_le (length name) 100) front.short);
-  }
+pub named_front : (read text name rest : List ℕ) → IsText read text → IsFront text name rest → IsNamed read name rest
+named_front read text name rest t front = record {
+  short = t.short;
+  utf8 = t.utf8;
+  begins = subst (λ b. BeginsWithText b name rest) t.same front.begins;
+  some = at_most 1 (length name) (left_of (nat_le 1 (length name)) (nat_le (length name) 100) front.short);
+  few = at_most (length name) 100 (right_of (nat_le 1 (length name)) (nat_le (length name) 100) front.short);
+}
 
-  pub is_unnamed : IsNoFront (past_blanks (text_of read)) → IsUnnamed read
-  is_unnamed none name rest is =
-      none name rest (record { begins = is.begins; short = both (nat_le 1 (length name)) (nat_le (length name) 100) (says_most 1 (length name) is.some) (says_most (length name) 100 is.few) })
+pub unnamed_front : (read text : List ℕ) → IsText read text → IsNoFront text → IsUnnamed read
+unnamed_front read text t none name rest is =
+    none name rest (record {
+      begins = subst (λ b. BeginsWithText b name rest) (sym t.same) is.begins;
+      short = both (nat_le 1 (length name)) (nat_le (length name) 100) (says_most 1 (length name) is.some) (says_most (length name) 100 is.few);
+    })
+
+pub unnamed_text : (read : List ℕ) → IsNoText read → IsUnnamed read
+unnamed_text read none name rest is = none is.short is.utf8
+
+pub ruleset naming = (named_front, unnamed_front, unnamed_text)
 
 -- ---- orders
 

@@ -42,7 +42,7 @@ line_files x y read text (inr h) = named_files x y h.0 h.1 text h.3
 prints_files : (x y : Held) (reads : List (List ℕ)) (text : List ℕ) → Prints caseload x reads text y → y.files ≡ x.files
 prints_files x y [] text h = ap (λ (z : Held). z.files) h.1
 prints_files x y (read ∷ more) text (inl over) = absurd (let no : false ≡ true = over.0 in cc no)
-prints_files x y (read ∷ more) text (inr (going, said, next, rest, replies, (printed, e))) = prints_files next y more rest printed ∙ line_files x next read said replies
+prints_files x y (read ∷ more) text (inr (going, (said, next, rest, replies, printed, e))) = prints_files next y more rest printed ∙ line_files x next read said replies
 
 transcript_files : (x y : Held) (reads : List (List ℕ)) (text : List ℕ) → IsTranscript caseload x reads text y → y.files ≡ x.files
 transcript_files x y reads text h = prints_files x y reads h.0 h.1

@@ -1,5 +1,5 @@
 // What the rest of a line asks for is carried out.
-ghost use Rattle.std.specs.Prelude.{◌≡◌, IfOk};
+ghost use Rattle.std.specs.Prelude.{◌≡◌, false, IfOk, OnOk};
 ghost use Rattle.opa_infer.specs.Sessions.{rules_of};
 ghost use Rattle.opa_cases.specs.Holding.{open_of, PileFits};
 ghost use Rattle.opa_cases.specs.Orders.{IsOrderInRange};
@@ -23,6 +23,17 @@ pub(crate) struct Said {
     pub(crate) closed: bool,
 }
 
+/// What a line prints that leaves its case open.
+fn left_open(text: Vec<u8>) -> Said
+    ensures text { result.text ≡ text }
+    ensures closed { result.closed ≡ false }
+{
+    Said {
+        text,
+        closed: false,
+    }
+}
+
 /// Carries out an order of one case.
 fn carry_out<L: Ledger>(
     alloc: Global,
@@ -34,24 +45,29 @@ fn carry_out<L: Ledger>(
     requires order { IsOrderInRange (rules_of session.old).model order }
     requires fits { PileFits (rules_of session.old) current.old.pile }
     ensures ok { IfOk result (λ s. Carries (rules_of session.old) (open_of session.old current.old) order s.text.items s.closed (open_of session.new current.new)) }
-    ensures fits { IfOk result (λ _. PileFits (rules_of session.old) current.new.pile) }
+    ensures fits { OnOk result (PileFits (rules_of session.old) current.new.pile) }
     ensures base { rules_of session.new ≡ rules_of session.old }
     ensures name { current.new.name ≡ current.old.name }
 {
-    let text = match order {
-        Order::Nothing => Vec::new(alloc),
-        Order::Suppose => suppose(alloc, session, current)?,
-        Order::Undo => undo(alloc, session, current, steps)?,
-        Order::Does(command) => do_command(alloc, session, current, steps, command)?,
+    match order {
+        Order::Nothing => Ok(left_open(Vec::new(alloc))),
+        Order::Suppose => {
+            let text = suppose(alloc, session, current)?;
+            Ok(left_open(text))
+        }
+        Order::Undo => {
+            let text = undo(alloc, session, current, steps)?;
+            Ok(left_open(text))
+        }
         Order::Close => {
             let text = told(alloc, b"closed\n")?;
-            return Ok(Said { text, closed: true });
+            Ok(Said { text, closed: true })
         }
-    };
-    Ok(Said {
-        text,
-        closed: false,
-    })
+        Order::Does(command) => {
+            let text = do_command(alloc, session, current, steps, command)?;
+            Ok(left_open(text))
+        }
+    }
 }
 
 /// Carries out what the rest of a line was read as, or refuses it.
@@ -65,7 +81,7 @@ pub(crate) fn respond<L: Ledger>(
     requires order { IfOk read (IsOrderInRange (rules_of session.old).model) }
     requires fits { PileFits (rules_of session.old) current.old.pile }
     ensures ok { IfOk result (λ s. Responds (rules_of session.old) (open_of session.old current.old) read s.text.items s.closed (open_of session.new current.new)) }
-    ensures fits { IfOk result (λ _. PileFits (rules_of session.old) current.new.pile) }
+    ensures fits { OnOk result (PileFits (rules_of session.old) current.new.pile) }
     ensures base { rules_of session.new ≡ rules_of session.old }
     ensures name { current.new.name ≡ current.old.name }
 {
@@ -73,10 +89,7 @@ pub(crate) fn respond<L: Ledger>(
         Ok(order) => carry_out(alloc, session, current, steps, order),
         Err(fault) => {
             let text = refused_command(alloc, fault)?;
-            Ok(Said {
-                text,
-                closed: false,
-            })
+            Ok(left_open(text))
         }
     }
 }

@@ -1,6 +1,7 @@
 // What the rest of a line, behind the name of its case, asks for.
 ghost use Rattle.std.specs.Prelude.{◌≡◌, ◌≤◌, length, IfOk, IfErr};
 ghost use Rattle.opa_words.specs.Pieces.{seen, AreOfKind};
+ghost use Rattle.opa_script.specs.Lines.{is_idle as idle_text};
 ghost use Rattle.opa_cases.specs.Orders as meant;
 ghost use Rattle.opa_cases.specs.Orders.{IsOrder, IsOrderInRange, OrdersNothing, IsCut, IsNotCut};
 
@@ -120,6 +121,13 @@ fn command(alloc: Global, model: &Model, line: &str) -> Result<Order, CmdFault>
     }
 }
 
+/// Whether the rest of a line is blank or a comment.
+fn is_nothing(text: &str) -> bool
+    ensures { result ≡ idle_text text.now }
+{
+    is_idle(text.as_bytes())
+}
+
 /// What the rest of a line asks for.
 pub(crate) fn read_order(alloc: Global, model: &Model, line: &str) -> Result<Order, CmdFault>
     requires { length line.now ≤ 65536 }
@@ -127,7 +135,7 @@ pub(crate) fn read_order(alloc: Global, model: &Model, line: &str) -> Result<Ord
     ensures range { IfOk result (IsOrderInRange model.now) }
     ensures fault { IfErr result (OrdersNothing model.now line.now) }
 {
-    if is_idle(line.as_bytes()) {
+    if is_nothing(line) {
         return Ok(Order::Nothing);
     }
     match asked_in(alloc, line) {

@@ -140,13 +140,17 @@ impl Caseload {
         ensures none { self.new.current ≡ None }
     {
         match self.current.take() {
-            None => self.take_up(alloc, name.copy(alloc)?, steps),
+            None => {
+                let taken = self.take_up(alloc, name.copy(alloc)?, steps)?;
+                Ok(taken)
+            }
             Some(current) => {
                 if current.name == *name {
                     return Ok(current);
                 }
                 self.lay_down(alloc, current)?;
-                self.take_up(alloc, name.copy(alloc)?, steps)
+                let taken = self.take_up(alloc, name.copy(alloc)?, steps)?;
+                Ok(taken)
             }
         }
     }
