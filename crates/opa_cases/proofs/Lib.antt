@@ -3,6 +3,7 @@ pub mod OrderLaws
 pub mod OpenLaws
 pub mod FitLaws
 pub mod BehindLaws
+pub mod ServeLaws
 pub mod Suppositions
 pub mod Alone
 pub mod EndLaws

@@ -16,7 +16,7 @@ use Rattle.opa_tree.specs.declared.rulebase.Rulebase.{Rulebase}
 use Rattle.opa_cases.specs.declared.kept.Current.{Current}
 use Rattle.opa_cases.specs.declared.kept.OpenCase.{OpenCase}
 use Rattle.opa_cases.specs.Caseload.{Opens, put}
-use Rattle.opa_cases.specs.Holding.{opens_of, open_of, AllFit, OpenFits, PileFits, IsApart, IsTurned}
+use Rattle.opa_cases.specs.Holding.{opens_of, open_of, current_by, AllFit, OpenFits, PileFits, IsApart, IsTurned}
 use Rattle.opa_cases.specs.Scripts.{opened, fresh, left_by}
 
 abbrev is : List ℕ → List ℕ → Bool
@@ -114,24 +114,18 @@ module _ (s : Session) (o : Option Current) (c : Current) (others : Opens) (e : 
 
 -- ---- what is open after a line
 
--- the case is open, or it was closed
-abbrev pub current_by : Bool → Current → Option Current
-current_by true c = None
-current_by false c = Some c
-
 module _ (before : Opens) (name : List ℕ) (s : Session) (others : Opens) where
   pub after_line : (closed : Bool) (c : Current) → others ≡ map.remove before name → c.name ≡ name → opens_of s (current_by closed c) others ≡ put before name (left_by closed (open_of s c))
   after_line true c rest named = rest
   after_line false c rest named =
       ap (λ n. map.insert others n (open_of s c)) named ∙ ap (λ o. map.insert o name (open_of s c)) rest ∙ insert-remove before name (open_of s c)
 
-  pub apart_after : (c : Current) → others ≡ map.remove before name → c.name ≡ name → IsApart (Some c) others
-  apart_after c rest named d e =
-      ap (λ (o : Option Current). is_some (map.get others (name_in o))) (sym e) ∙ ap (λ n. is_some (map.get others n)) named ∙ ap (λ o. is_some (map.get o name)) rest ∙ gone before name
-    where
-      name_in : Option Current → List ℕ
-      name_in None = []
-      name_in (Some x) = x.name
+  pub apart_after : (c : Current) → others ≡ map.remove before name → c.name ≡ name → is_some (map.get others c.name) ≡ false
+  apart_after c rest named = ap (λ n. is_some (map.get others n)) named ∙ ap (λ o. is_some (map.get o name)) rest ∙ gone before name
+
+-- the others haven't the name of a case that becomes the session's
+pub apart_some : (c : Current) (others : Opens) → is_some (map.get others c.name) ≡ false → IsApart (Some c) others
+apart_some c others h d e = let same : c.name ≡ d.name = cc e in subst (λ n. is_some (map.get others n) ≡ false) same h
 
 -- ---- all fit
 

@@ -1,5 +1,5 @@
 -- What a caseload holds: a session with the case of the line before, and the others beside it.
-use Rattle.std.specs.Prelude.{◌≡◌, ℕ, false, List, All, Option, None, Some, is_some}
+use Rattle.std.specs.Prelude.{◌≡◌, ℕ, Bool, true, false, List, All, Option, None, Some, is_some}
 use Rattle.std.specs.Option.{ForSome}
 use Rattle.std.specs.FinMap as map
 use Rattle.opa_case.specs.Cases.{CaseView}
@@ -22,6 +22,11 @@ open_of s c = opened_as (held_of s) c.reached c.pile
 abbrev pub opens_of : Session → Option Current → Opens → Opens
 opens_of s None others = others
 opens_of s (Some c) others = map.insert others c.name (open_of s c)
+
+-- whose case the session holds after a line: nobody's, if it was closed
+abbrev pub current_by : Bool → Current → Option Current
+current_by true c = None
+current_by false c = Some c
 
 -- the case fits the rulebase
 abbrev pub FitsRules : Rulebase → CaseView → Type 0

@@ -41,10 +41,8 @@ fn serve<L: Ledger>(
     let mut current = caseload.turn_to(alloc, name, steps)?;
     let read = read_order(alloc, &caseload.session.base().model, rest);
     let said = respond(alloc, &mut caseload.session, &mut current, steps, read)?;
-    if !said.closed {
-        caseload.current = Some(current);
-    }
     let text = behind_name(alloc, name, &said.text)?;
+    caseload.keep(current, said.closed);
     Ok(text)
 }
 

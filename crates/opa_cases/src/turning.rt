@@ -1,10 +1,10 @@
 // The session goes from one case to another.
-ghost use Rattle.std.specs.Prelude.{◌≡◌, None, IfOk, IfSome, OnOk, is_some};
+ghost use Rattle.std.specs.Prelude.{◌≡◌, false, None, IfOk, IfSome, OnOk, is_some};
 ghost use Rattle.std.specs.FinMap as map;
 ghost use Rattle.opa_case.specs.Cases.{no_case};
 ghost use Rattle.opa_infer.specs.Sessions.{rules_of};
 ghost use Rattle.opa_cases.specs.Caseload.{is_full as is_full_of};
-ghost use Rattle.opa_cases.specs.Holding.{opens_of, open_of, OpenFits, PileFits, IsTurned};
+ghost use Rattle.opa_cases.specs.Holding.{opens_of, open_of, current_by, OpenFits, PileFits, IsTurned};
 ghost use Rattle.opa_cases.specs.Scripts.{fresh, opened};
 
 use crate::caseload::Caseload;
@@ -152,6 +152,20 @@ impl Caseload {
                 let taken = self.take_up(alloc, name.copy(alloc)?, steps)?;
                 Ok(taken)
             }
+        }
+    }
+
+    /// Keeps the session's case open, unless it was closed.
+    pub(crate) fn keep(&mut self, current: Current, closed: bool)
+        requires none { self.old.current ≡ None }
+        requires fits { PileFits (rules_of self.old.session) current.pile }
+        requires apart { is_some (map.get self.old.others current.name) ≡ false }
+        ensures current { self.new.current ≡ current_by closed current }
+        ensures session { self.new.session ≡ self.old.session }
+        ensures others { self.new.others ≡ self.old.others }
+    {
+        if !closed {
+            self.current = Some(current);
         }
     }
 }

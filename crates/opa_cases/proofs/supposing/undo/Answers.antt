@@ -9,4 +9,4 @@ returns-in_ok-text-in-Some-clause-ok g c = taken_back _ _ c.in-Some.kept c.pop.n
 
 pub returns-in_ok-text-in-Some-clause-fits : goal.returns-in_ok-text-in-Some-clause-fits
 returns-in_ok-text-in-Some-clause-fits g c =
-    subst (PileFits (rules_of c.args.session.now)) (sym c.in_ok-bring.ensures.pile) (pile_front (rules_of c.args.session.now) _ c.pop.new.self c.in-Some.kept c.in-Some.ensures c.requires)
+    subst (PileFits (rules_of c.args.session.now)) (sym c.in_ok-bring.ensures.pile) (pile_front (rules_of c.args.session.now) _ c.pop.new.self c.in-Some.kept c.in-Some.ensures c.requires.fits)
