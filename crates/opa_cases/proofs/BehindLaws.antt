@@ -4,7 +4,7 @@ use Rattle.std.specs.Prelude.{◌==◌, flat_map}
 use Rattle.opa_talk.specs.Lines.{lines, IsPart}
 use Rattle.opa_talk.proofs.LinesLaws.{lines_first, lines_last}
 
-abbrev fronted : List ℕ → List ℕ → List ℕ
+abbrev pub fronted : List ℕ → List ℕ → List ℕ
 fronted front text = flat_map (λ l. front ++ l) (lines text)
 
 -- a line was added, and the others follow

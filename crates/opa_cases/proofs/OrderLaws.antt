@@ -1,6 +1,6 @@
 -- What tokens ask for.
 use Rattle.std.proofs.Common.{◌≡◌, ◌≢◌, ◌≤◌, ℕ, true, false, List, [], ◌∷◌, length, refl, sym, ap, ◌∙◌, subst}
-use Rattle.std.specs.Prelude.{Result, Ok, Err, IfOk, IfErr}
+use Rattle.std.specs.Prelude.{nat_lt, Result, Ok, Err, IfOk, IfErr}
 use Rattle.std.specs.List.{All}
 use Rattle.std.specs.Str.{chars, IsUtf8}
 use Rattle.opa_model.specs.declared.lists.Lists.{Lists}
@@ -18,6 +18,12 @@ use Rattle.opa_cases.specs.declared.orders.Asked.TheVariants as asked
 use Rattle.opa_cases.specs.declared.orders.Order.{Order}
 use Rattle.opa_cases.specs.declared.orders.Order.TheVariants as order
 use Rattle.opa_cases.specs.Orders.{asked_of, Asks, IsOrder, IsNoOrder, OrdersNothing, IsCut, IsNotCut, IsCommandOrder}
+
+pub short_enough : (n : ℕ) → nat_lt 65536 n ≡ false → n ≤ 65536
+short_enough n h = grind (arith, h)
+
+pub too_long : (text : List ℕ) → nat_lt 65536 (length text) ≡ true → IsNotCut text fault.NotACommand
+too_long text h ps tokens = let few : length text ≤ 65536 = tokens.0 in absurd (grind (arith, h, few))
 
 pub is_cut : (text : List ℕ) (ts : List Token) → length text ≤ 65536 → IsUtf8 text → Cuts (length text) (chars text) ts → All (IsWithin text) ts → All (IsOfKind text) ts → IsCut text ts
 is_cut text ts short utf8 cuts within kinds = record { tokens = (short, utf8, (ts, cuts, refl)); within = within; kinds = kinds }

@@ -1,8 +1,9 @@
 -- A line of a case is served.
 use Rattle.std.proofs.Common.{◌≡◌, ℕ, Bool, true, false, List, refl, sym, ap, ◌∙◌, subst}
-use Rattle.std.specs.Prelude.{Option, Result, IfOk, IfErr}
+use Rattle.std.specs.Prelude.{Option, None, Some, Result, IfOk, IfErr, MatchOption}
 use Rattle.opa_io.specs.Outside.{Files}
 use Rattle.opa_infer.specs.declared.session.Session.{Session}
+use Rattle.opa_infer.specs.Sessions.{rules_of}
 use Rattle.opa_model.specs.declared.lists.Lists.{Lists}
 use Rattle.opa_script.specs.declared.fault.CmdFault.{CmdFault}
 use Rattle.opa_tree.specs.declared.rulebase.Rulebase.{Rulebase}
@@ -35,3 +36,17 @@ module _ (r r' : Rulebase) (before : Opens) (files : Option Files) (name rest : 
     text_is = text_is;
     after = ap (λ q. held q (opens_of t (current_by closed d) others) files) rules ∙ ap (λ o. held r o files) (after_line before name t others closed d turned.rest (named ∙ turned.named));
   }
+
+-- the same, as the session and the others are kept
+pub served_kept : (x : Held) (name rest text : List ℕ) (files : Option Files) (s s' : Session) (o o' : Option Current) (t t' : Opens) → s' ≡ s → o' ≡ o → t' ≡ t
+    → Serves x name rest text (held (rules_of s) (opens_of s o t) files) → Serves x name rest text (held (rules_of s') (opens_of s' o' t') files)
+served_kept x name rest text files s s' o o' t t' es eo et h =
+    let P : Session → Type 0 = λ q. Serves x name rest text (held (rules_of q) (opens_of q o t) files) in
+    let Q : Option Current → Type 0 = λ q. Serves x name rest text (held (rules_of s') (opens_of s' q t) files) in
+    let R : Opens → Type 0 = λ q. Serves x name rest text (held (rules_of s') (opens_of s' o' q) files) in
+    subst R (sym et) (subst Q (sym eo) (subst P (sym es) h))
+
+-- nothing was found
+pub none_of : {A : Type 0} (P : Type 0) (Q : A → Type 0) (o : Option A) → o ≡ None → MatchOption o P Q → P
+none_of P Q None e h = h
+none_of P Q (Some a) e h = absurd (cc e)

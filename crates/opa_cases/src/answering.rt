@@ -1,5 +1,5 @@
 // A line is answered.
-ghost use Rattle.std.specs.Prelude.{◌≡◌, ◌≤◌, false, length, Option, IfOk};
+ghost use Rattle.std.specs.Prelude.{◌≡◌, false, Option, IfOk};
 ghost use Rattle.opa_io.specs.Outside.{Files};
 ghost use Rattle.opa_cases.specs.Answering.{holding};
 ghost use Rattle.opa_cases.specs.Caseload.{RepliesLine, RepliesUnnamed, RepliesNamed, Serves, is_full};
@@ -34,8 +34,7 @@ fn serve<L: Ledger>(
     name: &Txt,
     rest: &str,
 ) -> Result<Vec<u8>, NoMemory>
-    requires short { length rest.now ≤ 65536 }
-    requires room { (files : Option Files) → is_full (holding caseload.old files).open_cases name.now ≡ false }
+    requires { (files : Option Files) → is_full (holding caseload.old files).open_cases name.now ≡ false }
     ensures { IfOk result (λ t. (files : Option Files) → Serves (holding caseload.old files) name.now rest.now t.items (holding caseload.new files)) }
 {
     let mut current = caseload.turn_to(alloc, name, steps)?;
@@ -54,7 +53,6 @@ fn answer_named<L: Ledger>(
     name: &Txt,
     rest: &str,
 ) -> Result<Vec<u8>, NoMemory>
-    requires short { length rest.now ≤ 65536 }
     ensures { IfOk result (λ t. (files : Option Files) → RepliesNamed (holding caseload.old files) name.now rest.now t.items (holding caseload.new files)) }
 {
     if caseload.is_full(name) {

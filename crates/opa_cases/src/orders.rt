@@ -1,5 +1,5 @@
 // What the rest of a line, behind the name of its case, asks for.
-ghost use Rattle.std.specs.Prelude.{◌≡◌, ◌≤◌, length, IfOk, IfErr};
+ghost use Rattle.std.specs.Prelude.{◌≡◌, nat_lt, length, IfOk, IfErr};
 ghost use Rattle.opa_words.specs.Pieces.{seen, AreOfKind};
 ghost use Rattle.opa_script.specs.Lines.{is_idle as idle_text};
 ghost use Rattle.opa_cases.specs.Orders as meant;
@@ -80,12 +80,21 @@ fn asked_of(pieces: Pieces<'_>) -> Asked
     }
 }
 
-/// The tokens of a text.
+/// Whether a text has more bytes than a line may have.
+fn is_long(text: &str) -> bool
+    ensures { result ≡ nat_lt 65536 (length text.now) }
+{
+    text.len() > 65_536
+}
+
+/// The tokens of a text that isn't too long.
 fn cut(alloc: Global, text: &str) -> Result<Vec<Token>, CmdFault>
-    requires { length text.now ≤ 65536 }
     ensures cut { IfOk result (λ v. IsCut text.now v.items) }
     ensures fault { IfErr result (IsNotCut text.now) }
 {
+    if is_long(text) {
+        return Err(CmdFault::NotACommand);
+    }
     match tokens(alloc, text) {
         Ok(found) => Ok(found),
         Err(WordFault::Place(_)) => Err(CmdFault::NotACommand),
@@ -95,7 +104,6 @@ fn cut(alloc: Global, text: &str) -> Result<Vec<Token>, CmdFault>
 
 /// What the tokens of a text ask for; a text that isn't cut into tokens asks for nothing that there is.
 fn asked_in(alloc: Global, text: &str) -> Result<Asked, CmdFault>
-    requires { length text.now ≤ 65536 }
     ensures asked { IfOk result (meant.Asks text.now) }
     ensures fault { IfErr result (IsNotCut text.now) }
 {
@@ -130,7 +138,6 @@ fn is_nothing(text: &str) -> bool
 
 /// What the rest of a line asks for.
 pub(crate) fn read_order(alloc: Global, model: &Model, line: &str) -> Result<Order, CmdFault>
-    requires { length line.now ≤ 65536 }
     ensures ok { IfOk result (IsOrder model.now line.now) }
     ensures range { IfOk result (IsOrderInRange model.now) }
     ensures fault { IfErr result (OrdersNothing model.now line.now) }

@@ -7,7 +7,7 @@ use Rattle.opa_cases.proofs.serving.talk.Goals as goal
 pub returns-in_err-caseload-clause-part : goal.returns-in_err-caseload-clause-part
 returns-in_err-caseload-clause-part g c =
     let p = err_from_is_err_and c.from_residual.result c.from_residual.ensures.1 in
-    rw (p.1, p.2) (talks_not c.args.base _)
+    rw (p.1, p.2) (talks_not c.args.base (outside g.F.Shelf.files g.F.Shelf.take_faults g.F.Shelf.keep_faults g.S.Source.left g.S.Source.faults g.K.Sink.written g.K.Sink.faults c.args.shelf.now c.args.input.now c.args.out.now))
 
 pub returns-clause-all : goal.returns-clause-all
 returns-clause-all g c =

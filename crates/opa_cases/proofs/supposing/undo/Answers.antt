@@ -5,8 +5,8 @@ use Rattle.opa_cases.proofs.FitLaws.{taken_back, pile_front}
 use Rattle.opa_cases.proofs.supposing.undo.Goals as goal
 
 pub returns-in_ok-text-in-Some-clause-ok : goal.returns-in_ok-text-in-Some-clause-ok
-returns-in_ok-text-in-Some-clause-ok g c = taken_back _ _ c.in-Some.kept c.pop.new.self _ c.in-Some.ensures c.in_ok-text-in-Some.ensures c.in_ok-bring.ensures.ok
+returns-in_ok-text-in-Some-clause-ok g c = taken_back _ _ c.in-Some.kept c.pop.new.self _ c.in-Some.ensures c.in_ok-text-in-Some.ensures c.in_ok-bring-in-Some.ensures.ok
 
 pub returns-in_ok-text-in-Some-clause-fits : goal.returns-in_ok-text-in-Some-clause-fits
 returns-in_ok-text-in-Some-clause-fits g c =
-    subst (PileFits (rules_of c.args.session.now)) (sym c.in_ok-bring.ensures.pile) (pile_front (rules_of c.args.session.now) _ c.pop.new.self c.in-Some.kept c.in-Some.ensures c.requires.fits)
+    subst (PileFits (rules_of c.args.session.now)) (sym c.in_ok-bring-in-Some.ensures.pile) (pile_front (rules_of c.args.session.now) _ c.pop.new.self c.in-Some.kept c.in-Some.ensures c.requires.fits)
