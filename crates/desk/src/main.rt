@@ -1,4 +1,4 @@
-//! Decides many cases over a rulebase: a batch of records from standard input.
+//! Decides many cases over a rulebase: a batch of records from standard input, or a caseload of lines, each for the case that it names.
 #![tactic(auto)]
 
 ghost use Rattle.std.specs.Prelude.{◌≡◌, ◌<◌};

@@ -6,7 +6,7 @@ use Rattle.opa_desk.specs.declared.reading.Mode.{Mode}
 use Rattle.opa_desk.specs.declared.reading.Mode.TheVariants as mode
 
 abbrev pub mode_named : List ℕ → Option Mode
-mode_named word = if bytes_eq word (codes "batch") then Some mode.Batch else None
+mode_named word = if bytes_eq word (codes "batch") then Some mode.Batch else if bytes_eq word (codes "cases") then Some mode.Cases else None
 
 abbrev pub begins_with_dash : List ℕ → Bool
 begins_with_dash [] = false

@@ -7,6 +7,7 @@ use Rattle.opa_io.specs.declared.fault.Status.TheVariants as status
 use Rattle.opa_outside.specs.Outside.{Outside, IsUnused}
 use Rattle.opa_outside.specs.Telling.{IsTold}
 use Rattle.opa_batch.specs.Promises.{Promises as PromisesOfBatch}
+use Rattle.opa_cases.specs.Promises.{Promises as PromisesOfCases}
 use Rattle.opa_desk.specs.declared.reading.Mode.{Mode}
 use Rattle.opa_desk.specs.declared.reading.Mode.TheVariants as mode
 use Rattle.opa_desk.specs.Asked.{asked_of, usage}
@@ -28,3 +29,5 @@ pub record Promises (words : List (String Global)) (old new : Outside) (result :
   pub usage : asked_of (words_of words) ≡ None → SaysUsage old new result
   -- The mode `batch` is a batch over the name.
   pub batch : (name : List ℕ) → Asks words mode.Batch name → PromisesOfBatch name old new result
+  -- The mode `cases` is a caseload over the name.
+  pub cases : (name : List ℕ) → Asks words mode.Cases name → PromisesOfCases name old new result

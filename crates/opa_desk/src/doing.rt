@@ -4,6 +4,7 @@ ghost use Rattle.opa_desk.specs.Promises.{Promises};
 
 use crate::reading::{Mode, read_words};
 use opa_batch::batch;
+use opa_cases::serve_cases;
 use opa_io::{Shelf, Sink, Source, Status, Steps};
 use opa_outside::tell;
 use std::alloc::Global;
@@ -27,6 +28,7 @@ pub fn desk<S: Source, F: Shelf, K: Sink, L: Ledger>(
         None => tell(Status::Usage, out, b"usage: desk MODE NAME\n"),
         Some(asked) => match asked.mode {
             Mode::Batch => batch(alloc, asked.name, shelf, input, out, steps),
+            Mode::Cases => serve_cases(alloc, asked.name, shelf, input, out, steps),
         },
     }
 }

@@ -7,6 +7,7 @@ ghost use Rattle.opa_desk.specs.Asked as meant;
 #[derive(Clone, Copy, Debug, PartialEq, Eq)]
 pub enum Mode {
     Batch,
+    Cases,
 }
 
 /// A mode, and the name of its rulebase.
@@ -22,6 +23,7 @@ fn mode_named(word: &str) -> Option<Mode>
 {
     match word {
         "batch" => Some(Mode::Batch),
+        "cases" => Some(Mode::Cases),
         _ => None,
     }
 }

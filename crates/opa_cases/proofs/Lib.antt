@@ -1,0 +1,14 @@
+pub mod ReadLaws
+pub mod OrderLaws
+pub mod OpenLaws
+pub mod FitLaws
+pub mod BehindLaws
+pub mod ServeLaws
+pub mod Suppositions
+pub mod Alone
+pub mod EndLaws
+pub mod Heard
+pub mod InOrder
+pub mod OpenedLaws
+pub mod TalkLaws
+pub mod StatusLaws

@@ -1,0 +1,24 @@
+use Rattle.std.proofs.Common.{refl}
+use Rattle.std.proofs.lemmas.Result.{err_from_is_err_and}
+use Rattle.opa_outside.specs.Outside.{outside}
+use Rattle.opa_cases.proofs.TalkLaws.{talks_all, talks_part, talks_not}
+use Rattle.opa_cases.proofs.serving.talk.Goals as goal
+
+pub returns-in_err-caseload-clause-part : goal.returns-in_err-caseload-clause-part
+returns-in_err-caseload-clause-part g c =
+    let p = err_from_is_err_and c.from_residual.result c.from_residual.ensures.1 in
+    rw (p.1, p.2) (talks_not c.args.base (outside g.F.Shelf.files g.F.Shelf.take_faults g.F.Shelf.keep_faults g.S.Source.left g.S.Source.faults g.K.Sink.written g.K.Sink.faults c.args.shelf.now c.args.input.now c.args.out.now))
+
+pub returns-clause-all : goal.returns-clause-all
+returns-clause-all g c =
+    talks_all c.args.base
+    (outside g.F.Shelf.files g.F.Shelf.take_faults g.F.Shelf.keep_faults g.S.Source.left g.S.Source.faults g.K.Sink.written g.K.Sink.faults c.args.shelf.now c.args.input.now c.args.out.now)
+    (outside g.F.Shelf.files g.F.Shelf.take_faults g.F.Shelf.keep_faults g.S.Source.left g.S.Source.faults g.K.Sink.written g.K.Sink.faults c.converse.new.shelf c.converse.new.input c.converse.new.out)
+    _ _ (c.in_ok-caseload.ensures _) refl c.converse.result c.converse.ensures.ok
+
+pub returns-clause-part : goal.returns-clause-part
+returns-clause-part g c =
+    talks_part c.args.base
+    (outside g.F.Shelf.files g.F.Shelf.take_faults g.F.Shelf.keep_faults g.S.Source.left g.S.Source.faults g.K.Sink.written g.K.Sink.faults c.args.shelf.now c.args.input.now c.args.out.now)
+    (outside g.F.Shelf.files g.F.Shelf.take_faults g.F.Shelf.keep_faults g.S.Source.left g.S.Source.faults g.K.Sink.written g.K.Sink.faults c.converse.new.shelf c.converse.new.input c.converse.new.out)
+    _ _ (c.in_ok-caseload.ensures _) refl c.converse.result c.converse.ensures.err

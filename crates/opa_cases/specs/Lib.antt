@@ -1,0 +1,10 @@
+pub mod Orders
+pub mod Scripts
+pub mod Caseload
+pub mod Naming
+pub mod Holding
+pub mod Answering
+pub mod Laws
+pub mod Serving
+pub mod Statuses
+pub mod Promises

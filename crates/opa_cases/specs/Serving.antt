@@ -1,0 +1,85 @@
+-- A caseload over what the name opens: what it reads, writes, keeps and answers.
+use Rattle.std.specs.Prelude.{ℕ, ◌≡◌, ◌⊎◌, ◌≤◌, ◌+◌, List, [], length, take, Option, IfSome, Result, Ok, Err}
+use Rattle.std.specs.Io.KnownBytes.{Consumes, Appends, IsAtEnd}
+use Rattle.opa_io.specs.Outside.{Files, Rose}
+use Rattle.opa_io.specs.declared.fault.Status.{Status}
+use Rattle.opa_io.specs.declared.fault.Status.TheVariants as status
+use Rattle.opa_model.specs.Models.{IsModel}
+use Rattle.opa_outside.specs.Outside.{MOST, Outside, IsUnused, IsSilent, ReadAtMost}
+use Rattle.opa_outside.specs.Telling.{IsTold}
+use Rattle.opa_rulebase.specs.Loading.{Opens}
+use Rattle.opa_talk.specs.declared.halt.Halt.{Halt}
+use Rattle.opa_talk.specs.declared.halt.Halt.TheVariants as halt
+use Rattle.opa_talk.specs.Lines.{input_lines, IsWhole}
+use Rattle.opa_talk.specs.Transcript.{IsTranscript}
+use Rattle.opa_talk.specs.Talk.{HaltedAmong, Converses, Halts, MayLeave}
+use Rattle.opa_tree.specs.declared.rulebase.Rulebase.{Rulebase}
+use Rattle.opa_cases.specs.Caseload.{Held, caseload, Lacks, Stops, at_first}
+
+-- this is what the files open under the name, where they are told
+abbrev pub IsOpened : Option Files → List ℕ → Result Rulebase (List ℕ) → Type 0
+IsOpened told name opened = IfSome told (λ files. Opens files name opened)
+
+module _ (base : Rulebase) (old new : Outside) where
+  -- what may be held where the reply to a line halts
+  abbrev pub Left : Held → List ℕ → Held → Type 0
+  Left = MayLeave old.keeps new.keeps Stops Lacks
+
+  -- the replies to the bytes' lines were written
+  pub record SaysAll (bytes : List ℕ) : Type 0 where
+    pub text : List ℕ
+    pub held : Held
+    pub said : IsTranscript caseload (at_first base old.files) (input_lines bytes) text held
+    pub wrote : Appends old.written new.written text
+
+  -- some of the bytes' lines were carried out, whole ones alone, and a front of the replies to them was written
+  pub record SaysFront (bytes : List ℕ) : Type 0 where
+    pub held : Held
+    pub halted : HaltedAmong caseload Left (at_first base old.files) held bytes new.left old.written new.written
+
+  -- the lines whose line feed is among the bytes were carried out
+  pub record SaysWhole (bytes : List ℕ) : Type 0 where
+    pub whole : List ℕ
+    pub is_whole : IsWhole whole bytes
+    pub says : SaysAll whole
+
+  abbrev pub ReadsSome : (List ℕ → Type 0) → Type 0
+  ReadsSome P = (read : List ℕ) × Consumes old.left new.left read × (length read ≤ MOST) × P read
+
+  -- What is known of a caseload that ended so.
+  abbrev pub Talks : Status → Type 0
+  Talks status.Done = ReadsSome (λ read. IsAtEnd new.left × SaysAll read)
+  Talks status.Refused = ⊥
+  Talks status.Usage = ⊥
+  Talks status.ReadFault = ReadsSome (λ read. (Rose old.reads new.reads × SaysWhole read) ⊎ (Rose old.takes new.takes × SaysFront read))
+  Talks status.WriteFault = ReadsSome (λ read. (Rose old.writes new.writes ⊎ Rose old.keeps new.keeps) × SaysFront read)
+  Talks status.NoMemory = ReadsSome SaysFront
+  Talks status.InputLimit = (read : List ℕ) × Consumes old.left new.left read × (length read ≡ MOST + 1) × SaysWhole (take MOST read)
+
+-- A caseload over what the name opens: the rulebase is accepted, and the lines of the input are carried out; or it is refused,
+-- which is printed; or nothing was loaded, for a fault of the shelf or for want of memory.
+pub data Ran (name : List ℕ) (old new : Outside) : Status → Type 0 where
+  talks : {result : Status} (base : Rulebase) → IsModel base.model → IsOpened old.files name (Ok base) → new.files ≡ old.files → Talks base old new result → Ran name old new result
+  refuses : {result : Status} (text : List ℕ) → IsOpened old.files name (Err text) → IsUnused old new → IsTold status.Refused text old.written new.written old.writes new.writes result → Ran name old new result
+  cannot_take : Rose old.takes new.takes → IsUnused old new → IsSilent old new → Ran name old new status.ReadFault
+  cannot_hold : IsUnused old new → IsSilent old new → Ran name old new status.NoMemory
+
+-- ---- on the way there
+
+-- the input was read to its end, and the replies to its lines were written
+abbrev pub TalksAll : Rulebase → Outside → Outside → Type 0
+TalksAll base old new = (y : Held) × Converses caseload (at_first base old.files) y MOST old.left new.left old.written new.written × (new.files ≡ y.files)
+
+-- some of the input was read, and the talk halts there
+abbrev pub TalksPart : Rulebase → Outside → Outside → Halt → Type 0
+TalksPart base old new halt = (y : Held) × Halts caseload (MayLeave old.keeps new.keeps Stops Lacks) (at_first base old.files) y MOST old.left new.left old.written new.written halt × (new.files ≡ y.files)
+
+-- how an input ends that was fed
+abbrev pub end_of : Result (Unit {0}) Halt → Status
+end_of (Ok u) = status.Done
+end_of (Err halt.Input) = status.ReadFault
+end_of (Err halt.Output) = status.WriteFault
+end_of (Err halt.Take) = status.ReadFault
+end_of (Err halt.Keep) = status.WriteFault
+end_of (Err halt.Memory) = status.NoMemory
+end_of (Err halt.Limit) = status.InputLimit

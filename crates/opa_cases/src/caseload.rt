@@ -1,0 +1,21 @@
+// What is held of many cases.
+ghost use Rattle.std.proofs.Props.{props};
+ghost use Rattle.opa_case.specs.Cases.{coded_lists, coded_population};
+ghost use Rattle.opa_cells.specs.Instances.{coded_instance};
+ghost use Rattle.opa_infer.specs.Sessions.{rules_of};
+ghost use Rattle.opa_cases.specs.Holding.{AllFit, CurrentFits, IsApart};
+
+use crate::kept::{Current, OpenCase};
+use opa_infer::Session;
+use opa_named::Named;
+
+/// One session, which goes from one case to another, and the other cases that are open.
+#[derive(Drop)]
+pub struct Caseload {
+    pub(crate) session: Session,
+    pub(crate) current: Option<Current>,
+    pub(crate) others: Named<OpenCase>,
+    ghost apart: { IsApart current others },
+    ghost fits: { AllFit (rules_of session) others } by { Prim.hlevel (props, coded_lists, coded_population, coded_instance) },
+    ghost stands: { CurrentFits (rules_of session) current } by { Prim.hlevel (props, coded_lists, coded_population, coded_instance) },
+}
