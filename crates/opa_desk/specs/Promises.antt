@@ -6,6 +6,7 @@ use Rattle.opa_io.specs.declared.fault.Status.{Status}
 use Rattle.opa_io.specs.declared.fault.Status.TheVariants as status
 use Rattle.opa_outside.specs.Outside.{Outside, IsUnused}
 use Rattle.opa_outside.specs.Telling.{IsTold}
+use Rattle.opa_batch.specs.Counting.{Counts}
 use Rattle.opa_batch.specs.Promises.{Promises as PromisesOfBatch}
 use Rattle.opa_cases.specs.Promises.{Promises as PromisesOfCases}
 use Rattle.opa_desk.specs.declared.reading.Mode.{Mode}
@@ -23,6 +24,10 @@ Asks words m name = asked_of (words_of words) ≡ Some (m, name)
 pub record SaysUsage (old new : Outside) (result : Status) : Type 0 where
   pub told : IsTold status.Usage usage old.written new.written old.writes new.writes result
   pub unused : IsUnused old new
+
+-- The mode `batch` counts no more steps than a batch over the name.
+abbrev pub CountsAsked : List (String Global) → Outside → Outside → ℕ → ℕ → Type 0
+CountsAsked words old new before now = (name : List ℕ) → Asks words mode.Batch name → Counts name old new before now
 
 pub record Promises (words : List (String Global)) (old new : Outside) (result : Status) : Type 0 where
   -- Where the words are of no mode, the usage line is written.

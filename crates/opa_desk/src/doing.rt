@@ -1,6 +1,6 @@
 // What the words of the command line say is done.
 ghost use Rattle.opa_outside.specs.Outside.{outside};
-ghost use Rattle.opa_desk.specs.Promises.{Promises};
+ghost use Rattle.opa_desk.specs.Promises.{Promises, CountsAsked};
 
 use crate::reading::{Mode, read_words};
 use opa_batch::batch;
@@ -23,6 +23,9 @@ pub fn desk<S: Source, F: Shelf, K: Sink, L: Ledger>(
     ensures promises { Promises words.now
         (outside F.files F.take_faults F.keep_faults S.left S.faults K.written K.faults shelf.old input.old out.old)
         (outside F.files F.take_faults F.keep_faults S.left S.faults K.written K.faults shelf.new input.new out.new) result }
+    ensures counts { CountsAsked words.now
+        (outside F.files F.take_faults F.keep_faults S.left S.faults K.written K.faults shelf.old input.old out.old)
+        (outside F.files F.take_faults F.keep_faults S.left S.faults K.written K.faults shelf.new input.new out.new) steps.old steps.new }
 {
     match read_words(words) {
         None => tell(Status::Usage, out, b"usage: desk MODE NAME\n"),
