@@ -307,6 +307,6 @@ heard x y name reads texts rests picked part printed picks =
       by_line.0,
       by_line.1,
       picked_heard name picks x y printed
-      ∙ ap (λ ps. said_to name (concat ps)) by_line.2
-      ∙ heard_parts name part by_line.0 (script_ends x.rules _ _ rests by_line.0 by_line.1),
+          ∙ ap (λ ps. said_to name (concat ps)) by_line.2
+          ∙ heard_parts name part by_line.0 (script_ends x.rules _ _ rests by_line.0 by_line.1),
     )
