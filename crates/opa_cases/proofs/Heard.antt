@@ -120,34 +120,51 @@ front_part name p =
     let is : ℕ → Type 0 = λ x. (x == 10) ≡ false in
     All-push is (quoted name) 32 (All-cons is 34 (doubled name ++ 34 ∷ []) refl (All-push is (doubled name) 34 (doubled_part name p) refl)) refl
 
+first_of : (a b : ℕ) (xs ys : List ℕ) → a ∷ xs ≡ b ∷ ys → a ≡ b
+first_of a b xs ys e = cc e
+
+rest_of : (a b : ℕ) (xs ys : List ℕ) → a ∷ xs ≡ b ∷ ys → xs ≡ ys
+rest_of a b xs ys e = cc e
+
+blank_no_quote : (a b : ℕ) → a ≡ 32 → b ≡ 34 → a ≡ b → ⊥
+blank_no_quote a b p q e = omega (arith, p, q, e)
+
+no_quote : (c : ℕ) → (c == 34) ≡ false → c ≡ 34 → ⊥
+no_quote c e d = grind (arith, e, d)
+
+is_quote : (c : ℕ) → (c == 34) ≡ true → c ≡ 34
+is_quote c e = grind (arith, e)
+
+-- what stands behind a name: its last quote and a blank
+abbrev closed : List ℕ → List ℕ
+closed r = 34 ∷ 32 ∷ r
+
+abbrev inner : Bool → ℕ → List ℕ → List ℕ
+inner t c more = cond t (34 ∷ 34 ∷ more) (c ∷ more)
+
+ends_here : (c : ℕ) (m r s : List ℕ) (t : Bool) → (c == 34) ≡ t → closed r ≡ inner t c (doubled m) ++ closed s → ⊥
+ends_here c m r s true q h =
+    let k : 32 ∷ r ≡ 34 ∷ (doubled m ++ closed s) = rest_of 34 34 (32 ∷ r) (34 ∷ (doubled m ++ closed s)) h in
+    blank_no_quote 32 34 refl refl (first_of 32 34 r (doubled m ++ closed s) k)
+ends_here c m r s false q h = no_quote c q (sym (first_of 34 c (32 ∷ r) (doubled m ++ closed s) h))
+
+both_go : (c d : ℕ) (n m r s : List ℕ) (t u : Bool) → (c == 34) ≡ t → (d == 34) ≡ u → inner t c (doubled n) ++ closed r ≡ inner u d (doubled m) ++ closed s → (c ≡ d) × (doubled n ++ closed r ≡ doubled m ++ closed s)
+both_go c d n m r s true true p q h = (
+  is_quote c p ∙ sym (is_quote d q),
+  rest_of 34 34 (doubled n ++ closed r) (doubled m ++ closed s) (rest_of 34 34 (34 ∷ (doubled n ++ closed r)) (34 ∷ (doubled m ++ closed s)) h),
+)
+both_go c d n m r s true false p q h = absurd (no_quote d q (sym (first_of 34 d (34 ∷ (doubled n ++ closed r)) (doubled m ++ closed s) h)))
+both_go c d n m r s false true p q h = absurd (no_quote c p (first_of c 34 (doubled n ++ closed r) (34 ∷ (doubled m ++ closed s)) h))
+both_go c d n m r s false false p q h = (first_of c d (doubled n ++ closed r) (doubled m ++ closed s) h, rest_of c d (doubled n ++ closed r) (doubled m ++ closed s) h)
+
 -- names are told apart by what stands behind their last quote
-first_alike : (n m r s : List ℕ) → doubled n ++ 34 ∷ 32 ∷ r ≡ doubled m ++ 34 ∷ 32 ∷ s → n ≡ m
+first_alike : (n m r s : List ℕ) → doubled n ++ closed r ≡ doubled m ++ closed s → n ≡ m
 first_alike [] [] r s e = refl
-first_alike [] (c ∷ m) r s e = none (c == 34) refl e
-  where
-    none : (t : Bool) → (c == 34) ≡ t → 34 ∷ 32 ∷ r ≡ cond t (34 ∷ 34 ∷ doubled m) (c ∷ doubled m) ++ 34 ∷ 32 ∷ s → [] ≡ c ∷ m
-    none true q h = absurd (let d : ◌≡◌ {A = ℕ} 32 34 = cc h in cc d)
-    none false q h = absurd (let d : 34 ≡ c = cc h in grind (arith, d, q))
-first_alike (c ∷ n) [] r s e = none (c == 34) refl e
-  where
-    none : (t : Bool) → (c == 34) ≡ t → cond t (34 ∷ 34 ∷ doubled n) (c ∷ doubled n) ++ 34 ∷ 32 ∷ r ≡ 34 ∷ 32 ∷ s → c ∷ n ≡ []
-    none true q h = absurd (let d : ◌≡◌ {A = ℕ} 34 32 = cc h in cc d)
-    none false q h = absurd (let d : c ≡ 34 = cc h in grind (arith, d, q))
-first_alike (c ∷ n) (d ∷ m) r s e = both (c == 34) (d == 34) refl refl e (first_alike n m r s)
-  where
-    both : (t u : Bool) → (c == 34) ≡ t → (d == 34) ≡ u
-        → cond t (34 ∷ 34 ∷ doubled n) (c ∷ doubled n) ++ 34 ∷ 32 ∷ r ≡ cond u (34 ∷ 34 ∷ doubled m) (d ∷ doubled m) ++ 34 ∷ 32 ∷ s
-        → (doubled n ++ 34 ∷ 32 ∷ r ≡ doubled m ++ 34 ∷ 32 ∷ s → n ≡ m) → c ∷ n ≡ d ∷ m
-    both true true p q h more =
-        let k : doubled n ++ 34 ∷ 32 ∷ r ≡ doubled m ++ 34 ∷ 32 ∷ s = cc h in
-        let same : c ≡ d = grind (arith, p, q) in
-        ap (λ x. x ∷ n) same ∙ ap (λ x. d ∷ x) (more k)
-    both true false p q h more = absurd (let k : 34 ≡ d = cc h in grind (arith, k, q))
-    both false true p q h more = absurd (let k : c ≡ 34 = cc h in grind (arith, k, p))
-    both false false p q h more =
-        let k : doubled n ++ 34 ∷ 32 ∷ r ≡ doubled m ++ 34 ∷ 32 ∷ s = cc h in
-        let same : c ≡ d = cc h in
-        ap (λ x. x ∷ n) same ∙ ap (λ x. d ∷ x) (more k)
+first_alike [] (c ∷ m) r s e = absurd (ends_here c m r s (c == 34) refl e)
+first_alike (c ∷ n) [] r s e = absurd (ends_here c n s r (c == 34) refl (sym e))
+first_alike (c ∷ n) (d ∷ m) r s e =
+    let k = both_go c d n m r s (c == 34) (d == 34) refl refl e in
+    ap (λ x. x ∷ n) k.0 ∙ ap (λ x. d ∷ x) (first_alike n m r s k.1)
 
 spread : (name rest : List ℕ) → front_of name ++ rest ≡ 34 ∷ (doubled name ++ 34 ∷ 32 ∷ rest)
 spread name rest = append_assoc (quoted name) (32 ∷ []) rest ∙ ap (λ t. 34 ∷ t) (append_assoc (doubled name) (34 ∷ []) (32 ∷ rest))
@@ -155,7 +172,7 @@ spread name rest = append_assoc (quoted name) (32 ∷ []) rest ∙ ap (λ t. 34 
 fronts_apart : (n m r s : List ℕ) → front_of n ++ r ≡ front_of m ++ s → n ≡ m
 fronts_apart n m r s e =
     let k : 34 ∷ (doubled n ++ 34 ∷ 32 ∷ r) ≡ 34 ∷ (doubled m ++ 34 ∷ 32 ∷ s) = sym (spread n r) ∙ e ∙ spread m s in
-    first_alike n m r s (let q : doubled n ++ 34 ∷ 32 ∷ r ≡ doubled m ++ 34 ∷ 32 ∷ s = cc k in q)
+    first_alike n m r s (rest_of 34 34 (doubled n ++ closed r) (doubled m ++ closed s) k)
 
 -- ---- what follows a front
 
@@ -164,9 +181,9 @@ behind_own [] rest = refl
 behind_own (f ∷ front) rest = ap (λ t. if t then behind front (front ++ rest) else []) (let e : (f == f) ≡ true = grind arith in e) ∙ behind_own front rest
 
 behind_none : (front bytes : List ℕ) → ((rest : List ℕ) → bytes ≡ front ++ rest → ⊥) → behind front bytes ≡ []
-behind_none [] bytes no = absurd (no bytes refl)
-behind_none (f ∷ front) [] no = refl
-behind_none (f ∷ front) (b ∷ bytes) no = go (f == b) refl (λ same. behind_none front bytes (λ rest q. no rest (ap (λ x. x ∷ bytes) same ∙ ap (λ x. f ∷ x) q)))
+behind_none [] bytes never = absurd (never bytes refl)
+behind_none (f ∷ front) [] never = refl
+behind_none (f ∷ front) (b ∷ bytes) never = go (f == b) refl (λ same. behind_none front bytes (λ rest q. never rest (ap (λ x. x ∷ bytes) same ∙ ap (λ x. f ∷ x) q)))
   where
     go : (t : Bool) → (f == b) ≡ t → (b ≡ f → behind front bytes ≡ []) → (if t then behind front bytes else []) ≡ []
     go true e more = more (grind (arith, e))
@@ -290,6 +307,6 @@ heard x y name reads texts rests picked part printed picks =
       by_line.0,
       by_line.1,
       picked_heard name picks x y printed
-      ∙ ap (λ ps. said_to name (concat ps)) by_line.2
-      ∙ heard_parts name part by_line.0 (script_ends x.rules _ _ rests by_line.0 by_line.1),
+          ∙ ap (λ ps. said_to name (concat ps)) by_line.2
+          ∙ heard_parts name part by_line.0 (script_ends x.rules _ _ rests by_line.0 by_line.1),
     )

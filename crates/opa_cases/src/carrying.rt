@@ -5,8 +5,8 @@ ghost use Rattle.opa_cases.specs.Holding.{open_of, PileFits};
 ghost use Rattle.opa_cases.specs.Orders.{IsOrderInRange};
 ghost use Rattle.opa_cases.specs.Scripts.{Carries, Responds};
 
-use crate::kept::Current;
 use crate::changes::do_command;
+use crate::kept::Current;
 use crate::orders::Order;
 use crate::refused::{refused_command, told};
 use crate::supposing::{suppose, undo};

@@ -34,15 +34,7 @@ fn talk<S: Source, F: Shelf, K: Sink, L: Ledger>(
 {
     let mut caseload = Caseload::start(alloc, base, steps)?;
     let mut nobody: Vec<Box<dyn Listener>> = Vec::new(alloc);
-    converse(
-        alloc,
-        &mut caseload,
-        shelf,
-        &mut nobody,
-        steps,
-        input,
-        out,
-    )
+    converse(alloc, &mut caseload, shelf, &mut nobody, steps, input, out)
 }
 
 /// What a rulebase declares is a model.

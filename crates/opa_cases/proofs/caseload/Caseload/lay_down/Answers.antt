@@ -13,6 +13,6 @@ invariant_of-self c =
     record {
       apart = apart_none self.current c.insert.new.self c.requires.none;
       fits = fit_after r c.insert.result self.others c.insert.new.self c.args.current.name v c.insert.ensures.ok c.insert.ensures.err
-      (record { case = subst (FitsRules r) (sym (c.in_ok-case.ensures ∙ c.case.ensures.case)) c.case.ensures.fits.fits; pile = c.requires.fits }) self.fits;
+          (record { case = subst (FitsRules r) (sym (c.in_ok-case.ensures ∙ c.case.ensures.case)) c.case.ensures.fits.fits; pile = c.requires.fits }) self.fits;
       stands = fits_none r self.current c.requires.none;
     }
