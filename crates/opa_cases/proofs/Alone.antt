@@ -1,15 +1,14 @@
 -- Each case's replies are those that it would get alone.
-use Rattle.std.proofs.Common.{◌≡◌, ◌≢◌, ◌≤◌, ◌⊎◌, inl, inr, ℕ, Bool, true, false, cond, List, [], ◌∷◌, ◌++◌, length, length-append, map, refl, sym, ap, ◌∙◌, subst, arith}
+use Rattle.std.proofs.Common.{◌≡◌, ◌≢◌, inl, inr, ℕ, Bool, true, false, cond, List, [], ◌∷◌, map, refl, sym, ap, ◌∙◌, subst}
 use Rattle.std.specs.Prelude.{Option, None, Some}
 use Rattle.std.specs.FinMap as cases
 use Rattle.std.specs.Str.{bytes_eq}
 use Rattle.std.specs.Cmp.Lexicographic.{nat_list_cmp_total}
 use Rattle.std.proofs.lemmas.Map.Text.{is_eq-slice_cmp}
 use Rattle.std.proofs.lemmas.Slice.Eq.{bytes_eq-Decides}
-use Rattle.opa_tree.specs.declared.rulebase.Rulebase.{Rulebase}
 use Rattle.opa_cases.specs.declared.kept.OpenCase.{OpenCase}
 use Rattle.opa_cases.specs.Scripts.{Replies, IsScript, opened}
-use Rattle.opa_cases.specs.Caseload.{Held, Opens, IsNamed, RepliesNamed, RepliesLine, Serves, behind_name, put, with_cases, refused_cases}
+use Rattle.opa_cases.specs.Caseload.{Held, Opens, IsNamed, RepliesNamed, RepliesLine, behind_name, put, with_cases, refused_cases}
 use Rattle.opa_cases.specs.Laws.{ArePrinted, Picks}
 use Rattle.opa_cases.proofs.ReadLaws.{one_front}
 

@@ -1,5 +1,5 @@
 -- Lines behind a front.
-use Rattle.std.proofs.Common.{◌≡◌, ℕ, false, List, [], ◌∷◌, ◌++◌, length, length-append, append_assoc, append-nil, refl, sym, ap, ◌∙◌, arith, ◌<◌, ◌+◌}
+use Rattle.std.proofs.Common.{◌≡◌, ℕ, false, List, [], ◌∷◌, ◌++◌, length, length-append, append_assoc, append-nil, sym, ap, ◌∙◌, arith, ◌<◌}
 use Rattle.std.specs.Prelude.{◌==◌, flat_map}
 use Rattle.opa_talk.specs.Lines.{lines, IsPart}
 use Rattle.opa_talk.proofs.LinesLaws.{lines_first, lines_last}

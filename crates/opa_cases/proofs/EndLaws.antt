@@ -9,7 +9,6 @@ use Rattle.opa_case.specs.Refusals.{number_of}
 use Rattle.opa_case.specs.declared.change.ChangeCommand.{ChangeCommand}
 use Rattle.opa_case.specs.declared.change.Refusal.{Refusal}
 use Rattle.opa_case.specs.declared.question.Question.{Question}
-use Rattle.opa_cells.specs.Instances.{global}
 use Rattle.opa_cells.specs.declared.instance.InstanceId.{InstanceId}
 use Rattle.opa_infer.specs.Sessions.{reached}
 use Rattle.opa_model.specs.declared.ids.AttrId.{AttrId}
@@ -25,14 +24,14 @@ use Rattle.opa_talk.specs.Lines.{EndsLine}
 use Rattle.opa_talk.proofs.LinesLaws.{EndsLine-append}
 use Rattle.opa_text.specs.Points.{point_text}
 use Rattle.opa_told.specs.Asking.{question_told, next_told, asked}
-use Rattle.opa_told.specs.Goals.{goals_told, goal_line, state_line, state_text}
-use Rattle.opa_told.specs.Shown.{value_told, names_told, told, told_line, refused_point}
+use Rattle.opa_told.specs.Goals.{goals_told, goal_line}
+use Rattle.opa_told.specs.Shown.{value_told, names_told, told, refused_point}
 use Rattle.opa_told.specs.Stats.{counted, stats_told}
 use Rattle.opa_tree.specs.declared.rulebase.Rulebase.{Rulebase}
 use Rattle.opa_cases.specs.declared.kept.OpenCase.{OpenCase}
 use Rattle.opa_cases.specs.declared.orders.Order.{Order}
 use Rattle.opa_cases.specs.declared.orders.Order.TheVariants as order
-use Rattle.opa_cases.specs.Scripts.{Changes, Does, Carries, Responds, Replies, Supposes, Undoes, opened_as, line}
+use Rattle.opa_cases.specs.Scripts.{Does, Carries, Responds, Replies, Supposes, Undoes, opened_as, line}
 
 abbrev EndsFeed : List ℕ → Type 0
 EndsFeed text = (front : List ℕ) × (text ≡ front ++ 10 ∷ [])

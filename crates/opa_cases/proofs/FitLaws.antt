@@ -1,5 +1,5 @@
 -- What is kept fits the rulebase.
-use Rattle.std.proofs.Common.{◌≡◌, inl, inr, ℕ, List, [], ◌∷◌, ◌++◌, refl, sym, subst, ◌∙◌, OnOk, OnErr, Ok, Err, IfSome}
+use Rattle.std.proofs.Common.{◌≡◌, inr, ℕ, List, [], ◌∷◌, ◌++◌, sym, subst, ◌∙◌, OnOk, OnErr, Ok, Err, IfSome}
 use Rattle.std.specs.Prelude.{Option, None, Some, Result, codes}
 use Rattle.std.specs.FinMap as map
 use Rattle.std.proofs.lemmas.List.Elements.{All-nil, All-push, All-pop}
@@ -13,7 +13,7 @@ use Rattle.opa_cases.specs.declared.kept.OpenCase.{OpenCase}
 use Rattle.opa_cases.specs.Caseload.{Opens}
 use Rattle.opa_cases.specs.Holding.{FitsRules, PileFits, OpenFits, AllFit, IsApart, CurrentFits}
 use Rattle.opa_cases.specs.Scripts.{Undoes, kept_as, opened_as, line}
-use Rattle.opa_cases.proofs.OpenLaws.{fit_inserted, fit_removed, fit_empty}
+use Rattle.opa_cases.proofs.OpenLaws.{fit_inserted, fit_removed}
 
 module _ (r : Rulebase) where
   abbrev Fit : KeptCase → Type 0

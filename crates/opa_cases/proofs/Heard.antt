@@ -1,6 +1,6 @@
 -- Of all that is printed, the lines that begin with a name are what its case prints alone.
-use Rattle.std.proofs.Common.{◌≡◌, ◌≢◌, ◌⊎◌, inl, inr, ℕ, Bool, true, false, cond, List, [], ◌∷◌, ◌++◌, length, map, append_assoc, append-nil, refl, sym, ap, ◌∙◌, subst, arith}
-use Rattle.std.specs.Prelude.{◌==◌, ◌||◌, Option, None, Some, codes, flat_map, if◌then◌else◌}
+use Rattle.std.proofs.Common.{◌≡◌, inl, inr, ℕ, Bool, true, false, cond, List, [], ◌∷◌, ◌++◌, map, append_assoc, append-nil, refl, sym, ap, ◌∙◌, subst, arith}
+use Rattle.std.specs.Prelude.{◌==◌, ◌||◌, Option, codes, flat_map, if◌then◌else◌}
 use Rattle.std.specs.List.{concat, list_any}
 use Rattle.std.specs.FinMap as cases
 use Rattle.std.proofs.lemmas.List.Elements.{All-cons, All-append, All-head, All-push, All-tail}
@@ -12,8 +12,8 @@ use Rattle.opa_words.specs.Kinds.{doubled, quoted}
 use Rattle.opa_script.specs.Lines.{is_idle}
 use Rattle.opa_reply.specs.Lines.{text_of}
 use Rattle.opa_cases.specs.declared.kept.OpenCase.{OpenCase}
-use Rattle.opa_cases.specs.Scripts.{Replies, IsScript, line, opened}
-use Rattle.opa_cases.specs.Caseload.{Held, IsNamed, RepliesLine, RepliesNamed, RepliesUnnamed, Serves, behind_name, front_of, refused_cases}
+use Rattle.opa_cases.specs.Scripts.{IsScript, line, opened}
+use Rattle.opa_cases.specs.Caseload.{Held, IsNamed, RepliesLine, RepliesNamed, behind_name, front_of}
 use Rattle.opa_cases.specs.Laws.{ArePrinted, Picks, behind, said_to}
 use Rattle.opa_cases.proofs.Alone.{alone}
 use Rattle.opa_cases.proofs.EndLaws.{reply_ends}

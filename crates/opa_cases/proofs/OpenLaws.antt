@@ -1,5 +1,5 @@
 -- The cases that are open, where one of them is in the session.
-use Rattle.std.proofs.Common.{◌≡◌, ◌<◌, ◌≤◌, ◌+◌, ◌∷◌, [], ℕ, Bool, true, false, cond, List, refl, sym, ap, ◌∙◌, subst, arith, inl, inr, is_some}
+use Rattle.std.proofs.Common.{◌≡◌, ◌+◌, ℕ, Bool, true, false, cond, List, refl, sym, ap, ◌∙◌, subst, is_some}
 use Rattle.std.specs.Prelude.{Option, None, Some, ◌||◌}
 use Rattle.std.specs.FinMap as map
 use Rattle.std.specs.Ordering.{nat_cmp, eq_by_cmp}
@@ -11,12 +11,11 @@ use Rattle.std.proofs.lemmas.Map.Views.{tells_apart}
 use Rattle.std.proofs.lemmas.Map.Text.{is_eq-slice_cmp}
 use Rattle.std.proofs.lemmas.Slice.Eq.{bytes_eq-Decides}
 use Rattle.opa_infer.specs.declared.session.Session.{Session}
-use Rattle.opa_infer.specs.Sessions.{rules_of, held_of}
 use Rattle.opa_tree.specs.declared.rulebase.Rulebase.{Rulebase}
 use Rattle.opa_cases.specs.declared.kept.Current.{Current}
 use Rattle.opa_cases.specs.declared.kept.OpenCase.{OpenCase}
 use Rattle.opa_cases.specs.Caseload.{Opens, put}
-use Rattle.opa_cases.specs.Holding.{opens_of, open_of, current_by, AllFit, OpenFits, PileFits, IsApart, IsTurned}
+use Rattle.opa_cases.specs.Holding.{opens_of, open_of, current_by, AllFit, OpenFits, IsApart, IsTurned}
 use Rattle.opa_cases.specs.Scripts.{opened, fresh, left_by}
 
 abbrev is : List ℕ → List ℕ → Bool

@@ -1,6 +1,6 @@
 -- What tokens ask for.
-use Rattle.std.proofs.Common.{arith, ◌≡◌, ◌≢◌, ◌≤◌, ℕ, true, false, List, [], ◌∷◌, length, refl, sym, ap, ◌∙◌, subst}
-use Rattle.std.specs.Prelude.{nat_lt, Result, Ok, Err, IfOk, IfErr}
+use Rattle.std.proofs.Common.{arith, ◌≡◌, ◌≤◌, ℕ, true, false, List, length, refl, sym, ap, ◌∙◌, subst}
+use Rattle.std.specs.Prelude.{nat_lt}
 use Rattle.std.specs.List.{All}
 use Rattle.std.specs.Str.{chars, IsUtf8}
 use Rattle.opa_model.specs.declared.lists.Lists.{Lists}

@@ -1,11 +1,10 @@
 -- How a line of a caseload is read.
-use Rattle.std.proofs.Common.{◌≡◌, ◌≢◌, ◌≤◌, inl, inr, ℕ, Bool, true, false, List, [], ◌∷◌, ◌++◌, length, length-append, refl, sym, ap, ◌∙◌, subst, arith}
+use Rattle.std.proofs.Common.{◌≡◌, ◌≤◌, ℕ, Bool, true, false, List, [], ◌∷◌, ◌++◌, length, length-append, refl, sym, ap, ◌∙◌, subst, arith}
 use Rattle.std.specs.Prelude.{◌&&◌, nat_le, Result, Ok, Err, IfOk, IfErr}
 use Rattle.opa_words.specs.Fronts.{BeginsWithText, BeginsWithNoText}
 use Rattle.opa_words.specs.Kinds.{quoted}
 use Rattle.opa_words.proofs.QuoteLaws.{quoted_tells_apart}
 use Rattle.opa_script.specs.declared.fault.CmdFault.{CmdFault}
-use Rattle.opa_script.specs.declared.fault.CmdFault.TheVariants as fault
 use Rattle.opa_tree.specs.declared.rulebase.Rulebase.{Rulebase}
 use Rattle.opa_model.specs.declared.lists.Lists.{Lists}
 use Rattle.opa_cases.specs.declared.kept.OpenCase.{OpenCase}

@@ -1,5 +1,5 @@
 -- A line of a case is served.
-use Rattle.std.proofs.Common.{◌≡◌, ℕ, Bool, true, false, List, refl, sym, ap, ◌∙◌, subst}
+use Rattle.std.proofs.Common.{◌≡◌, ℕ, Bool, false, List, refl, sym, ap, ◌∙◌, subst}
 use Rattle.std.specs.Prelude.{Option, None, Some, Result, IfOk, IfErr, MatchOption}
 use Rattle.opa_io.specs.Outside.{Files}
 use Rattle.opa_infer.specs.declared.session.Session.{Session}
@@ -10,7 +10,7 @@ use Rattle.opa_tree.specs.declared.rulebase.Rulebase.{Rulebase}
 use Rattle.opa_cases.specs.declared.kept.Current.{Current}
 use Rattle.opa_cases.specs.declared.kept.OpenCase.{OpenCase}
 use Rattle.opa_cases.specs.declared.orders.Order.{Order}
-use Rattle.opa_cases.specs.Caseload.{Held, Opens, Serves, held, is_full, behind_name, put}
+use Rattle.opa_cases.specs.Caseload.{Held, Opens, Serves, held, is_full, behind_name}
 use Rattle.opa_cases.specs.Holding.{open_of, opens_of, current_by, IsTurned}
 use Rattle.opa_cases.specs.Orders.{IsOrder, OrdersNothing}
 use Rattle.opa_cases.specs.Scripts.{Responds, left_by}

@@ -14,9 +14,9 @@ use Rattle.opa_talk.specs.Talk.{MayLeave}
 use Rattle.opa_talk.proofs.EndLaws.{among_whole}
 use Rattle.opa_talk.proofs.TranscriptLaws.{cuts_anywhere}
 use Rattle.opa_tree.specs.declared.rulebase.Rulebase.{Rulebase}
-use Rattle.opa_cases.specs.Caseload.{caseload, Lacks, Stops, at_first}
+use Rattle.opa_cases.specs.Caseload.{caseload, Lacks, Stops}
 use Rattle.opa_cases.specs.Serving.{IsOpened, SaysAll, SaysFront, SaysWhole, Talks, Ran}
-use Rattle.opa_cases.specs.Statuses.{WroteRefusal, WroteFront, Wrote, WroteLines, LeftOff, OpensBase, OpensRefusal, HasCause, Completes, status_of}
+use Rattle.opa_cases.specs.Statuses.{WroteRefusal, WroteFront, Wrote, WroteLines, LeftOff, OpensBase, OpensRefusal, HasCause, status_of}
 use Rattle.opa_cases.specs.Promises.{Promises}
 use Rattle.opa_cases.proofs.Alone.{alone}
 use Rattle.opa_cases.proofs.Heard.{heard}

@@ -1,6 +1,6 @@
 -- A supposition that is taken back leaves nothing.
-use Rattle.std.proofs.Common.{◌≡◌, ◌≤◌, ◌<◌, ◌+◌, ◌⊎◌, inl, inr, ℕ, Bool, suc, true, false, List, [], ◌∷◌, ◌++◌, length, length-append, append_assoc, append-nil, refl, sym, ap, ◌∙◌, subst, arith}
-use Rattle.std.specs.Prelude.{Option, None, Some, Result, Ok, Err, MatchResult}
+use Rattle.std.proofs.Common.{◌≡◌, ◌≤◌, ◌+◌, inl, inr, ℕ, Bool, true, false, List, [], ◌∷◌, ◌++◌, length, length-append, append_assoc, append-nil, refl, sym, ap, ◌∙◌, subst, arith}
+use Rattle.std.specs.Prelude.{Some, Result, Ok, Err, MatchResult}
 use Rattle.opa_case.specs.Cases.{CaseView}
 use Rattle.opa_case.specs.Shapes.{shape_of}
 use Rattle.opa_case.specs.Steps.{step}
@@ -16,7 +16,7 @@ use Rattle.opa_cases.specs.declared.kept.KeptCase.{KeptCase}
 use Rattle.opa_cases.specs.declared.kept.OpenCase.{OpenCase}
 use Rattle.opa_cases.specs.declared.orders.Order.{Order}
 use Rattle.opa_cases.specs.declared.orders.Order.TheVariants as order
-use Rattle.opa_cases.specs.Scripts.{Changes, Does, Carries, Responds, Replies, Supposes, Undoes, TakesBack, supposed, opened_as, kept_as, left_by}
+use Rattle.opa_cases.specs.Scripts.{Does, Carries, Responds, Replies, Undoes, supposed, opened_as, kept_as, left_by}
 use Rattle.opa_cases.specs.Laws.{IsAbove}
 
 abbrev Pile : Type 0

@@ -1,19 +1,16 @@
 -- How a caseload ends, from what its parts ensure.
-use Rattle.std.proofs.Common.{◌≡◌, ◌≤◌, ◌+◌, inl, inr, ℕ, true, false, List, [], ◌∷◌, ◌++◌, Result, Ok, Err, OnOk, IfErr, refl, sym, subst, arith, ap, ◌∙◌}
+use Rattle.std.proofs.Common.{◌≡◌, ◌≤◌, inl, inr, ℕ, true, false, List, [], ◌∷◌, Result, Ok, Err, OnOk, IfErr, refl, subst, arith, ap, ◌∙◌}
 use Rattle.std.specs.Prelude.{Option}
-use Rattle.std.specs.Io.KnownBytes.{IsAtEnd}
-use Rattle.opa_io.specs.Outside.{Files, Rose}
-use Rattle.opa_io.specs.declared.fault.Status.{Status}
-use Rattle.opa_io.specs.declared.fault.Status.TheVariants as status
+use Rattle.opa_io.specs.Outside.{Rose}
 use Rattle.opa_outside.specs.Outside.{MOST, Outside}
 use Rattle.opa_talk.specs.declared.halt.Halt.{Halt}
 use Rattle.opa_talk.specs.declared.halt.Halt.TheVariants as halt
 use Rattle.opa_talk.specs.Halt.{IsCause}
-use Rattle.opa_talk.specs.Talk.{Converses, Halts, HaltsAt, HaltedAmong, Halted, LeftAt, Paused, MayLeave}
+use Rattle.opa_talk.specs.Talk.{Converses, Halts, HaltsAt, HaltedAmong, LeftAt, Paused, MayLeave}
 use Rattle.opa_talk.specs.Transcript.{Prints, IsTranscript}
 use Rattle.opa_talk.proofs.EndLaws.{halts_memory}
 use Rattle.opa_tree.specs.declared.rulebase.Rulebase.{Rulebase}
-use Rattle.opa_cases.specs.Caseload.{Held, caseload, Lacks, Stops, RepliesLine, RepliesNamed, at_first, held}
+use Rattle.opa_cases.specs.Caseload.{Held, caseload, Lacks, Stops, RepliesLine, RepliesNamed, at_first}
 use Rattle.opa_cases.specs.Serving.{SaysFront, SaysWhole, Talks, TalksAll, TalksPart, end_of}
 
 module _ (base : Rulebase) (old new : Outside) (s s' : Held) (is : s ≡ at_first base old.files) (files : new.files ≡ s'.files) where

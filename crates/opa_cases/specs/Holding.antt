@@ -6,7 +6,7 @@ use Rattle.opa_case.specs.Cases.{CaseView}
 use Rattle.opa_case.specs.Fits.{Fits}
 use Rattle.opa_case.specs.Shapes.{shape_of}
 use Rattle.opa_infer.specs.declared.session.Session.{Session}
-use Rattle.opa_infer.specs.Sessions.{rules_of, held_of}
+use Rattle.opa_infer.specs.Sessions.{held_of}
 use Rattle.opa_tree.specs.declared.rulebase.Rulebase.{Rulebase}
 use Rattle.opa_cases.specs.declared.kept.Current.{Current}
 use Rattle.opa_cases.specs.declared.kept.KeptCase.{KeptCase}

@@ -1,5 +1,5 @@
 -- Laws of a caseload: a supposition that is taken back leaves nothing, and each case's replies are those that it would get alone.
-use Rattle.std.specs.Prelude.{◌≡◌, ◌≢◌, ◌≤◌, ◌+◌, ◌⊎◌, ◌==◌, ℕ, List, [], ◌∷◌, ◌++◌, length, map, flat_map, Option, Some, if◌then◌else◌}
+use Rattle.std.specs.Prelude.{◌≡◌, ◌≢◌, ◌≤◌, ◌+◌, ◌==◌, ℕ, List, [], ◌∷◌, length, map, flat_map, Some, if◌then◌else◌}
 use Rattle.std.specs.List.{concat}
 use Rattle.std.specs.FinMap as cases
 use Rattle.opa_tree.specs.declared.rulebase.Rulebase.{Rulebase}

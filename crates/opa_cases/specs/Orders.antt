@@ -1,12 +1,12 @@
 -- What the rest of a line, behind the name of its case, asks for.
 use Rattle.std.specs.Prelude.{◌≡◌, ◌≢◌, ℕ, List, [], ◌∷◌, Bool, true, false, codes, if◌then◌else◌}
 use Rattle.std.specs.List.{All}
-use Rattle.std.specs.Str.{bytes_eq, chars}
+use Rattle.std.specs.Str.{bytes_eq}
 use Rattle.opa_model.specs.declared.lists.Lists.{Lists}
 use Rattle.opa_words.specs.declared.kinds.Token.{Token}
 use Rattle.opa_words.specs.declared.kinds.TokenKind.{TokenKind}
 use Rattle.opa_words.specs.declared.kinds.TokenKind.TheVariants as kind
-use Rattle.opa_words.specs.Pieces.{Piece, pieces, IsCutInto, is_nothing}
+use Rattle.opa_words.specs.Pieces.{Piece, pieces, is_nothing}
 use Rattle.opa_words.specs.Places.{IsWithin, IsOfKind}
 use Rattle.opa_script.specs.declared.command.Command.{Command}
 use Rattle.opa_script.specs.declared.fault.CmdFault.{CmdFault}

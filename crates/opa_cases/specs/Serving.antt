@@ -1,11 +1,11 @@
 -- A caseload over what the name opens: what it reads, writes, keeps and answers.
-use Rattle.std.specs.Prelude.{ℕ, ◌≡◌, ◌⊎◌, ◌≤◌, ◌+◌, List, [], length, take, Option, IfSome, Result, Ok, Err}
+use Rattle.std.specs.Prelude.{ℕ, ◌≡◌, ◌⊎◌, ◌≤◌, ◌+◌, List, length, take, Option, IfSome, Result, Ok, Err}
 use Rattle.std.specs.Io.KnownBytes.{Consumes, Appends, IsAtEnd}
 use Rattle.opa_io.specs.Outside.{Files, Rose}
 use Rattle.opa_io.specs.declared.fault.Status.{Status}
 use Rattle.opa_io.specs.declared.fault.Status.TheVariants as status
 use Rattle.opa_model.specs.Models.{IsModel}
-use Rattle.opa_outside.specs.Outside.{MOST, Outside, IsUnused, IsSilent, ReadAtMost}
+use Rattle.opa_outside.specs.Outside.{MOST, Outside, IsUnused, IsSilent}
 use Rattle.opa_outside.specs.Telling.{IsTold}
 use Rattle.opa_rulebase.specs.Loading.{Opens}
 use Rattle.opa_talk.specs.declared.halt.Halt.{Halt}
