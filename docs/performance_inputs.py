@@ -137,3 +137,19 @@ with open("everyone.txt", "w") as file:
     file.write("global\n  number the total\nentity the person\n  in global: the persons\n" + "".join(f"  number number {a}\n" for a in "abcde") + "goal the total\nthe total = InstanceSum(the persons, number a)\n")
 with open("everyone_input.txt", "w") as file:
     file.write('load "people.json"\nnext\nload "full.json"\nnext\nreport the total at 2024-01-01\n')
+
+# 300,000 records of ten columns, and 300,000 lines of 100,000 cases, each case's lines behind one another and in turn
+with open("batch.txt", "w") as file:
+    file.write("verb is / is not / is /\nglobal\n" + "".join(f"  number n{k}\n" for k in range(9)) + "  bool the case [is] open\n  number the sum\n  bool the case [is] large\ngoal the sum\ngoal the case is large\n")
+    file.write("the sum = " + " + ".join(f"n{k}" for k in range(9)) + "\nthe case is large if\n  the case is open and\n  the sum > 100\n")
+with open("batch.csv", "w") as file:
+    file.write(",".join(f"n{k}" for k in range(9)) + ",the case is open\n")
+    for i in range(300000):
+        file.write(",".join(str((i * 7 + k * 3) % 40) for k in range(9)) + (",true\n" if i % 2 else ",false\n"))
+with open("cases_input.txt", "w") as file:
+    for n in range(100000):
+        file.write(f'"c{n}" answer n0 = {n}\n"c{n}" answer the case is open = true\n"c{n}" goals\n')
+with open("turns_input.txt", "w") as file:
+    for command in ("answer n0 = 5", "answer the case is open = true", "goals"):
+        file.write("".join(f'"c{n}" {command}\n' for n in range(100000)))
+
