@@ -11,10 +11,11 @@ use Rattle.opa_batch.specs.declared.head.Sort.{Sort}
 use Rattle.opa_batch.specs.declared.head.HeadFault.{HeadFault}
 use Rattle.opa_batch.specs.declared.head.HeadFault.TheVariants as fault
 use Rattle.opa_batch.specs.Heads.{HasPoint, NamesSort, AreHeads, IsFirstRefusal}
+use Rattle.opa_io.specs.declared.limits.TheConstants.{MOST_LINE}
 
 -- the cell is too long or no text
 abbrev pub IsNoText : List ℕ → Type 0
-IsNoText bytes = (length bytes ≤ 65536) → IsUtf8 bytes → ⊥
+IsNoText bytes = (length bytes ≤ MOST_LINE) → IsUtf8 bytes → ⊥
 
 abbrev pub IsNotCut : List ℕ → HeadFault → Type 0
 IsNotCut bytes fault.Shape = (ps : List Piece) → IsCutInto bytes ps → ⊥

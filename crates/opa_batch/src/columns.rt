@@ -14,6 +14,7 @@ ghost use Rattle.opa_batch.specs.Columns.{IsNoText, IsNotCut, IsSorted, IsUnsort
 use crate::faults::refused_head;
 use crate::head::{Head, HeadFault, Sort};
 use csv::ByteRecord;
+use opa_io::limits::MOST_LINE;
 use opa_io::{List, NoMemory, Txt};
 use opa_model::Model;
 use opa_text::{Point, point_of};
@@ -25,7 +26,7 @@ use std::str;
 fn text_of(cell: &[u8]) -> Option<&str>
     ensures { MatchOption result (IsNoText cell.now) (λ t. IsText cell.now t.now) }
 {
-    if cell.len() > 65_536 {
+    if cell.len() > MOST_LINE {
         return None;
     }
     match str::from_utf8(cell) {

@@ -23,6 +23,7 @@ use Rattle.opa_case.specs.declared.change.Refusal.TheVariants.{Name, Kind as Wro
 use Rattle.opa_case.specs.Shapes.{Shape}
 use Rattle.opa_case.specs.Live.{Names, Lists, Population, members, live_of, is_live, container_of, walk}
 use Rattle.opa_case.specs.Cases.{CaseView, Answer, stored, are_names}
+use Rattle.opa_io.specs.declared.limits.TheConstants.{MOST_INSTANCE_NAME, MOST_POINTS, MOST_ANSWERS, MOST_INSTANCES, MOST_SLOTS}
 
 -- the relation of a number
 abbrev pub rel : ℕ → RelId
@@ -147,7 +148,7 @@ answer_fault s ruled c a i line =
     cond (is_unanswerable s ruled c a i) (Some Name)
     (cond (not (list_all (λ p. has_kind (s.attribute a).kind p.1) line)) (Some WrongKind)
     (cond (not (list_all (λ p. in_bounds (s.attribute a) p.1) line)) (Some Range)
-    (cond (nat_lt 1000 (length line) || nat_lt 100000 (len (with_answer c a i line).answers)) (Some Limit) None)))
+    (cond (nat_lt MOST_POINTS (length line) || nat_lt MOST_ANSWERS (len (with_answer c a i line).answers)) (Some Limit) None)))
 
 abbrev pub answer : Shape → List Bool → CaseView → AttrId → InstanceId → Answer → Result CaseView Refusal
 answer s ruled c a i line = unless (answer_fault s ruled c a i line) (Ok (with_answer c a i line))
@@ -176,7 +177,7 @@ list_fault s c r i names =
     (cond (not (are_names names)) (Some Name)
     (cond (list_any (cant_name s c r i) names) (Some Name)
     (cond (s.one r && nat_lt 1 (length names)) (Some Range)
-    (cond (list_any (λ n. nat_lt 100 (length n)) names) (Some Limit) None))))
+    (cond (list_any (λ n. nat_lt MOST_INSTANCE_NAME (length n)) names) (Some Limit) None))))
 
 -- how many live instances have this attribute, if it has a rule
 abbrev pub slots_of : Shape → List Bool → Population → AttrId → ℕ
@@ -193,7 +194,7 @@ slots s ruled live = slots_upto s ruled live s.attributes
 
 -- too many instances or slots are live
 abbrev pub is_full : Shape → List Bool → Population → Bool
-is_full s ruled live = nat_lt 20000 (length live) || nat_lt 2000000 (slots s ruled live)
+is_full s ruled live = nat_lt MOST_INSTANCES (length live) || nat_lt MOST_SLOTS (slots s ruled live)
 
 abbrev pub within : Shape → List Bool → CaseView → Result CaseView Refusal
 within s ruled c = cond (is_full s ruled c.live) (Err Limit) (Ok c)

@@ -12,14 +12,10 @@ use crate::change::Refusal;
 use crate::declared::{attribute_of, has_rule};
 use opa_cells::InstanceId;
 use opa_date::DAYS;
+use opa_io::limits::{MOST_ANSWERS, MOST_POINTS};
 use opa_line::Line;
 use opa_model::{AttrId, Attribute, Kind, Model, Ruled};
 use opa_value::Value;
-
-/// The most pairs of an answer, and the most answers.
-const MOST_PAIRS: usize = 1_000;
-
-const MOST_ANSWERS: u64 = 100_000;
 
 /// Why the answer can't be set.
 pub(crate) fn answer_fault(
@@ -85,7 +81,7 @@ fn is_unknown(value: &Value) -> bool
 fn is_long(line: &Line<Value>) -> bool
     ensures { result ≡ nat_lt 1000 (length line.now) }
 {
-    MOST_PAIRS < line.segments().len()
+    MOST_POINTS < line.segments().len()
 }
 
 fn have_kind(attribute: &Attribute, line: &Line<Value>) -> bool

@@ -46,9 +46,16 @@ impl std::marker::Model for Case {
 
     ghost coded = { coded_case each.the_row.coded };
 
-    ghost view = { λ c. record { lists = c.lists; every = c.every; answers = c.answers; live = live_in c.model c.lists } };
+    ghost view = { λ c. record {
+      lists = c.lists;
+      every = c.every;
+      answers = c.answers;
+      live = live_in c.model c.lists;
+    } };
 
-    ghost invariant = { λ c. AreHomes c.living.homes (live_in c.model c.lists) × AreCounts c.living.counts (live_in c.model c.lists) × IsWhole (record { lists = c.lists; every = c.every; answers = c.answers; live = live_in c.model c.lists }) };
+    ghost invariant = { λ c. AreHomes c.living.homes (live_in c.model c.lists) ×
+        AreCounts c.living.counts (live_in c.model c.lists) ×
+        IsWhole (record { lists = c.lists; every = c.every; answers = c.answers; live = live_in c.model c.lists }) };
 }
 
 impl Case {
@@ -130,9 +137,12 @@ impl Case {
     /// How many lists of relations that aren't declared with `every` are known.
     pub fn lists(&self) -> u64
         ensures value { result ≡ map.len self.now.lists }
-        ensures lives { (r : RelView) (i : InstanceView) (names : Names) → map.get self.now.lists (r.0, i) ≡ Some names → live.is_live self.now.live i ≡ true }
-        ensures names { (r : RelView) (i : InstanceView) (names : Names) → map.get self.now.lists (r.0, i) ≡ Some names → cases.are_names names ≡ true }
-        ensures short { (r : RelView) (i : InstanceView) (names : Names) → map.get self.now.lists (r.0, i) ≡ Some names → All (λ n. length n ≤ 100) names }
+        ensures lives { (r : RelView) (i : InstanceView) (names : Names) →
+            map.get self.now.lists (r.0, i) ≡ Some names → live.is_live self.now.live i ≡ true }
+        ensures names { (r : RelView) (i : InstanceView) (names : Names) →
+            map.get self.now.lists (r.0, i) ≡ Some names → cases.are_names names ≡ true }
+        ensures short { (r : RelView) (i : InstanceView) (names : Names) →
+            map.get self.now.lists (r.0, i) ≡ Some names → All (λ n. length n ≤ 100) names }
     {
         self.lists.len()
     }

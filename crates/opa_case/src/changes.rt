@@ -43,8 +43,10 @@ impl Case {
     ) -> Result<(), Refusal>
         requires declared { HasAttribute model.now attr }
         requires fits { Fits (shape_of model.now) ruled.now self.old }
-        ensures ok { OnOk result (step.answer (shape_of model.now) ruled.now self.old attr inst.now line ≡ Ok self.new) }
-        ensures err { IfErr result (λ e. e ≢ refusals.NoMemory → step.answer (shape_of model.now) ruled.now self.old attr inst.now line ≡ Err e) }
+        ensures ok { OnOk result (step.answer (shape_of model.now) ruled.now self.old attr inst.now line ≡
+            Ok self.new) }
+        ensures err { IfErr result (λ e. e ≢ refusals.NoMemory →
+            step.answer (shape_of model.now) ruled.now self.old attr inst.now line ≡ Err e) }
         ensures unchanged { OnErr result (self.new ≡ self.old) }
         ensures fits { OnOk result (Fits (shape_of model.now) ruled.now self.new) }
     {
@@ -88,8 +90,10 @@ impl Case {
     ) -> Result<(), Refusal>
         requires declared { HasRelation model.now rel }
         requires fits { Fits (shape_of model.now) ruled.now self.old }
-        ensures ok { OnOk result (step.set_list (shape_of model.now) ruled.now self.old rel inst.now names ≡ Ok self.new) }
-        ensures err { IfErr result (λ e. e ≢ refusals.NoMemory → step.set_list (shape_of model.now) ruled.now self.old rel inst.now names ≡ Err e) }
+        ensures ok { OnOk result (step.set_list (shape_of model.now) ruled.now self.old rel inst.now names ≡
+            Ok self.new) }
+        ensures err { IfErr result (λ e. e ≢ refusals.NoMemory →
+            step.set_list (shape_of model.now) ruled.now self.old rel inst.now names ≡ Err e) }
         ensures unchanged { OnErr result (self.new ≡ self.old) }
         ensures fits { OnOk result (Fits (shape_of model.now) ruled.now self.new) }
     {
@@ -114,7 +118,8 @@ impl Case {
         requires declared { HasRelation model.now rel }
         requires fits { Fits (shape_of model.now) ruled.now self.old }
         ensures ok { OnOk result (step.forget (shape_of model.now) self.old rel inst.now ≡ Ok self.new) }
-        ensures err { IfErr result (λ e. e ≢ refusals.NoMemory → step.forget (shape_of model.now) self.old rel inst.now ≡ Err e) }
+        ensures err { IfErr result (λ e. e ≢ refusals.NoMemory →
+            step.forget (shape_of model.now) self.old rel inst.now ≡ Err e) }
         ensures unchanged { OnErr result (self.new ≡ self.old) }
         ensures fits { OnOk result (Fits (shape_of model.now) ruled.now self.new) }
     {

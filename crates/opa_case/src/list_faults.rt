@@ -12,13 +12,11 @@ use crate::case::Case;
 use crate::change::Refusal;
 use crate::declared::bond_of;
 use opa_cells::InstanceId;
+use opa_io::limits::MOST_INSTANCE_NAME;
 use opa_io::{NoMemory, Txt};
 use opa_model::{EntityId, Model, RelId};
 use std::alloc::Global;
 use std::collections::BTreeMap;
-
-/// The most bytes of a name.
-const MOST_NAME: usize = 100;
 
 /// Why the list can't be set, but for the numbers of what it makes live.
 pub(crate) fn list_fault(
@@ -103,7 +101,9 @@ pub(crate) fn add_name(
 fn is_one_long(names: &[Txt]) -> bool
     ensures { result ≡ list_any (λ n. nat_lt 100 (length n)) names.now }
 {
-    names.iter().any(|name| MOST_NAME < name.as_str().len())
+    names
+        .iter()
+        .any(|name| MOST_INSTANCE_NAME < name.as_str().len())
 }
 
 fn cant_name_one(

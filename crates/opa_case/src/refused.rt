@@ -66,7 +66,8 @@ impl Case {
     ) -> Result<Option<Refusal>, NoMemory>
         requires declared { HasRelation model.now rel }
         requires fits { Fits (shape_of model.now) ruled.now self.now }
-        ensures { IfOk result (λ refusal. refusal ≡ refusal_of (step.set_list (shape_of model.now) ruled.now self.now rel inst.now names.now)) }
+        ensures { IfOk result (λ refusal. refusal ≡ refusal_of
+            (step.set_list (shape_of model.now) ruled.now self.now rel inst.now names.now)) }
     {
         if let Some(fault) = list_fault(alloc, self, model, rel, inst, names.as_slice())? {
             return Ok(Some(fault));

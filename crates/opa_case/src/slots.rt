@@ -8,12 +8,8 @@ ghost use Rattle.opa_model.specs.Models.{HasAttribute};
 
 use crate::counts::Counts;
 use crate::declared::{attribute_of, has_rule};
+use opa_io::limits::{MOST_INSTANCES, MOST_SLOTS};
 use opa_model::{AttrId, Model, Ruled};
-
-/// The most live instances, and the most slots.
-const MOST_INSTANCES: u64 = 20_000;
-
-const MOST_SLOTS: u64 = 2_000_000;
 
 /// Whether too many instances or slots are live.
 pub(crate) fn is_full(model: &Model, ruled: &Ruled, counts: &Counts) -> bool

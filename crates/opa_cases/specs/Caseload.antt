@@ -14,6 +14,7 @@ use Rattle.opa_script.specs.Lines.{is_idle, past_blanks}
 use Rattle.opa_reply.specs.Lines.{bytes_of, text_of, LONGEST}
 use Rattle.opa_cases.specs.declared.kept.OpenCase.{OpenCase}
 use Rattle.opa_cases.specs.Scripts.{Replies, opened, line}
+use Rattle.opa_io.specs.declared.limits.TheConstants.{MOST_CASES, MOST_CASE_NAME}
 
 -- the cases that are open, by their names
 abbrev pub Opens : Type 0
@@ -33,7 +34,7 @@ with_cases x open_cases = held x.rules open_cases x.files
 
 -- how many names may be open
 abbrev pub MOST_NAMES : ℕ
-MOST_NAMES = 100000
+MOST_NAMES = MOST_CASES
 
 -- The line isn't too long, and behind blanks it is a text that begins with a name of 1 to 100 bytes between quotes, and this follows.
 pub record IsNamed (read name rest : List ℕ) : Type 0 where
@@ -41,7 +42,7 @@ pub record IsNamed (read name rest : List ℕ) : Type 0 where
   pub utf8 : IsUtf8 (past_blanks (text_of read))
   pub begins : BeginsWithText (past_blanks (text_of read)) name rest
   pub some : 1 ≤ length name
-  pub few : length name ≤ 100
+  pub few : length name ≤ MOST_CASE_NAME
 
 -- no case is named
 abbrev pub IsUnnamed : List ℕ → Type 0

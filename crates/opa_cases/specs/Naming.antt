@@ -4,10 +4,11 @@ use Rattle.std.specs.Str.{IsUtf8}
 use Rattle.opa_words.specs.Fronts.{BeginsWithText}
 use Rattle.opa_script.specs.Lines.{past_blanks}
 use Rattle.opa_reply.specs.Lines.{bytes_of, text_of, LONGEST}
+use Rattle.opa_io.specs.declared.limits.TheConstants.{MOST_CASE_NAME}
 
 -- a name has 1 to 100 bytes
 abbrev pub is_short : List ℕ → Bool
-is_short name = nat_le 1 (length name) && nat_le (length name) 100
+is_short name = nat_le 1 (length name) && nat_le (length name) MOST_CASE_NAME
 
 -- the text begins with the name, and the rest follows
 pub record IsFront (text name rest : List ℕ) : Type 0 where

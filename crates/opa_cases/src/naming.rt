@@ -6,14 +6,12 @@ ghost use Rattle.opa_cases.specs.Caseload.{IsNamed, IsUnnamed, behind_name as te
 ghost use Rattle.opa_cases.specs.Naming.{IsFront, IsNoFront, IsText, IsNoText, is_short as is_short_name};
 
 use crate::lines::{bytes_of, past_blanks, text_of};
+use opa_io::limits::{MOST_CASE_NAME, MOST_LINE};
 use opa_io::{NoMemory, Txt};
 use opa_talk::cut;
 use opa_words::{front_text, quoted};
 use std::alloc::Global;
 use std::str;
-
-/// How many bytes a line may have.
-const LONGEST: usize = 65_536;
 
 /// The name of a case, and what follows it in a line.
 #[derive(Drop)]
@@ -27,7 +25,7 @@ fn is_short(name: &Txt) -> bool
     ensures { result ≡ is_short_name name.now }
 {
     let count = name.as_str().len();
-    1 <= count && count <= 100
+    1 <= count && count <= MOST_CASE_NAME
 }
 
 /// A name that stands in front of a text, if it isn't too long or empty.
@@ -58,7 +56,7 @@ fn named_in<'t>(alloc: Global, text: &'t str) -> Result<Option<CaseLine<'t>>, No
 fn text_in(line: &[u8]) -> Option<&str>
     ensures { MatchOption result (IsNoText line.now) (λ t. IsText line.now t.now) }
 {
-    if bytes_of(line).len() > LONGEST {
+    if bytes_of(line).len() > MOST_LINE {
         return None;
     }
     match str::from_utf8(past_blanks(text_of(line))) {

@@ -6,6 +6,7 @@ ghost use Rattle.opa_cases.specs.Orders as meant;
 ghost use Rattle.opa_cases.specs.Orders.{IsOrder, IsOrderInRange, OrdersNothing, IsCut, IsNotCut};
 
 use crate::lines::is_idle;
+use opa_io::limits::MOST_LINE;
 use opa_model::Model;
 use opa_script::{CmdFault, Command, commands_are_in_range, is_well_formed, read_command};
 use opa_words::{Pieces, Token, TokenKind, WordFault, tokens};
@@ -84,7 +85,7 @@ fn asked_of(pieces: Pieces<'_>) -> Asked
 fn is_long(text: &str) -> bool
     ensures { result ≡ nat_lt 65536 (length text.now) }
 {
-    text.len() > 65_536
+    text.len() > MOST_LINE
 }
 
 /// The tokens of a text that isn't too long.

@@ -7,14 +7,12 @@ ghost use Rattle.opa_cases.specs.Scripts.{Supposes, Undoes, kept_as, opened_as};
 use crate::kept::{Current, KeptCase};
 use crate::refused::told;
 use opa_infer::Session;
+use opa_io::limits::MOST_SUPPOSITIONS;
 use opa_io::{NoMemory, Steps};
 use opa_listen::Listener;
 use opa_mean::Held;
 use std::alloc::Global;
 use std::sync::ledger::Ledger;
-
-/// How many suppositions a case may stand on.
-const DEEPEST: usize = 4;
 
 /// Keeps the case on the pile.
 fn keep(alloc: Global, session: &Session, current: &mut Current) -> Result<(), NoMemory>
@@ -41,7 +39,7 @@ pub(crate) fn suppose(
     ensures fits { OnOk result (PileFits (rules_of session.now) current.new.pile) }
     ensures name { current.new.name ≡ current.old.name }
 {
-    if current.pile.len() >= DEEPEST {
+    if current.pile.len() >= MOST_SUPPOSITIONS {
         let text = told(alloc, b"refused: suppose\n")?;
         return Ok(text);
     }

@@ -10,15 +10,13 @@ ghost use Rattle.opa_cases.specs.Scripts.{fresh, opened};
 use crate::caseload::Caseload;
 use crate::kept::{Current, OpenCase};
 use opa_case::{Case, empty_fits};
+use opa_io::limits::MOST_CASES;
 use opa_io::{List, NoMemory, Steps, Txt};
 use opa_listen::Listener;
 use opa_mean::Held;
 use opa_tree::Rulebase;
 use std::alloc::Global;
 use std::sync::ledger::Ledger;
-
-/// How many names may be open.
-const MOST_NAMES: usize = 100_000;
 
 /// A case that was just opened.
 fn fresh(alloc: Global, base: &Rulebase) -> OpenCase
@@ -72,7 +70,7 @@ impl Caseload {
     pub(crate) fn is_full(&self, name: &Txt) -> bool
         ensures { result ≡ is_full_of (opens_of self.now.session self.now.current self.now.others) name.now }
     {
-        !self.has(name) && self.count() >= MOST_NAMES
+        !self.has(name) && self.count() >= MOST_CASES
     }
 
     /// Lays the case that the session holds beside the others.

@@ -92,7 +92,8 @@ impl<V: Drop> Cells<V> {
 
     /// Takes out each cell that doesn't stay. It takes no memory.
     pub fn retain<K: Keeps<V>>(&mut self, keeper: &K)
-        ensures { (n : ℕ) (i : InstanceView) → map.get self.new (n, i) ≡ kept_if (K.keeps keeper.now n i) (map.get self.old (n, i)) }
+        ensures { (n : ℕ) (i : InstanceView) → map.get self.new (n, i) ≡ kept_if (K.keeps keeper.now n i)
+            (map.get self.old (n, i)) }
     {
         let _before = self.len();
         self.rows.retain(keeper);

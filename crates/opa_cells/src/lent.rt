@@ -36,8 +36,10 @@ impl<V> Cells<V> {
     /// Puts a value in the place of the one at a key, and gives that one back. The value comes back where the key isn't there.
     /// It takes no memory.
     pub fn replace(&mut self, number: u32, inst: &InstanceId, value: V) -> Result<V, V>
-        ensures ok { IfOk result (λ old. (map.get self.old (number, inst.now) ≡ Some old) × (self.new ≡ map.insert self.old (number, inst.now) value)) }
-        ensures err { IfErr result (λ back. (back ≡ value) × (map.get self.old (number, inst.now) ≡ None) × (self.new ≡ self.old)) }
+        ensures ok { IfOk result (λ old. (map.get self.old (number, inst.now) ≡ Some old) ×
+            (self.new ≡ map.insert self.old (number, inst.now) value)) }
+        ensures err { IfErr result (λ back. (back ≡ value) × (map.get self.old (number, inst.now) ≡ None) ×
+            (self.new ≡ self.old)) }
     {
         match self.get_mut(number, inst) {
             None => Err(value),

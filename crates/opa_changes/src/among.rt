@@ -34,7 +34,9 @@ pub fn changes_among<H: Held, K: Held>(
 ) -> Result<Vec<Change>, NoMemory>
     requires same { H.rules old.now ≡ K.rules new.now }
     requires slots { HaveChanges (K.rules new.now) (H.held old.now) (K.held new.now) (pairs_of slots.now) }
-    ensures { IfOk result (λ told. AllZip (TellsOf (K.rules new.now).model) (meant.changes (base_of (K.rules new.now)) (facts_of (H.held old.now)) (facts_of (K.held new.now))) told.items) }
+    ensures { IfOk result (λ told. AllZip (TellsOf (K.rules new.now).model)
+        (meant.changes (base_of (K.rules new.now)) (facts_of (H.held old.now)) (facts_of (K.held new.now)))
+        told.items) }
 {
     let before = HeldLines { source: old };
     let after = HeldLines { source: new };
@@ -55,7 +57,9 @@ pub fn changes_over<H: Lined, K: Lined>(
     requires fits { IsOf (K.rules new.now) case.now }
     requires live { (K.over new.now).live ≡ case.now.live }
     requires slots { HaveChanges (K.rules new.now) (H.over old.now) (K.over new.now) (pairs_of slots.now) }
-    ensures { IfOk result (λ told. AllZip (TellsOf (K.rules new.now).model) (meant.changes (base_of (K.rules new.now)) (facts_of (H.over old.now)) (facts_of (K.over new.now))) told.items) }
+    ensures { IfOk result (λ told. AllZip (TellsOf (K.rules new.now).model)
+        (meant.changes (base_of (K.rules new.now)) (facts_of (H.over old.now)) (facts_of (K.over new.now)))
+        told.items) }
 {
     let base = new.base();
     let chosen = chosen_or_all(alloc, base, case, slots)?;

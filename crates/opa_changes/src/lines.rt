@@ -58,7 +58,9 @@ pub fn answer_differs(
     attr: AttrId,
     inst: &InstanceId,
 ) -> Result<bool, NoMemory>
-    ensures { IfOk result (λ differs. differs ≡ is_some (first_difference DAYS (line_value (get old.now.answers (attr.0, inst.now))) (line_value (get new.now.answers (attr.0, inst.now))))) }
+    ensures { IfOk result (λ differs. differs ≡ is_some
+        (first_difference DAYS (line_value (get old.now.answers (attr.0, inst.now)))
+        (line_value (get new.now.answers (attr.0, inst.now))))) }
 {
     let before = old.answer_of(attr, inst);
     let after = new.answer_of(attr, inst);

@@ -26,7 +26,8 @@ use std::alloc::Global;
 /// else, or of what whose rule can look at a line or a list differs.
 pub fn dirty_slots<H: Held, K: Held>(alloc: Global, old: &H, new: &K) -> Result<u64, NoMemory>
     requires same { H.rules old.now ≡ K.rules new.now }
-    ensures { IfOk result (λ n. n ≡ meant.dirty (base_of (K.rules new.now)) (facts_of (H.held old.now)) (facts_of (K.held new.now))) }
+    ensures { IfOk result (λ n. n ≡ meant.dirty (base_of (K.rules new.now)) (facts_of (H.held old.now))
+        (facts_of (K.held new.now))) }
 {
     let _case = new.case();
     let all = slots(alloc, new)?;

@@ -26,7 +26,9 @@ use std::alloc::Global;
 /// by rank, then in declared order, then in instance order. What wasn't live before was unknown on every day.
 pub fn changes<H: Held, K: Held>(alloc: Global, old: &H, new: &K) -> Result<Vec<Change>, NoMemory>
     requires same { H.rules old.now ≡ K.rules new.now }
-    ensures { IfOk result (λ told. AllZip (TellsOf (K.rules new.now).model) (meant.changes (base_of (K.rules new.now)) (facts_of (H.held old.now)) (facts_of (K.held new.now))) told.items) }
+    ensures { IfOk result (λ told. AllZip (TellsOf (K.rules new.now).model)
+        (meant.changes (base_of (K.rules new.now)) (facts_of (H.held old.now)) (facts_of (K.held new.now)))
+        told.items) }
 {
     let _case = new.case();
     let all = slots(alloc, new)?;

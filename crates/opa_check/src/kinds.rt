@@ -11,6 +11,7 @@ ghost use Rattle.opa_check.specs.KindSets.{typing_of, row_typed};
 use crate::declared::{attribute_of, relation_of};
 use crate::sets::{KindSet, meet, op_kinds, quant_kinds, window_kinds};
 use opa_io::NoMemory;
+use opa_io::limits::MOST_DAYS;
 use opa_model::{AttrId, Kind, Model, RelId};
 use opa_tree::{Expr, Quant, Row, Rule};
 use opa_value::{Number, Value};
@@ -60,7 +61,7 @@ fn over_kinds(model: &Model, quant: Quant, rel: RelId, sets: &[KindSet]) -> Kind
 fn rolling_kinds(days: u32, set: &KindSet) -> KindSet
     ensures { typing_of result ≡ typed (λ k. nat_le 1 days && nat_le days 36600 && is_kind kind.Bool k && (typing_of set.now).can kind.Bool) }
 {
-    let test = 1 <= days && days <= 36_600;
+    let test = 1 <= days && days <= MOST_DAYS;
     KindSet::of(test && set.bools, false, false, false)
 }
 

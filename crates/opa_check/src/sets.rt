@@ -23,7 +23,13 @@ pub struct KindSet {
 impl KindSet {
     /// These kinds.
     pub fn of(bools: bool, numbers: bool, words: bool, dates: bool) -> KindSet
-        ensures { result ≡ record { bools = bools; numbers = numbers; words = words; dates = dates; is_decimals = false } }
+        ensures { result ≡ record {
+          bools = bools;
+          numbers = numbers;
+          words = words;
+          dates = dates;
+          is_decimals = false;
+        } }
     {
         KindSet {
             bools,

@@ -81,7 +81,8 @@ pub fn check(alloc: Global, model: &Model, rules: &Rules) -> Result<Ranks, RbErr
     requires declared { All (λ r. HasAttribute model.now r.attr) rules.now }
     ensures sound { IfOk result (λ _. AreSound model.now rules.now) }
     ensures ranks { IfOk result (λ ranks. AreRanks (length model.now.attributes) rules.now ranks) }
-    ensures refused { IfErr result (λ e. (fault : FaultView) → e ≡ Refused fault → IsRefused model.now rules.now fault) }
+    ensures refused { IfErr result (λ e. (fault : FaultView) → e ≡ Refused fault →
+        IsRefused model.now rules.now fault) }
 {
     if let Some(fault) = first_rule_fault(alloc, model, rules.as_slice())? {
         return Err(RbError::Refused(fault));

@@ -10,6 +10,7 @@ use Rattle.opa_mean.specs.Operations.{op_of}
 use Rattle.opa_mean.specs.Places.{place}
 use Rattle.opa_code.specs.declared.node.Node.{Node}
 use Rattle.opa_code.specs.declared.node.Node.TheVariants as node
+use Rattle.opa_io.specs.declared.limits.TheConstants.{MOST_DAYS}
 
 -- the only meaning, uncertain where there isn't just one
 abbrev pub sole : List Meaning → Meaning
@@ -41,7 +42,7 @@ operand_count node.Choose = 3
 abbrev pub IsStep : Node → Type 0
 IsStep (node.Operand n) = ⊥
 IsStep (node.Over q r source target) = ⊥
-IsStep (node.Rolling b n) = n ≤ 36600
+IsStep (node.Rolling b n) = n ≤ MOST_DAYS
 IsStep _ = Unit {0}
 
 module _ (l : Look) where

@@ -14,6 +14,7 @@ use crate::node::Node;
 use crate::run::run;
 use opa_across::first_line;
 use opa_case::InstanceId;
+use opa_io::limits::MOST_DAYS;
 use opa_io::{List, NoMemory};
 use opa_line::{Builder, DAYS, Line};
 use opa_mean::{Held, HeldLook, Look, tree_value};
@@ -71,7 +72,7 @@ fn is_within(node: &Node) -> bool
     ensures { result ≡ runs node.now }
 {
     match node {
-        Node::Rolling(_, days) => *days <= 36600,
+        Node::Rolling(_, days) => *days <= MOST_DAYS,
         _ => true,
     }
 }

@@ -17,6 +17,7 @@ use Rattle.opa_decl.specs.declared.numbered.Numbered.{Numbered}
 use Rattle.opa_decl.specs.Names.{Tables, place, is_declared, verb_name, entity_name, goal_name, screen_name, file_name, verb_in, forms}
 use Rattle.opa_decl.specs.Numbering.{is_every}
 use Rattle.opa_decl.specs.Lists.{attribute_in}
+use Rattle.opa_io.specs.declared.limits.TheConstants.{MOST_PHRASE, MOST_FILE_NAME, MOST_ATTRIBUTES, MOST_EVERY}
 
 abbrev pub fault_at : RbKind → Place → RbFault
 fault_at kind at = record { file = at.file; line = at.line; kind = kind; cycle = [] }
@@ -32,22 +33,22 @@ over most n = when (nat_lt most (length n.text)) Limit n.place
 
 abbrev pub over_parent : Option Name → List RbFault
 over_parent None = []
-over_parent (Some p) = over 1000 p
+over_parent (Some p) = over MOST_PHRASE p
 
 -- a phrase or title of more than 1,000 bytes, and a file name of more than 100
 abbrev pub long_names : Item → List RbFault
 long_names (item.Verb v) = []
-long_names (item.Entity e) = over 1000 e.phrase ++ (over_parent e.parent ++ over 1000 e.inside)
-long_names (item.Attribute a) = over 1000 a.phrase
-long_names (item.Relation r) = over 1000 r.phrase ++ over 1000 r.target
-long_names (item.Goal g) = over 1000 g
-long_names (item.Screen s) = over 1000 s.title ++ flat_map (over 1000) s.items
-long_names (item.File f) = over 100 f
+long_names (item.Entity e) = over MOST_PHRASE e.phrase ++ (over_parent e.parent ++ over MOST_PHRASE e.inside)
+long_names (item.Attribute a) = over MOST_PHRASE a.phrase
+long_names (item.Relation r) = over MOST_PHRASE r.phrase ++ over MOST_PHRASE r.target
+long_names (item.Goal g) = over MOST_PHRASE g
+long_names (item.Screen s) = over MOST_PHRASE s.title ++ flat_map (over MOST_PHRASE) s.items
+long_names (item.File f) = over MOST_FILE_NAME f
 
 -- an attribute behind 4,000 others, and an `every` line behind sixteen others
 abbrev pub too_many : Counts → Item → List RbFault
-too_many c (item.Attribute a) = when (nat_le 4000 c.attributes) Limit a.phrase.place
-too_many c (item.Relation r) = when (is_every r.reach && nat_le 16 c.every) Limit r.phrase.place
+too_many c (item.Attribute a) = when (nat_le MOST_ATTRIBUTES c.attributes) Limit a.phrase.place
+too_many c (item.Relation r) = when (is_every r.reach && nat_le MOST_EVERY c.every) Limit r.phrase.place
 too_many c i = []
 
 abbrev pub limit_faults : Numbered → List RbFault

@@ -1,5 +1,6 @@
 // What is over its number.
 ghost use Rattle.std.specs.Prelude.{◌≡◌, ◌++◌, flat_map};
+ghost use Rattle.opa_io.specs.declared.limits.TheConstants.{MOST_PHRASE};
 ghost use Rattle.opa_tree.specs.FirstFaults.{first_fault};
 ghost use Rattle.opa_decl.specs.Faults.{over, over_parent, long_names, too_many, limit_faults};
 
@@ -7,20 +8,9 @@ use crate::faults::when;
 use crate::items::{EntityLines, Item, Name, RelationLine, ScreenLines};
 use crate::numbered::{Counts, Numbered, is_every};
 use opa_io::front;
+use opa_io::limits::{MOST_ATTRIBUTES, MOST_EVERY, MOST_FILE_NAME, MOST_PHRASE};
 use opa_tree::{RbFault, RbKind, first_of};
 use std::alloc::Global;
-
-/// The most bytes of a phrase or title.
-const PHRASE_LIMIT: usize = 1_000;
-
-/// The most bytes of a file name.
-const FILE_LIMIT: usize = 100;
-
-/// The most attributes.
-const ATTRIBUTE_LIMIT: u32 = 4_000;
-
-/// The most `every` lines.
-const EVERY_LIMIT: u32 = 16;
 
 fn over(alloc: Global, most: usize, name: &Name) -> Option<RbFault>
     ensures { result ≡ first_fault (over most name.now) }
@@ -34,19 +24,19 @@ fn over_parent(alloc: Global, parent: &Option<Name>) -> Option<RbFault>
 {
     match parent {
         None => None,
-        Some(name) => over(alloc, PHRASE_LIMIT, name),
+        Some(name) => over(alloc, MOST_PHRASE, name),
     }
 }
 
 /// The first of names that is too long.
 #[tactic(auto, using(opa_tree::proofs::FirstFaultLaws::first_faults))]
 fn over_all(alloc: Global, names: &[Name]) -> Option<RbFault>
-    ensures { result ≡ first_fault (flat_map (over 1000) names.now) }
+    ensures { result ≡ first_fault (flat_map (over MOST_PHRASE) names.now) }
 {
     let mut first = None;
     let mut rest = names;
     while let Some((name, later)) = front(rest) {
-        first = first_of(first, over(alloc, PHRASE_LIMIT, name));
+        first = first_of(first, over(alloc, MOST_PHRASE, name));
         rest = later;
     }
     first
@@ -54,28 +44,28 @@ fn over_all(alloc: Global, names: &[Name]) -> Option<RbFault>
 
 #[tactic(auto, using(opa_tree::proofs::FirstFaultLaws::first_faults))]
 fn long_entity(alloc: Global, entity: &EntityLines) -> Option<RbFault>
-    ensures { result ≡ first_fault (over 1000 entity.now.phrase ++ (over_parent entity.now.parent ++ over 1000 entity.now.inside)) }
+    ensures { result ≡ first_fault (over MOST_PHRASE entity.now.phrase ++ (over_parent entity.now.parent ++ over MOST_PHRASE entity.now.inside)) }
 {
-    let phrase = over(alloc, PHRASE_LIMIT, &entity.phrase);
+    let phrase = over(alloc, MOST_PHRASE, &entity.phrase);
     let parent = over_parent(alloc, &entity.parent);
-    let inside = over(alloc, PHRASE_LIMIT, &entity.inside);
+    let inside = over(alloc, MOST_PHRASE, &entity.inside);
     first_of(phrase, first_of(parent, inside))
 }
 
 #[tactic(auto, using(opa_tree::proofs::FirstFaultLaws::first_faults))]
 fn long_relation(alloc: Global, line: &RelationLine) -> Option<RbFault>
-    ensures { result ≡ first_fault (over 1000 line.now.phrase ++ over 1000 line.now.target) }
+    ensures { result ≡ first_fault (over MOST_PHRASE line.now.phrase ++ over MOST_PHRASE line.now.target) }
 {
-    let phrase = over(alloc, PHRASE_LIMIT, &line.phrase);
-    let target = over(alloc, PHRASE_LIMIT, &line.target);
+    let phrase = over(alloc, MOST_PHRASE, &line.phrase);
+    let target = over(alloc, MOST_PHRASE, &line.target);
     first_of(phrase, target)
 }
 
 #[tactic(auto, using(opa_tree::proofs::FirstFaultLaws::first_faults))]
 fn long_screen(alloc: Global, screen: &ScreenLines) -> Option<RbFault>
-    ensures { result ≡ first_fault (over 1000 screen.now.title ++ flat_map (over 1000) screen.now.items) }
+    ensures { result ≡ first_fault (over MOST_PHRASE screen.now.title ++ flat_map (over MOST_PHRASE) screen.now.items) }
 {
-    let title = over(alloc, PHRASE_LIMIT, &screen.title);
+    let title = over(alloc, MOST_PHRASE, &screen.title);
     let items = over_all(alloc, screen.items.as_slice());
     first_of(title, items)
 }
@@ -87,11 +77,11 @@ fn long_names(alloc: Global, item: &Item) -> Option<RbFault>
     match item {
         Item::Verb(_) => None,
         Item::Entity(entity) => long_entity(alloc, entity),
-        Item::Attribute(line) => over(alloc, PHRASE_LIMIT, &line.phrase),
+        Item::Attribute(line) => over(alloc, MOST_PHRASE, &line.phrase),
         Item::Relation(line) => long_relation(alloc, line),
-        Item::Goal(goal) => over(alloc, PHRASE_LIMIT, goal),
+        Item::Goal(goal) => over(alloc, MOST_PHRASE, goal),
         Item::Screen(screen) => long_screen(alloc, screen),
-        Item::File(file) => over(alloc, FILE_LIMIT, file),
+        Item::File(file) => over(alloc, MOST_FILE_NAME, file),
     }
 }
 
@@ -101,11 +91,11 @@ fn too_many(alloc: Global, before: Counts, item: &Item) -> Option<RbFault>
 {
     match item {
         Item::Attribute(line) => {
-            let is_over = ATTRIBUTE_LIMIT <= before.attributes;
+            let is_over = MOST_ATTRIBUTES <= before.attributes;
             when(alloc, is_over, RbKind::Limit, line.phrase.place)
         }
         Item::Relation(line) => {
-            let is_over = is_every(line.reach) && EVERY_LIMIT <= before.every;
+            let is_over = is_every(line.reach) && MOST_EVERY <= before.every;
             when(alloc, is_over, RbKind::Limit, line.phrase.place)
         }
         Item::Verb(_) => None,

@@ -34,9 +34,12 @@ pub fn split_at<'t>(
     tokens: &'t [Token],
 ) -> Option<(&'t [Token], &'t [Token])>
     requires { All (IsWithin text.now) tokens.now }
-    ensures split { MatchOption result (split text.now mark.now tokens.now ≡ None) (λ x. split text.now mark.now tokens.now ≡ Some (x.0.now, x.1.now)) }
-    ensures before { MatchOption result (split text.now mark.now tokens.now ≡ None) (λ x. All (IsWithin text.now) x.0.now) }
-    ensures after { MatchOption result (split text.now mark.now tokens.now ≡ None) (λ x. All (IsWithin text.now) x.1.now) }
+    ensures split { MatchOption result (split text.now mark.now tokens.now ≡ None)
+        (λ x. split text.now mark.now tokens.now ≡ Some (x.0.now, x.1.now)) }
+    ensures before { MatchOption result (split text.now mark.now tokens.now ≡ None)
+        (λ x. All (IsWithin text.now) x.0.now) }
+    ensures after { MatchOption result (split text.now mark.now tokens.now ≡ None)
+        (λ x. All (IsWithin text.now) x.1.now) }
 {
     match place_of(text, mark, tokens) {
         None => None,

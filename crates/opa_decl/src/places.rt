@@ -27,7 +27,8 @@ impl Model for Places {
 
     ghost view = { λ p. p.texts };
 
-    ghost invariant = { λ p. (length p.texts + 1 < 2 ^ 32) × (p.count ≡ length p.texts) × FindsFirst (get_by_text p.places) p.texts };
+    ghost invariant = { λ p. (length p.texts + 1 < 2 ^ 32) × (p.count ≡ length p.texts) ×
+        FindsFirst (get_by_text p.places) p.texts };
 }
 
 impl Places {

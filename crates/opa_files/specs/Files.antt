@@ -13,6 +13,7 @@ use Rattle.opa_files.specs.declared.fault.TakeError.TheVariants as errors
 use Rattle.opa_files.specs.declared.source.FileLine.{FileLine}
 use Rattle.opa_files.specs.declared.source.SourceFile.{SourceFile}
 use Rattle.opa_files.specs.FileLines.{AreFileLines}
+use Rattle.opa_io.specs.declared.limits.TheConstants.{MOST_FILE, MOST_FILE_LINES}
 
 abbrev pub fault_at : ℕ → ℕ → RbKind → RbFault
 fault_at file line kind = record { file = file; line = line; kind = kind; cycle = [] }
@@ -27,7 +28,7 @@ text_or_fault (Some text) = Ok text
 -- a file of at most 8,388,608 bytes that are a text
 abbrev pub text_in : Option (List ℕ) → Result (List ℕ) RbKind
 text_in None = Err Missing
-text_in (Some bytes) = if nat_lt 8388608 (length bytes) then Err Limit else text_or_fault (text_of bytes)
+text_in (Some bytes) = if nat_lt MOST_FILE (length bytes) then Err Limit else text_or_fault (text_of bytes)
 
 -- the text of a file, or the kind of its fault
 abbrev pub text_under : Files → List ℕ → Result (List ℕ) RbKind
@@ -60,8 +61,8 @@ pub record IsMain (files : Files) (name : List ℕ) (text : List ℕ) (lines : L
 -- hundred lines that name files, or the first of those files that can't be had.
 pub data AreFiles (files : Files) (name : List ℕ) : Result (List SourceFile) Unread → Type 0 where
   no_main : (kind : RbKind) → text_under files name ≡ Err kind → AreFiles files name (Err (unread 0 0 kind name))
-  too_many : (text : List ℕ) (lines : List FileLine) (over : FileLine) → IsMain files name text lines → slice_get lines 100 ≡ Some over → AreFiles files name (Err (unread 0 over.line Limit name))
-  with_named : (text : List ℕ) (lines : List FileLine) → IsMain files name text lines → length lines ≤ 100
+  too_many : (text : List ℕ) (lines : List FileLine) (over : FileLine) → IsMain files name text lines → slice_get lines MOST_FILE_LINES ≡ Some over → AreFiles files name (Err (unread 0 over.line Limit name))
+  with_named : (text : List ℕ) (lines : List FileLine) → IsMain files name text lines → length lines ≤ MOST_FILE_LINES
       → AreFiles files name (with_more (source name false text ∷ []) (files_from files 1 lines))
 
 -- why files weren't taken

@@ -6,15 +6,10 @@ ghost use Rattle.opa_files.specs.declared.source.SourceFile.{SourceFile as FileV
 
 use crate::lines::file_lines;
 use crate::{FileLine, SourceFile, TakeError, Unread};
+use opa_io::limits::{MOST_FILE, MOST_FILE_LINES};
 use opa_io::{List, NoMemory, Shelf, TakeFault, Txt, front};
 use opa_tree::{RbFault, RbKind};
 use std::alloc::Global;
-
-/// How many bytes a file may have.
-const MOST_BYTES: u64 = 8_388_608;
-
-/// How many lines of the main file may name further ones.
-const MOST_LINES: usize = 100;
 
 /// A fault of a file that has this place and this name.
 fn unread(alloc: Global, file: u32, line: u32, kind: RbKind, name: &str) -> Result<Unread, NoMemory>
@@ -45,7 +40,7 @@ fn take_text<F: Shelf>(
     ensures later { F.take_faults shelf.old ≤ F.take_faults shelf.new }
     ensures kept { F.keep_faults shelf.new ≡ F.keep_faults shelf.old }
 {
-    let kind = match shelf.take(alloc, name, MOST_BYTES) {
+    let kind = match shelf.take(alloc, name, MOST_FILE) {
         Ok(bytes) => match Txt::from_bytes(alloc, &bytes)? {
             Some(text) => return Ok(text),
             None => RbKind::Bytes,
@@ -114,7 +109,7 @@ fn take_all<F: Shelf>(
 fn first_over(lines: &[FileLine]) -> Option<u32>
     ensures { MatchOption result (length lines.now ≤ 100) (λ n. (over : LineView) × (slice_get lines.now 100 ≡ Some over) × (n ≡ over.line)) }
 {
-    match lines.get(MOST_LINES) {
+    match lines.get(MOST_FILE_LINES) {
         None => None,
         Some(over) => Some(over.line),
     }
@@ -128,7 +123,8 @@ pub fn take_files<F: Shelf>(
 ) -> Result<List<SourceFile>, TakeError>
     // The files, or the first fault, where the shelf tells its files.
     ensures taken { IfSome (F.files shelf.old) (λ files. IfOk result (λ all. AreFiles files name.now (Ok all))) }
-    ensures fault { IfErr result (HasTakeError (F.files shelf.old) (λ files u. AreFiles files name.now (Err u)) (F.take_faults shelf.old) (F.take_faults shelf.new)) }
+    ensures fault { IfErr result (HasTakeError (F.files shelf.old)
+        (λ files u. AreFiles files name.now (Err u)) (F.take_faults shelf.old) (F.take_faults shelf.new)) }
 
     // The main file comes first, and there are few and short ones.
     ensures short { IfOk result (All (λ (f : FileView). length f.text ≤ 8388608)) }

@@ -29,15 +29,20 @@ impl Session {
         requires declared { IsDeclared (shape_of (rules_of self.old).model) command }
         requires fewer { length listeners.old.items < 2 ^ 64 }
         ensures ok { OnOk result (changed_by command self.old ≡ Ok (held_of self.new)) }
-        ensures reached { OnOk result (reached_of self.new ≡ reached (rules_of self.old) (held_of self.old) (held_of self.new)) }
-        ensures told { IfOk result (Tells (rules_of self.old) (held_of self.old) (held_of self.new) (map (λ l. hearer (state l)) listeners.old.items) (map (λ l. hearer (state l)) listeners.new.items)) }
+        ensures reached { OnOk result (reached_of self.new ≡ reached (rules_of self.old) (held_of self.old)
+            (held_of self.new)) }
+        ensures told { IfOk result (Tells (rules_of self.old) (held_of self.old) (held_of self.new)
+            (map (λ l. hearer (state l)) listeners.old.items) (map (λ l. hearer (state l)) listeners.new.items)) }
         ensures err { IfErr result (λ e. e ≢ refusals.NoMemory → changed_by command self.old ≡ Err e) }
         ensures case { OnErr result (held_of self.new ≡ held_of self.old) }
         ensures still { OnErr result (reached_of self.new ≡ reached_of self.old) }
-        ensures quiet { OnErr result (map (λ l. hearer (state l)) listeners.new.items ≡ map (λ l. hearer (state l)) listeners.old.items) }
+        ensures quiet { OnErr result (map (λ l. hearer (state l)) listeners.new.items ≡ map
+            (λ l. hearer (state l)) listeners.old.items) }
         ensures base { rules_of self.new ≡ rules_of self.old }
-        ensures counted { OnOk result (steps.new ≡ steps.old + reached (rules_of self.old) (held_of self.old) (held_of self.new)) }
-        ensures bound { (c : CaseView) → changed_by command self.old ≡ Ok c → steps.new ≤ steps.old + reached (rules_of self.old) (held_of self.old) c }
+        ensures counted { OnOk result (steps.new ≡ steps.old + reached (rules_of self.old) (held_of self.old)
+            (held_of self.new)) }
+        ensures bound { (c : CaseView) → changed_by command self.old ≡ Ok c →
+            steps.new ≤ steps.old + reached (rules_of self.old) (held_of self.old) c }
         ensures uncounted { (e : Refused) → changed_by command self.old ≡ Err e → steps.new ≡ steps.old }
     {
         // The count shows the model's form.

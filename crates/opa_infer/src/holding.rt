@@ -96,7 +96,8 @@ impl Session {
     /// The line that is shown of an attribute for an instance: what its rule concludes, or the answer, and unknown on every day
     /// where there is neither. None where the instance isn't live or isn't of the attribute's entity. It takes no memory.
     pub fn value(&self, attr: AttrId, inst: &InstanceId) -> Option<&Line<Value>>
-        ensures line { IfSome result (λ line. StandsFor DAYS (value_at (rules_of self.now) (held_of self.now) attr inst.now) line.now) }
+        ensures line { IfSome result (λ line. StandsFor DAYS
+            (value_at (rules_of self.now) (held_of self.now) attr inst.now) line.now) }
         ensures none { is_some result ≡ slots.has_place (rules_of self.now) (held_of self.now) attr inst.now }
     {
         let _case = self.case();

@@ -33,10 +33,12 @@ impl Session {
         requires fewer { length listeners.old.items < 2 ^ 64 }
         ensures ok { OnOk result (held_of self.new ≡ case) }
         ensures reached { OnOk result (reached_of self.new ≡ reached (rules_of self.old) (held_of self.old) case) }
-        ensures told { IfOk result (Tells (rules_of self.old) (held_of self.old) case (map (λ l. hearer (state l)) listeners.old.items) (map (λ l. hearer (state l)) listeners.new.items)) }
+        ensures told { IfOk result (Tells (rules_of self.old) (held_of self.old) case
+            (map (λ l. hearer (state l)) listeners.old.items) (map (λ l. hearer (state l)) listeners.new.items)) }
         ensures case { OnErr result (held_of self.new ≡ held_of self.old) }
         ensures still { OnErr result (reached_of self.new ≡ reached_of self.old) }
-        ensures quiet { OnErr result (map (λ l. hearer (state l)) listeners.new.items ≡ map (λ l. hearer (state l)) listeners.old.items) }
+        ensures quiet { OnErr result (map (λ l. hearer (state l)) listeners.new.items ≡ map
+            (λ l. hearer (state l)) listeners.old.items) }
         ensures base { rules_of self.new ≡ rules_of self.old }
         ensures counted { OnOk result (steps.new ≡ steps.old + reached (rules_of self.old) (held_of self.old) case) }
         ensures bound { steps.new ≤ steps.old + reached (rules_of self.old) (held_of self.old) case }

@@ -2,6 +2,7 @@
 ghost use Rattle.std.specs.Prelude.{◌≡◌, ◌≤◌, length, IfOk, None};
 
 use crate::{Failed, Shelf, TakeFault};
+use arrayvec::ArrayString;
 use std::alloc::Global;
 use std::fs::Permissions;
 use std::io::{ErrorKind, Read};
@@ -13,6 +14,10 @@ const PIECE: usize = 8192;
 
 /// What stands behind a name in the name of the file that is written beside it.
 const BESIDE: &str = ".opa-saving";
+
+/// Room for the name of the file beside: no path of the system is longer. It lies in an array, so that a file is set
+/// without a request for memory.
+const ROOM: usize = 4_096;
 
 /// The files of the system. It stands for the place where the program runs.
 #[derive(Drop)]
@@ -72,6 +77,15 @@ fn write_beside<R: Files>(
     fs::write(rt, beside, bytes)
 }
 
+/// The name of the file beside, unless it is longer than any path.
+fn name_beside(name: &str) -> io::Result<ArrayString<ROOM>> {
+    let mut beside = ArrayString::new();
+    if beside.try_push_str(name).is_err() || beside.try_push_str(BESIDE).is_err() {
+        return Err(io::Error::from(ErrorKind::InvalidFilename));
+    }
+    Ok(beside)
+}
+
 /// Sets a file to the bytes in one step: they are written beside the name, and that file then takes its place. A fault
 /// or a cut in the middle leaves the old file as it was.
 fn replace<R: Files + AllocGlobal>(
@@ -80,9 +94,7 @@ fn replace<R: Files + AllocGlobal>(
     bytes: &[u8],
     permissions: Option<Permissions>,
 ) -> io::Result<()> {
-    let mut beside = String::new(rt.alloc());
-    beside.push_str(name)?;
-    beside.push_str(BESIDE)?;
+    let beside = name_beside(name)?;
     let replaced = write_beside(rt, beside.as_str(), bytes, permissions).and_then(|()| fs::rename(
         rt,
         beside.as_str(),

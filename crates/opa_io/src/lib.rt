@@ -4,6 +4,7 @@
 mod boxed;
 mod fault;
 mod files;
+pub mod limits;
 mod list;
 mod memory;
 mod order;

@@ -60,7 +60,8 @@ impl MemShelf {
 
     /// The bytes of a file, if its name is there.
     pub fn file(&self, name: &str) -> Option<&[u8]>
-        ensures { IfSome (⟦<MemShelf as Shelf>⟧.files self.now) (λ files. option_map (λ bytes. bytes.now) result ≡ map.get files name.now) }
+        ensures { IfSome (⟦<MemShelf as Shelf>⟧.files self.now)
+            (λ files. option_map (λ bytes. bytes.now) result ≡ map.get files name.now) }
     {
         find(&self.files, name)
     }

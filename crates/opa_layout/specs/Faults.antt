@@ -4,10 +4,11 @@ use Rattle.opa_layout.specs.declared.fault.LayoutFault.{LayoutFault}
 use Rattle.opa_layout.specs.declared.fault.LayoutFault.TheVariants as fault
 use Rattle.opa_layout.specs.Lines.{Row, rows}
 use Rattle.opa_layout.specs.Indents.{level, has_odd_space, is_passed}
+use Rattle.opa_io.specs.declared.limits.TheConstants.{MOST_LINE, MOST_LEVEL}
 
 -- over 65,536 bytes, or over level 64
 abbrev pub is_over : Row → Bool
-is_over r = nat_lt 65536 r.size || (not (is_passed r.text) && nat_lt 64 (level r.text))
+is_over r = nat_lt MOST_LINE r.size || (not (is_passed r.text) && nat_lt MOST_LEVEL (level r.text))
 
 -- over the level that the line before allows, or with an odd space
 abbrev pub is_astray : ℕ → Row → Bool

@@ -9,14 +9,9 @@ ghost use Rattle.opa_layout.specs.Blocks.{AreBlocks, block_lines, lines_of, line
 use crate::indent::{indent_of, is_void};
 use crate::lines::{Line, first_line, text_of, without_mark};
 use crate::{Block, BlockLine, LayoutFault};
+use opa_io::limits::{MOST_LEVEL, MOST_LINE};
 use opa_io::{List, Txt};
 use std::alloc::Global;
-
-/// The most bytes of a line as it was read.
-const LINE_LIMIT: usize = 65_536;
-
-/// The deepest level.
-const LEVEL_LIMIT: u32 = 64;
 
 /// A line at this place, if it isn't passed over, where it may have so many levels at most.
 fn read_line(
@@ -34,13 +29,13 @@ fn read_line(
 {
     let indent = indent_of(text);
     let passed = is_void(indent.text);
-    if size > LINE_LIMIT {
+    if size > MOST_LINE {
         return Err(LayoutFault::Limit(number));
     }
     if passed {
         return Ok(None);
     }
-    if indent.level > LEVEL_LIMIT {
+    if indent.level > MOST_LEVEL {
         return Err(LayoutFault::Limit(number));
     }
     if indent.level > most || indent.odd {

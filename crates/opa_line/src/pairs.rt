@@ -31,7 +31,9 @@ impl<T: Same + Drop> Line<T> {
     /// The line with these values from these days on; equal neighbours are merged.
     pub fn from_pairs(alloc: Global, pairs: Vec<(u32, T)>) -> Result<Line<T>, LineFault>
         ensures faulty { IfSome (fault_of pairs.items) (λ fault. result ≡ Err fault) }
-        ensures line { IsNone (fault_of pairs.items) → MatchResult result (λ l. (d : ℕ) → d < DAYS → at l d ≡ at pairs.items d) (λ fault. fault ≡ faults.NoMemory) }
+        ensures line { IsNone (fault_of pairs.items) →
+            MatchResult result (λ l. (d : ℕ) → d < DAYS → at l d ≡ at pairs.items d)
+            (λ fault. fault ≡ faults.NoMemory) }
     {
         match first_fault(&pairs) {
             Some(fault) => Err(fault),

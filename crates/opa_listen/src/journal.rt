@@ -29,7 +29,12 @@ impl Journal {
 impl Listener for Journal {
     ghost use Rattle.std.specs.Prelude.{[], ◌-◌, vec_len, vec_capacity};
 
-    ghost state = { λ s. record { watched = []; kept = s.kept.items; spare = vec_capacity s.kept - vec_len s.kept; style = 0 } };
+    ghost state = { λ s. record {
+      watched = [];
+      kept = s.kept.items;
+      spare = vec_capacity s.kept - vec_len s.kept;
+      style = 0;
+    } };
 
     fn wants(&self, _attr: AttrId) -> bool {
         true

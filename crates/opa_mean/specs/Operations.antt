@@ -16,6 +16,7 @@ use Rattle.opa_tree.specs.declared.kinds.OpKind.TheVariants as op
 use Rattle.opa_tree.specs.Kinds.{counts_decimals}
 use Rattle.opa_window.specs.Folds.{held, number_of, greatest, least}
 use Rattle.opa_window.specs.Windows.{on_date, on_dates, years_value}
+use Rattle.opa_io.specs.declared.limits.TheConstants.{MOST_TEXT}
 
 abbrev pub on_one : (Value → Value) → List Value → Value
 on_one f (v ∷ []) = f v
@@ -80,7 +81,7 @@ moved move _ _ = Uncertain
 
 -- the first text, then the second
 abbrev pub joined : Value → Value → Value
-joined (Words s) (Words t) = if nat_le (length (s ++ t)) 1000 then Words (s ++ t) else Uncertain
+joined (Words s) (Words t) = if nat_le (length (s ++ t)) MOST_TEXT then Words (s ++ t) else Uncertain
 joined _ _ = Uncertain
 
 abbrev pub op_of : OpKind → List Value → Value

@@ -69,7 +69,8 @@ pub fn value_on(
     requires live { IsLive case.now inst.now }
     requires owner { inst.now.entity.0 ≡ owner_of (shape_of base.now.model) attr }
     ensures value { IfOk result (λ v. v ≡ mean (base_of base.now) (facts_of case.now) attr inst.now day) }
-    ensures monotone { IfOk result (λ v. IsFree (base_of base.now) attr → (more : CaseView) → IsCompletion base.now case.now more → IsBelow v (mean (base_of base.now) (facts_of more) attr inst.now day)) }
+    ensures monotone { IfOk result (λ v. IsFree (base_of base.now) attr → (more : CaseView) →
+        IsCompletion base.now case.now more → IsBelow v (mean (base_of base.now) (facts_of more) attr inst.now day)) }
 {
     fresh_value(alloc, base, case, attr, inst, day)
 }

@@ -77,7 +77,9 @@ pub fn tree_value<H: Held>(
 ) -> Result<Value, NoMemory>
     requires day { day < DAYS }
     requires live { AllByRecursion (IsLive (H.held held.now)) enclosing.now }
-    ensures { IfOk result (λ v. v ≡ value (shape_of (H.rules held.now).model) (look_of (facts_of (H.held held.now)) (mean (base_of (H.rules held.now)) (facts_of (H.held held.now)))) expr.now enclosing.now day) }
+    ensures { IfOk result (λ v. v ≡ value (shape_of (H.rules held.now).model)
+        (look_of (facts_of (H.held held.now)) (mean (base_of (H.rules held.now)) (facts_of (H.held held.now))))
+        expr.now enclosing.now day) }
 {
     let _case = held.case();
     looked_value(

@@ -13,6 +13,7 @@ ghost use Rattle.opa_mean.specs.Memory.{takes_memory};
 
 use crate::folds::{better, number_of};
 use opa_date::{DAYS, add_days, add_months, add_years, parts, years_between};
+use opa_io::limits::MOST_TEXT;
 use opa_io::{NoMemory, Txt};
 use opa_tree::OpKind;
 use opa_value::{Number, Value};
@@ -99,7 +100,7 @@ fn joined(alloc: Global, v: &Value, w: &Value) -> Result<Value, NoMemory>
 fn joined_texts(alloc: Global, s: &Txt, t: &Txt) -> Result<Value, NoMemory>
     ensures { IfOk result (λ x. x ≡ meant.joined (words.Words s.now) (words.Words t.now)) }
 {
-    if s.as_str().len() + t.as_str().len() > 1000 {
+    if s.as_str().len() + t.as_str().len() > MOST_TEXT {
         return Ok(Value::Uncertain);
     }
     let mut text = String::from_str(alloc, s.as_str())?;

@@ -29,7 +29,8 @@ impl std::marker::Model for Model {
 
     ghost view = { λ m. m.lists };
 
-    ghost invariant = { λ m. IsModel m.lists × (m.attribute_places ≡ attribute_phrases m.lists) × (m.relation_places ≡ relation_phrases m.lists) };
+    ghost invariant = { λ m. IsModel m.lists × (m.attribute_places ≡ attribute_phrases m.lists) ×
+        (m.relation_places ≡ relation_phrases m.lists) };
 }
 
 impl Model {
@@ -43,8 +44,22 @@ impl Model {
         screens: List<Screen>,
         goals: List<AttrId>,
     ) -> Result<Model, NoMemory>
-        requires { IsModel (record { entities = entities; attributes = attributes; relations = relations; verbs = verbs; screens = screens; goals = goals }) }
-        ensures { IfOk result (λ m. m ≡ record { entities = entities; attributes = attributes; relations = relations; verbs = verbs; screens = screens; goals = goals }) }
+        requires { IsModel (record {
+          entities = entities;
+          attributes = attributes;
+          relations = relations;
+          verbs = verbs;
+          screens = screens;
+          goals = goals;
+        }) }
+        ensures { IfOk result (λ m. m ≡ record {
+          entities = entities;
+          attributes = attributes;
+          relations = relations;
+          verbs = verbs;
+          screens = screens;
+          goals = goals;
+        }) }
     {
         Ok(Model {
             attribute_places: attribute_set(alloc, attributes.as_slice())?,

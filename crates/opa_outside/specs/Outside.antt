@@ -4,10 +4,11 @@ use Rattle.std.specs.Prelude.{ℕ, ◌≡◌, ◌≤◌, List, [], length}
 use Rattle.std.specs.declared.option.Option.{Option}
 use Rattle.std.specs.Io.KnownBytes.{Appends, Consumes}
 use Rattle.opa_io.specs.Outside.{Files, Rose}
+use Rattle.opa_io.specs.declared.limits.TheConstants.{MOST_INPUT}
 
 -- how many bytes an input may have
 abbrev pub MOST : ℕ
-MOST = 67108864
+MOST = MOST_INPUT
 
 pub record Outside : Type 0 where
   pub files : Option Files

@@ -1,15 +1,14 @@
 // A whole input is read.
 ghost use Rattle.std.specs.Prelude.{◌≡◌, ◌≤◌, ◌<◌, vec_len, IfOk, IfErr, OnErr};
 ghost use Rattle.std.specs.Io.KnownBytes.{Keeps};
+ghost use Rattle.opa_io.specs.declared.limits.TheConstants.{MOST_INPUT};
 ghost use Rattle.opa_io.specs.Outside.{Reads, HasCause};
 ghost use Rattle.opa_outside.specs.Reading.{ReadsAll, StopsReading, HasStopCause, Probes};
 
 use crate::stop::Stop;
+use opa_io::limits::MOST_INPUT;
 use opa_io::{Failed, Source};
 use std::alloc::{AllocError, Global};
-
-/// How many bytes an input may have.
-const LIMIT: usize = 67_108_864;
 
 /// How many bytes are read at once.
 const PIECE: usize = 65_536;
@@ -43,14 +42,14 @@ fn buffer(alloc: Global) -> Result<Vec<u8>, AllocError>
 
 /// Reads an input to its end. Where it has as many bytes as an input may have, one more is asked for.
 pub fn read_all<S: Source>(alloc: Global, input: &mut S) -> Result<Vec<u8>, Stop>
-    ensures ok { IfOk result (λ v. ReadsAll LIMIT (S.left input.old) (S.left input.new) v.items) }
-    ensures err { IfErr result (StopsReading LIMIT (S.left input.old) (S.left input.new)) }
+    ensures ok { IfOk result (λ v. ReadsAll MOST_INPUT (S.left input.old) (S.left input.new) v.items) }
+    ensures err { IfErr result (StopsReading MOST_INPUT (S.left input.old) (S.left input.new)) }
     ensures cause { IfErr result (HasStopCause (S.faults input.old) (S.faults input.new)) }
     ensures later { S.faults input.old ≤ S.faults input.new }
 {
     let mut bytes = Vec::new(alloc);
     let mut buf = buffer(alloc)?;
-    let mut left = LIMIT;
+    let mut left = MOST_INPUT;
     while left > 0 {
         buf.truncate(left);
         let Ok(count) = read_into(input, &mut buf) else {

@@ -10,7 +10,7 @@ use Rattle.opa_tree.specs.Trees.{depth, highest, has_form, parts_have_form, row_
 use Rattle.opa_tree.proofs.DepthLaws.{depth-All, depth-Any, depth-Not, depth-Over, depth-Table}
 use Rattle.opa_tree.proofs.FormLaws.{row_has_form, form-of_row, form-Table}
 use Rattle.opa_sentence.specs.declared.measure.Measure.{Measure}
-use Rattle.opa_sentence.specs.declared.measure.TheConstants.{MOST_DEPTH, MOST_NODES, MOST_NESTING}
+use Rattle.opa_io.specs.declared.limits.TheConstants.{MOST_DEPTH, MOST_NODES, MOST_NESTING}
 use Rattle.opa_sentence.specs.declared.names.Names.{Names}
 use Rattle.opa_sentence.specs.declared.names.Member.{Member}
 use Rattle.opa_sentence.specs.declared.names.Relation.{Relation}

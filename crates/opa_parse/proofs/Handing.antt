@@ -37,7 +37,7 @@ use Rattle.opa_parse.specs.declared.block.Opening.{Opening}
 use Rattle.opa_parse.specs.declared.block.Opening.TheVariants as opens
 use Rattle.opa_parse.specs.declared.block.RuleBlock.{RuleBlock}
 use Rattle.opa_parse.specs.declared.block.Statement.{Statement}
-use Rattle.opa_parse.specs.declared.block.TheConstants.{MOST_RULES}
+use Rattle.opa_io.specs.declared.limits.TheConstants.{MOST_RULES}
 use Rattle.opa_parse.specs.declared.line.Ending.{Ending}
 use Rattle.opa_parse.specs.declared.line.Ending.TheVariants as ending
 use Rattle.opa_parse.specs.declared.line.Line.{Line}

@@ -13,12 +13,12 @@ use Rattle.opa_tree.specs.declared.faults.RbKind.TheVariants as kind
 use Rattle.opa_tree.specs.declared.rules.Inferred.{Inferred}
 use Rattle.opa_tree.specs.FirstFaults.{first_of, first_fault}
 use Rattle.opa_tree.proofs.FirstFaultLaws.{first_fault-append}
-use Rattle.opa_sentence.specs.declared.measure.TheConstants.{MOST_DEPTH, MOST_NODES}
+use Rattle.opa_io.specs.declared.limits.TheConstants.{MOST_DEPTH, MOST_NODES}
 use Rattle.opa_sentence.specs.declared.names.Names.{Names}
 use Rattle.opa_parse.specs.declared.block.BlockSort.TheVariants as block_sort
 use Rattle.opa_parse.specs.declared.block.MemberBlock.{MemberBlock}
 use Rattle.opa_parse.specs.declared.block.Membership.{Membership}
-use Rattle.opa_parse.specs.declared.block.TheConstants.{MOST_PHRASE}
+use Rattle.opa_io.specs.declared.limits.TheConstants.{MOST_PHRASE}
 use Rattle.opa_parse.specs.declared.members.Gathered.{Gathered}
 use Rattle.opa_parse.specs.RuleFaults.{fault_at, when, marked, passes, size_faults}
 use Rattle.opa_parse.specs.Rules.{IsPassed}

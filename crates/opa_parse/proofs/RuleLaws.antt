@@ -10,12 +10,12 @@ use Rattle.opa_tree.specs.declared.rules.Inferred.{Inferred}
 use Rattle.opa_tree.specs.declared.rules.Rule.{Rule}
 use Rattle.opa_tree.specs.FirstFaults.{first_of, first_fault, is_before}
 use Rattle.opa_tree.proofs.FirstFaultLaws.{first_fault-append}
-use Rattle.opa_sentence.specs.declared.measure.TheConstants.{MOST_NODES}
+use Rattle.opa_io.specs.declared.limits.TheConstants.{MOST_NODES}
 use Rattle.opa_sentence.specs.declared.names.Names.{Names}
 use Rattle.opa_parse.specs.declared.block.BlockSort.TheVariants as block_sort
 use Rattle.opa_parse.specs.declared.block.RuleBlock.{RuleBlock}
 use Rattle.opa_parse.specs.declared.block.Statement.{Statement}
-use Rattle.opa_parse.specs.declared.block.TheConstants.{MOST_RULES}
+use Rattle.opa_io.specs.declared.limits.TheConstants.{MOST_RULES}
 use Rattle.opa_parse.specs.declared.rules.Taken.{Taken}
 use Rattle.opa_parse.specs.Naming.{names_in, member_of}
 use Rattle.opa_parse.specs.RuleFaults.{fault_at, when, marked, passes, size_faults, statement_faults, spelled_faults, block_faults, statement_nodes, faults_from}

@@ -6,7 +6,7 @@ use Rattle.opa_tree.specs.declared.faults.RbFault.{RbFault}
 use Rattle.opa_tree.specs.declared.faults.RbKind.TheVariants as kind
 use Rattle.opa_parse.specs.declared.block.MemberBlock.{MemberBlock}
 use Rattle.opa_parse.specs.declared.block.Membership.{Membership}
-use Rattle.opa_parse.specs.declared.block.TheConstants.{MOST_PHRASE}
+use Rattle.opa_io.specs.declared.limits.TheConstants.{MOST_PHRASE}
 use Rattle.opa_parse.specs.RuleFaults.{fault_at, when, marked, size_faults}
 
 -- one of the texts is this phrase

@@ -3,7 +3,7 @@ use Rattle.std.specs.Prelude.{◌≡◌, ℕ, ◌+◌, min, List, [], ◌∷◌,
 use Rattle.opa_model.specs.declared.lists.Lists.{Lists}
 use Rattle.opa_layout.specs.declared.block.Block.{Block}
 use Rattle.opa_tree.specs.FirstFaults.{first_fault}
-use Rattle.opa_sentence.specs.declared.measure.TheConstants.{MOST_NODES}
+use Rattle.opa_io.specs.declared.limits.TheConstants.{MOST_NODES}
 use Rattle.opa_sentence.specs.declared.names.Names.{Names}
 use Rattle.opa_parse.specs.declared.block.MemberBlock.{MemberBlock}
 use Rattle.opa_parse.specs.declared.members.Gathered.{Gathered}

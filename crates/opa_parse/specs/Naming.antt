@@ -8,7 +8,7 @@ use Rattle.opa_model.specs.Lookups.{relation_phrases}
 use Rattle.opa_verbs.specs.Phrasing.{denials, operand_phrases}
 use Rattle.opa_tree.specs.declared.rules.Inferred.{Inferred}
 use Rattle.opa_tree.specs.Trees.{depth}
-use Rattle.opa_sentence.specs.declared.measure.TheConstants.{MOST_DEPTH, MOST_NODES}
+use Rattle.opa_io.specs.declared.limits.TheConstants.{MOST_DEPTH, MOST_NODES}
 use Rattle.opa_sentence.specs.declared.names.Names.{Names}
 use Rattle.opa_sentence.specs.declared.names.Operand.{Operand}
 use Rattle.opa_sentence.specs.declared.names.Relation.{Relation}

@@ -3,11 +3,11 @@ use Rattle.std.specs.Prelude.{ℕ, ◌+◌, Bool, true, ◌&&◌, ◌==◌, nat_
 use Rattle.opa_tree.specs.declared.faults.RbFault.{RbFault}
 use Rattle.opa_tree.specs.declared.faults.RbKind.{RbKind}
 use Rattle.opa_tree.specs.declared.faults.RbKind.TheVariants as kind
-use Rattle.opa_sentence.specs.declared.measure.TheConstants.{MOST_DEPTH, MOST_NODES}
+use Rattle.opa_io.specs.declared.limits.TheConstants.{MOST_DEPTH, MOST_NODES}
 use Rattle.opa_sentence.specs.declared.reading.Reading.{Reading}
 use Rattle.opa_parse.specs.declared.block.RuleBlock.{RuleBlock}
 use Rattle.opa_parse.specs.declared.block.Statement.{Statement}
-use Rattle.opa_parse.specs.declared.block.TheConstants.{MOST_RULES}
+use Rattle.opa_io.specs.declared.limits.TheConstants.{MOST_RULES}
 use Rattle.opa_parse.specs.declared.group.Mark.{Mark}
 
 abbrev pub fault_at : ℕ → ℕ → RbKind → RbFault

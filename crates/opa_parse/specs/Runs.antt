@@ -3,10 +3,10 @@ use Rattle.std.specs.Prelude.{◌≡◌, ℕ, ◌+◌, min, List, [], ◌∷◌,
 use Rattle.opa_model.specs.declared.lists.Lists.{Lists}
 use Rattle.opa_layout.specs.declared.block.Block.{Block}
 use Rattle.opa_tree.specs.FirstFaults.{first_fault}
-use Rattle.opa_sentence.specs.declared.measure.TheConstants.{MOST_NODES}
+use Rattle.opa_io.specs.declared.limits.TheConstants.{MOST_NODES}
 use Rattle.opa_sentence.specs.declared.names.Names.{Names}
 use Rattle.opa_parse.specs.declared.block.RuleBlock.{RuleBlock}
-use Rattle.opa_parse.specs.declared.block.TheConstants.{MOST_RULES}
+use Rattle.opa_io.specs.declared.limits.TheConstants.{MOST_RULES}
 use Rattle.opa_parse.specs.declared.rules.Taken.{Taken}
 use Rattle.opa_parse.specs.RuleFaults.{faults_from, statement_nodes}
 use Rattle.opa_parse.specs.Rules.{AreRuleBlocks, rules_in}

@@ -7,7 +7,7 @@ use Rattle.opa_tree.specs.declared.expr.Row.{Row}
 use Rattle.opa_tree.specs.declared.faults.RbKind.{RbKind}
 use Rattle.opa_tree.specs.declared.faults.RbKind.TheVariants as kind
 use Rattle.opa_sentence.specs.declared.measure.Measure.{Measure}
-use Rattle.opa_sentence.specs.declared.measure.TheConstants.{MOST_NESTING}
+use Rattle.opa_io.specs.declared.limits.TheConstants.{MOST_NESTING}
 use Rattle.opa_sentence.specs.declared.names.Names.{Names}
 use Rattle.opa_sentence.specs.declared.names.Relation.{Relation}
 use Rattle.opa_sentence.specs.declared.names.Relation.TheVariants as relation

@@ -3,12 +3,6 @@ use crate::Said;
 use opa_io::Txt;
 use opa_model::{AttrId, RelId};
 
-/// The most rules.
-pub const MOST_RULES: u32 = 4_000;
-
-/// The most bytes of a phrase.
-pub const MOST_PHRASE: usize = 1000;
-
 /// What a block is, by its first word.
 #[derive(Clone, Copy, Debug, PartialEq, Eq)]
 pub enum BlockSort {

@@ -22,7 +22,9 @@ use std::alloc::Global;
 #[tactic(auto, using(crate::proofs::CutOnce::cut_laws))]
 pub fn cut(alloc: Global, text: &str) -> Result<Option<Vec<Token>>, NoMemory>
     requires { length text.now < 2 ^ 32 }
-    ensures cut { IfOk result (λ o. MatchOption o ((ts : Seq TokenView) → Cuts (length text.now) (chars text.now) ts → ⊥) (λ v. Cuts (length text.now) (chars text.now) v.items)) }
+    ensures cut { IfOk result (λ o. MatchOption o
+        ((ts : Seq TokenView) → Cuts (length text.now) (chars text.now) ts → ⊥)
+        (λ v. Cuts (length text.now) (chars text.now) v.items)) }
     ensures within { IfOk result (λ o. IfSome o (λ v. All (IsWithin text.now) v.items)) }
 {
     match tokens(alloc, text) {
@@ -88,7 +90,8 @@ pub fn lines_of(
     lines: &[BlockLine],
 ) -> Result<Option<Lines>, NoMemory>
     requires { AreShort lines.now }
-    ensures { IfOk result (λ o. MatchOption o ((ls : Seq LineView) → AreLines names.now lines.now ls → ⊥) (AreLines names.now lines.now)) }
+    ensures { IfOk result (λ o. MatchOption o ((ls : Seq LineView) → AreLines names.now lines.now ls → ⊥)
+        (AreLines names.now lines.now)) }
 {
     let mut read = Lines::none(alloc);
     let mut rest = lines;

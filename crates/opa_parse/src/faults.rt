@@ -3,9 +3,10 @@ ghost use Rattle.std.specs.Prelude.{◌≡◌, ◌+◌, ◌<◌, min};
 ghost use Rattle.opa_tree.specs.FirstFaults.{first_fault};
 ghost use Rattle.opa_parse.specs.RuleFaults.{fault_at as fault_at_line, when as when_holds, marked as marked_at, passes as passes_most, size_faults, statement_faults, block_faults};
 
-use crate::{MOST_RULES, Mark, RuleBlock, Statement};
+use crate::{Mark, RuleBlock, Statement};
+use opa_io::limits::{MOST_DEPTH, MOST_NODES, MOST_RULES};
 use opa_io::{List, front};
-use opa_sentence::{MOST_DEPTH, MOST_NODES, Reading};
+use opa_sentence::Reading;
 use opa_tree::{RbFault, RbKind, first_of};
 use std::alloc::Global;
 

@@ -19,9 +19,7 @@ mod table;
 mod texts;
 mod words;
 
-pub use block::{
-    BlockSort, MOST_PHRASE, MOST_RULES, MemberBlock, Membership, Opening, RuleBlock, Statement,
-};
+pub use block::{BlockSort, MemberBlock, Membership, Opening, RuleBlock, Statement};
 pub use group::{Cases, Frame, Front, Group, Items, Joint, Mark, Said, Several, Sort};
 pub use laws::one_rule;
 pub use line::{Ending, Head, Line};

@@ -17,11 +17,12 @@ use crate::names::{declared_relations, names_of, operands_of};
 use crate::openings::sort_of;
 use crate::rules::{first_number, tree_of};
 use crate::texts::Texts;
-use crate::{BlockSort, MOST_PHRASE, MemberBlock, Membership};
+use crate::{BlockSort, MemberBlock, Membership};
+use opa_io::limits::{MOST_NODES, MOST_PHRASE};
 use opa_io::{List, NoMemory, Txt, front};
 use opa_layout::Block;
 use opa_model::{Model, RelId};
-use opa_sentence::{MOST_NODES, Names};
+use opa_sentence::Names;
 use opa_tree::{Expr, Inferences, Inferred, RbError, RbFault, RbKind, first_of};
 use std::alloc::Global;
 
@@ -287,7 +288,8 @@ pub fn read_inferences(
 ) -> Result<Inferences, RbError>
     requires short { All (λ b. AreShort b.lines) blocks.now }
     ensures inferences { IfOk result (AreInferences model.now blocks.now) }
-    ensures refused { IfErr result (λ e. (fault : FaultView) → e ≡ Refused fault → AreRefused model.now blocks.now fault) }
+    ensures refused { IfErr result (λ e. (fault : FaultView) → e ≡ Refused fault →
+        AreRefused model.now blocks.now fault) }
     // What `read_rules` asks of them, to hand on the same of rules.
     ensures formed { IfOk result AreFormed }
     ensures shallow { IfOk result AreFlat }

@@ -2,7 +2,7 @@
 ghost use Rattle.std.specs.Prelude.{ℕ, ◌≡◌, ◌+◌, ◌++◌, ◌≤◌, length, min, map, true, [], All, IfOk, IfErr};
 ghost use Rattle.opa_tree.specs.declared.faults.RbError.TheVariants.{Refused};
 ghost use Rattle.opa_tree.specs.declared.faults.RbFault.{RbFault as FaultView};
-ghost use Rattle.opa_sentence.specs.declared.measure.TheConstants.{MOST_NODES as MOST_NODES_OF};
+ghost use Rattle.opa_io.specs.declared.limits.TheConstants.{MOST_NODES as MOST_NODES_OF};
 ghost use Rattle.opa_tree.specs.Accepted.{HaveForm, AreShallow};
 ghost use Rattle.opa_parse.specs.Fronts.{AreShort};
 ghost use Rattle.opa_parse.specs.Handed.{AreFormed, AreDeclared, AreFiledAs};
@@ -16,11 +16,12 @@ use crate::blocks::statement_of;
 use crate::faults::{more_than, rule_fault};
 use crate::names::names_of;
 use crate::openings::sort_of;
-use crate::{BlockSort, MOST_RULES, RuleBlock, Said, Statement};
+use crate::{BlockSort, RuleBlock, Said, Statement};
+use opa_io::limits::{MOST_NODES, MOST_RULES};
 use opa_io::{List, NoMemory, front};
 use opa_layout::{Block, BlockLine};
 use opa_model::{AttrId, Model};
-use opa_sentence::{MOST_NODES, Member, Names};
+use opa_sentence::{Member, Names};
 use opa_tree::{Expr, Inferences, RbError, RbFault, Rule, Rules, first_of};
 use std::alloc::Global;
 
@@ -248,7 +249,8 @@ pub fn read_rules(
 ) -> Result<Rules, RbError>
     requires short { All (λ b. AreShort b.lines) blocks.now }
     ensures rules { IfOk result (AreRules model.now inferences.now blocks.now) }
-    ensures refused { IfErr result (λ e. (fault : FaultView) → e ≡ Refused fault → AreRefused model.now inferences.now blocks.now fault) }
+    ensures refused { IfErr result (λ e. (fault : FaultView) → e ≡ Refused fault →
+        AreRefused model.now inferences.now blocks.now fault) }
     // What is asked of rules that are checked, and of a rulebase.
     ensures formed { IfOk result (λ rules. AreFormed inferences.now → HaveForm rules) }
     ensures shallow { IfOk result (λ rules. AreFormed inferences.now → AreShallow rules) }

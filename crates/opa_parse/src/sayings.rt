@@ -5,8 +5,9 @@ ghost use Rattle.opa_sentence.specs.Readings.{kept as kept_of};
 ghost use Rattle.opa_parse.specs.Sayings.{mark as mark_of, line_marks as line_marks_of, of_line as of_line_of, is_named as is_named_in, head_marks as head_marks_of, head_reading as head_reading_of, headed as headed_of, takes as takes_of, one_item as one_item_of, with_item as with_item_of, joined as joined_of, several as several_of, no_cases as no_cases_of, with_row as with_row_of, row_measure as row_measure_of, with_case as with_case_of, table_of, tabled as tabled_of};
 
 use crate::{Cases, Group, Head, Joint, Mark, Said, Several};
+use opa_io::limits::MOST_NESTING;
 use opa_io::{Boxed, List, NoMemory};
-use opa_sentence::{MOST_NESTING, Measure, Names, Parts, Reading, Relation, quantified};
+use opa_sentence::{Measure, Names, Parts, Reading, Relation, quantified};
 use opa_tree::{Expr, Quant, RbKind, Row};
 use std::alloc::Global;
 

@@ -26,7 +26,8 @@ pub fn fresh_slots(
 ) -> Result<List<Slot>, NoMemory>
     requires before { IsOf base.now old.now }
     requires after { IsOf base.now new.now }
-    ensures { IfOk result (λ found. pairs_of found ≡ those base.now old.now new.now (slots_of (base_of base.now) (facts_of new.now))) }
+    ensures { IfOk result (λ found. pairs_of found ≡ those base.now old.now new.now
+        (slots_of (base_of base.now) (facts_of new.now))) }
 {
     let all = live_slots(alloc, base, new)?;
     let slots = all.as_slice();

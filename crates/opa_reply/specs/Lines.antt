@@ -2,10 +2,11 @@
 use Rattle.std.specs.Prelude.{ℕ, ◌-◌, Bool, ◌&&◌, ◌==◌, not, nat_lt, List, length, take, slice_index, if◌then◌else◌}
 use Rattle.std.specs.Str.Lines.{strip_carriage_return}
 use Rattle.opa_script.specs.Lines.{is_idle}
+use Rattle.opa_io.specs.declared.limits.TheConstants.{MOST_LINE}
 
 -- how many bytes a line may have
 abbrev pub LONGEST : ℕ
-LONGEST = 65536
+LONGEST = MOST_LINE
 
 -- a line feed ends the line
 abbrev pub has_feed : List ℕ → Bool

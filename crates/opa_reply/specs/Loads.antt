@@ -11,10 +11,11 @@ use Rattle.opa_saved.specs.Faults.{fault_number}
 use Rattle.opa_saved.specs.Loading.{IsLoaded, HasLoadFault}
 use Rattle.opa_tree.specs.declared.rulebase.Rulebase.{Rulebase}
 use Rattle.opa_reply.specs.Refused.{refused}
+use Rattle.opa_io.specs.declared.limits.TheConstants.{MOST_FILE}
 
 -- how many bytes a saved case may have
 abbrev pub FILE_MOST : ℕ
-FILE_MOST = 8388608
+FILE_MOST = MOST_FILE
 
 -- where a case came from
 abbrev pub loaded_text : Origin → List ℕ

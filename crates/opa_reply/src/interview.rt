@@ -39,7 +39,8 @@ impl Interview {
         base: Rulebase,
         steps: &mut Steps<L>,
     ) -> Result<Interview, NoMemory>
-        ensures first { IfOk result (λ c. (hearers : List Hearer) (files : Option Files) → ⟦<Interview as Replier>⟧.held c hearers files steps.new ≡ at_first base hearers files steps.new) }
+        ensures first { IfOk result (λ c. (hearers : List Hearer) (files : Option Files) →
+            ⟦<Interview as Replier>⟧.held c hearers files steps.new ≡ at_first base hearers files steps.new) }
         ensures bound { steps.new ≤ steps.old + first_slots base }
     {
         let session = Session::start(alloc, base, steps)?;

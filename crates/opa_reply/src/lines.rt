@@ -8,8 +8,7 @@ ghost use Rattle.opa_script.specs.Lines as script;
 ghost use Rattle.opa_reply.specs.Interviews as meant_asked;
 ghost use Rattle.opa_reply.specs.Lines as meant;
 
-/// How many bytes a line may have.
-const LONGEST: usize = 65_536;
+use opa_io::limits::MOST_LINE;
 
 /// Without the carriage return at the end.
 fn without_return(bytes: &[u8]) -> &[u8]
@@ -70,7 +69,7 @@ fn is_idle(text: &[u8]) -> bool
 pub(crate) fn is_too_long(line: &[u8]) -> bool
     ensures { result ≡ meant.is_too_long line.now }
 {
-    bytes_of(line).len() > LONGEST && !is_idle(text_of(line))
+    bytes_of(line).len() > MOST_LINE && !is_idle(text_of(line))
 }
 
 /// What follows a slash that is the first character but blanks.
@@ -97,5 +96,5 @@ fn is_idle_reply(text: &[u8]) -> bool
 pub(crate) fn is_long_reply(line: &[u8]) -> bool
     ensures { result ≡ meant_asked.is_long_reply line.now }
 {
-    bytes_of(line).len() > LONGEST && !is_idle_reply(text_of(line))
+    bytes_of(line).len() > MOST_LINE && !is_idle_reply(text_of(line))
 }

@@ -16,6 +16,7 @@ ghost use Rattle.opa_script.specs.declared.command.Command.TheVariants as comman
 use crate::refused::refused;
 use opa_case::Case;
 use opa_infer::Session;
+use opa_io::limits::MOST_FILE;
 use opa_io::{NoMemory, Shelf, Steps, TakeFault, Txt};
 use opa_listen::Listener;
 use opa_mean::Held;
@@ -24,9 +25,6 @@ use opa_talk::Halt;
 use opa_tree::Rulebase;
 use std::alloc::Global;
 use std::sync::ledger::Ledger;
-
-/// How many bytes a saved case may have.
-const FILE_MOST: u64 = 8_388_608;
 
 /// What is printed of a file, and the case that was loaded, if one was.
 #[derive(Drop)]
@@ -106,7 +104,7 @@ fn read_file<F: Shelf>(
     ensures later_take { F.take_faults shelf.old ≤ F.take_faults shelf.new }
     ensures later_keep { F.keep_faults shelf.old ≤ F.keep_faults shelf.new }
 {
-    match shelf.take(alloc, name.as_str(), FILE_MOST) {
+    match shelf.take(alloc, name.as_str(), MOST_FILE) {
         Ok(bytes) => {
             let loading = load_bytes(alloc, base, bytes.as_slice())?;
             Ok(loading)

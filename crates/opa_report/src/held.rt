@@ -32,7 +32,8 @@ impl<'a, H: Held> Sight for HeldSight<'a, H> {
 
     ghost shape = { λ s. shape_of (H.rules s.held.now).model };
 
-    ghost look = { λ s. look_of (facts_of (H.held s.held.now)) (mean (base_of (H.rules s.held.now)) (facts_of (H.held s.held.now))) };
+    ghost look = { λ s. look_of (facts_of (H.held s.held.now))
+        (mean (base_of (H.rules s.held.now)) (facts_of (H.held s.held.now))) };
 
     ghost live = { λ s i. IsLive (H.held s.held.now) i };
 

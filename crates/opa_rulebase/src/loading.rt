@@ -81,7 +81,8 @@ pub fn load_rulebase<F: Shelf>(
 ) -> Result<Rulebase, LoadError>
     // The rulebase that the files spell, or the cause of the refusal, where the shelf tells its files.
     ensures accepted { IfSome (F.files shelf.old) (λ files. IfOk result (λ base. Opens files name.now (Ok base))) }
-    ensures refused { IfErr result (HasLoadError (F.files shelf.old) name.now (F.take_faults shelf.old) (F.take_faults shelf.new)) }
+    ensures refused { IfErr result (HasLoadError (F.files shelf.old) name.now (F.take_faults shelf.old)
+        (F.take_faults shelf.new)) }
 
     // In what is accepted, over every case, trees that stand for quantifiers over an inferred relationship count its members alone.
     ensures memberships { IfOk result MembershipsCount }

@@ -31,6 +31,7 @@ use Rattle.opa_saved.specs.declared.loaded.Origin.TheVariants as origin
 use Rattle.opa_saved.specs.Digests.{digest}
 use Rattle.opa_saved.specs.Forms.{File, file_in}
 use Rattle.opa_saved.specs.Saved.{ReadsAs}
+use Rattle.opa_io.specs.declared.limits.TheConstants.{MOST_TEXT, MOST_ANSWERS}
 
 -- ---- the case of a file
 
@@ -94,7 +95,7 @@ is_long_text value.Unknown = false
 is_long_text value.Uncertain = false
 is_long_text (value.Bool b) = false
 is_long_text (value.Num n) = false
-is_long_text (value.Words t) = nat_lt 1000 (length t)
+is_long_text (value.Words t) = nat_lt MOST_TEXT (length t)
 is_long_text (value.Day d) = false
 
 abbrev pub text_refusal : Answer → Option Refusal
@@ -111,7 +112,7 @@ full_refusal m ruled live = cond (is_full (shape_of m) ruled live) (Some refusal
 
 -- too many answers
 abbrev pub over_refusal : FinMap cell_cmp Answer → Option Refusal
-over_refusal answers = cond (nat_lt 100000 (len answers)) (Some refusals.Limit) None
+over_refusal answers = cond (nat_lt MOST_ANSWERS (len answers)) (Some refusals.Limit) None
 
 abbrev pub list_refusals : Lists → Population → List ListEntry → List Refusal
 list_refusals m live es = flat_map (λ e. option_to_list (list_refusal m live (relation_named m e.point.phrase) e)) es

@@ -21,6 +21,7 @@ use Rattle.opa_case.specs.Steps.{in_bounds, is_full}
 use Rattle.opa_saved.specs.declared.loaded.Origin.TheVariants.{Same}
 use Rattle.opa_saved.specs.Loading.{is_long_text, IsLoaded}
 use Rattle.opa_saved.specs.Saved.{saved_data, ReadsAs}
+use Rattle.opa_io.specs.declared.limits.TheConstants.{MOST_POINTS, MOST_INSTANCE_NAME, MOST_ANSWERS}
 
 -- a number is in its range
 abbrev pub IsValue : Value → Type 0
@@ -46,11 +47,11 @@ HasLines c = (n : ℕ) (i : InstanceId) → HasLineAt c n i
 -- The case is within its attributes' bounds and the limits.
 pub record IsWithin (m : Lists) (ruled : List Bool) (c : CaseView) : Type 0 where
   pub bounds : (a : AttrId) (i : InstanceId) (line : Answer) → Answered c.answers a i line → list_all (λ p. in_bounds (attribute_or m a) p.1) line ≡ true
-  pub pairs : (a : AttrId) (i : InstanceId) (line : Answer) → Answered c.answers a i line → length line ≤ 1000
+  pub pairs : (a : AttrId) (i : InstanceId) (line : Answer) → Answered c.answers a i line → length line ≤ MOST_POINTS
   pub texts : (a : AttrId) (i : InstanceId) (line : Answer) → Answered c.answers a i line → list_any (λ p. is_long_text p.1) line ≡ false
-  pub names : (r : RelId) (i : InstanceId) (names : Names) → Known c.lists r i names → list_any (λ n. nat_lt 100 (length n)) names ≡ false
+  pub names : (r : RelId) (i : InstanceId) (names : Names) → Known c.lists r i names → list_any (λ n. nat_lt MOST_INSTANCE_NAME (length n)) names ≡ false
   pub size : is_full (shape_of m) ruled c.live ≡ false
-  pub answers : len c.answers ≤ 100000
+  pub answers : len c.answers ≤ MOST_ANSWERS
 
 -- A saved case is loaded as it was, from this model.
 abbrev pub SavedLoads : Type 0

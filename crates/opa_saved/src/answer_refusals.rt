@@ -13,16 +13,12 @@ use crate::list_refusals::add_refusal;
 use crate::living::Living;
 use opa_case::{Refusal, has_kind};
 use opa_cells::InstanceId;
+use opa_io::limits::{MOST_POINTS, MOST_TEXT};
 use opa_io::{NoMemory, Txt, front};
 use opa_line::Line;
 use opa_model::{AttrId, Attribute, Model, Ruled};
 use opa_value::Value;
 use std::alloc::Global;
-
-/// The most pairs of an answer, and the most bytes of a text.
-const MOST_PAIRS: usize = 1_000;
-
-const MOST_TEXT: usize = 1_000;
 
 /// Adds why answers are refused.
 pub(crate) fn add_answer_refusals(
@@ -166,7 +162,7 @@ fn is_unknown(value: &Value) -> bool
 fn is_long(line: &Line<Value>) -> bool
     ensures { result ≡ nat_lt 1000 (length line.now) }
 {
-    MOST_PAIRS < line.segments().len()
+    MOST_POINTS < line.segments().len()
 }
 
 fn have_kind(attribute: &Attribute, line: &Line<Value>) -> bool

@@ -15,13 +15,11 @@ use crate::entries::ListEntry;
 use crate::living::Living;
 use opa_case::Refusal;
 use opa_cells::InstanceId;
+use opa_io::limits::MOST_INSTANCE_NAME;
 use opa_io::{NoMemory, Txt, front};
 use opa_model::{EntityId, Model, RelId};
 use std::alloc::Global;
 use std::collections::BTreeMap;
-
-/// The most bytes of a name.
-const MOST_NAME: usize = 100;
 
 /// Adds why lists are refused.
 pub(crate) fn add_list_refusals(
@@ -131,7 +129,9 @@ fn is_misplaced(model: &Model, living: &Living, rel: RelId, inst: &InstanceId) -
 fn is_one_long(names: &[Txt]) -> bool
     ensures { result ≡ list_any (λ n. nat_lt 100 (length n)) names.now }
 {
-    names.iter().any(|name| MOST_NAME < name.as_str().len())
+    names
+        .iter()
+        .any(|name| MOST_INSTANCE_NAME < name.as_str().len())
 }
 
 fn cant_name_one(

@@ -14,13 +14,9 @@ use crate::list_refusals::{add_list_refusals, add_refusal};
 use crate::living::Living;
 use opa_case::Refusal;
 use opa_io::NoMemory;
+use opa_io::limits::{MOST_INSTANCES, MOST_SLOTS};
 use opa_model::{AttrId, Model, Ruled};
 use std::alloc::Global;
-
-/// The most live instances, and the most slots.
-const MOST_INSTANCES: usize = 20_000;
-
-const MOST_SLOTS: u64 = 2_000_000;
 
 /// All refusals, but that there are too many answers.
 pub(crate) fn entry_refusals(
@@ -78,7 +74,7 @@ fn has_number(number: u8, refusals: &[Refusal]) -> bool
 fn is_full(model: &Model, ruled: &Ruled, living: &Living) -> bool
     ensures { result ≡ step.is_full (shape_of model.now) ruled.now living.now }
 {
-    MOST_INSTANCES < living.len() || has_many_slots(model, ruled, living)
+    (MOST_INSTANCES as usize) < living.len() || has_many_slots(model, ruled, living)
 }
 
 fn has_many_slots(model: &Model, ruled: &Ruled, living: &Living) -> bool

@@ -25,6 +25,7 @@ use Rattle.opa_script.specs.declared.verbs.Verb.TheVariants as verb
 use Rattle.opa_script.specs.Lines.{is_idle, HasTokens}
 use Rattle.opa_text.specs.Pointed.{SpellsPoint, SpellsDated}
 use Rattle.opa_script.specs.Shapes.{Begins, SpellsGiven, HasShape, AreShort}
+use Rattle.opa_io.specs.declared.limits.TheConstants.{MOST_FILE_NAME}
 
 -- ---- what a phrase names
 
@@ -74,7 +75,7 @@ HasSort m verb.Stats ps = HasShape verb.Stats ps
 
 -- a name of a file has 1 to 100 bytes
 abbrev pub IsFileName : List ℕ → Type 0
-IsFileName t = (1 ≤ length t) × (length t ≤ 100)
+IsFileName t = (1 ≤ length t) × (length t ≤ MOST_FILE_NAME)
 
 -- a whole number below 2^32
 abbrev pub SaysCount : ℕ → List ℕ → Type 0

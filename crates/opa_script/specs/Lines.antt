@@ -4,6 +4,7 @@ use Rattle.std.specs.Str.{IsUtf8}
 use Rattle.opa_words.specs.Pieces.{Piece, IsCutInto}
 use Rattle.opa_script.specs.declared.fault.CmdFault.{CmdFault}
 use Rattle.opa_script.specs.declared.fault.CmdFault.TheVariants as fault
+use Rattle.opa_io.specs.declared.limits.TheConstants.{MOST_LINE}
 
 -- what follows the blanks at the front
 abbrev pub past_blanks : List ℕ → List ℕ
@@ -20,18 +21,18 @@ is_idle bytes = is_comment_or_nothing (past_blanks bytes)
 
 -- the line isn't too long, is a text, and is cut into these tokens
 abbrev pub HasTokens : List ℕ → List Piece → Type 0
-HasTokens bytes ps = (length bytes ≤ 65536) × IsUtf8 bytes × IsCutInto bytes ps
+HasTokens bytes ps = (length bytes ≤ MOST_LINE) × IsUtf8 bytes × IsCutInto bytes ps
 
 -- ---- on the way there
 
 -- the text of a line
 pub record IsText (bytes t : List ℕ) : Type 0 where
   pub same : t ≡ bytes
-  pub short : length bytes ≤ 65536
+  pub short : length bytes ≤ MOST_LINE
   pub utf8 : IsUtf8 bytes
 
 abbrev pub IsNoText : List ℕ → CmdFault → Type 0
-IsNoText bytes fault.NotACommand = (length bytes ≤ 65536) → IsUtf8 bytes → ⊥
+IsNoText bytes fault.NotACommand = (length bytes ≤ MOST_LINE) → IsUtf8 bytes → ⊥
 IsNoText bytes fault.Name = ⊥
 IsNoText bytes fault.Value = ⊥
 IsNoText bytes fault.NoMemory = ⊥

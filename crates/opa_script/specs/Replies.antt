@@ -15,6 +15,7 @@ use Rattle.opa_script.specs.declared.fault.CmdFault.TheVariants as fault
 use Rattle.opa_script.specs.Lines.{past_blanks, is_idle, HasTokens}
 use Rattle.opa_script.specs.Shapes.{AreShort}
 use Rattle.opa_script.specs.Commands.{IsCommand, IsNoCommand}
+use Rattle.opa_io.specs.declared.limits.TheConstants.{MOST_LINE}
 
 -- what follows a slash at the front
 abbrev pub after_slash : List ℕ → Option (List ℕ)
@@ -49,12 +50,12 @@ IsNoPlainReply q bytes fault.NoMemory = Unit {0}
 
 -- unless the command is blank or a comment, the whole line isn't too long
 abbrev pub IsNotLong : List ℕ → List ℕ → Type 0
-IsNotLong bytes rest = is_idle rest ≡ false → length bytes ≤ 65536
+IsNotLong bytes rest = is_idle rest ≡ false → length bytes ≤ MOST_LINE
 
 abbrev pub IsNoSlashed : Lists → List ℕ → List ℕ → CmdFault → Type 0
-IsNoSlashed m bytes rest fault.NotACommand = (is_idle rest ≡ false) × (length bytes ≤ 65536 → IsNoCommand m rest fault.NotACommand)
-IsNoSlashed m bytes rest fault.Name = (length bytes ≤ 65536) × IsNoCommand m rest fault.Name
-IsNoSlashed m bytes rest fault.Value = (length bytes ≤ 65536) × IsNoCommand m rest fault.Value
+IsNoSlashed m bytes rest fault.NotACommand = (is_idle rest ≡ false) × (length bytes ≤ MOST_LINE → IsNoCommand m rest fault.NotACommand)
+IsNoSlashed m bytes rest fault.Name = (length bytes ≤ MOST_LINE) × IsNoCommand m rest fault.Name
+IsNoSlashed m bytes rest fault.Value = (length bytes ≤ MOST_LINE) × IsNoCommand m rest fault.Value
 IsNoSlashed m bytes rest fault.NoMemory = Unit {0}
 
 -- ---- lines

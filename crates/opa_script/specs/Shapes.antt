@@ -9,6 +9,7 @@ use Rattle.opa_text.specs.declared.pointed.Point.{Point}
 use Rattle.opa_text.specs.Pointed.{SpellsPoint, SpellsDated}
 use Rattle.opa_script.specs.declared.verbs.Verb.{Verb}
 use Rattle.opa_script.specs.declared.verbs.Verb.TheVariants as verb
+use Rattle.opa_io.specs.declared.limits.TheConstants.{MOST_TEXT}
 
 -- the word with which a command begins
 abbrev pub verb_named : List ℕ → Option Verb
@@ -63,7 +64,7 @@ HasShape verb.Stats ps = ps ≡ []
 
 -- a text between quotes has at most 1,000 bytes
 abbrev pub IsShort : Piece → Type 0
-IsShort p = (t : List ℕ) → p ≡ text t → length t ≤ 1000
+IsShort p = (t : List ℕ) → p ≡ text t → length t ≤ MOST_TEXT
 
 abbrev pub AreShort : List Piece → Type 0
 AreShort [] = Unit {0}

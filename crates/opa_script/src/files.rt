@@ -14,13 +14,11 @@ ghost use Rattle.opa_model.specs.declared.lists.Lists.{Lists};
 
 use crate::short::are_short;
 use crate::{CmdFault, Command};
+use opa_io::limits::MOST_FILE_NAME;
 use opa_io::{NoMemory, Txt};
 use opa_value::Number;
 use opa_words::{Pieces, TokenKind, text_of_token};
 use std::alloc::Global;
-
-/// How many bytes the name of a file has at most.
-const LONGEST_NAME: usize = 100;
 
 /// The one token that is left, with its kind.
 fn only<'t>(rest: Pieces<'t>) -> Option<(TokenKind, &'t str)>
@@ -69,7 +67,7 @@ fn file_name(alloc: Global, rest: Pieces<'_>) -> Result<Txt, CmdFault>
     if name.as_str().len() == 0 {
         return Err(CmdFault::Value);
     }
-    if name.as_str().len() > LONGEST_NAME {
+    if name.as_str().len() > MOST_FILE_NAME {
         return Err(CmdFault::Value);
     }
     Ok(name)

@@ -7,6 +7,7 @@ ghost use Rattle.opa_words.specs.Pieces.{seen, AreOfKind};
 ghost use Rattle.opa_script.specs.Shapes.{AreShort, IsShort};
 
 use opa_io::NoMemory;
+use opa_io::limits::MOST_TEXT;
 use opa_words::{Pieces, TokenKind, text_of_token};
 use std::alloc::Global;
 
@@ -32,7 +33,7 @@ fn is_short(alloc: Global, kind: TokenKind, text: &str) -> Result<bool, NoMemory
     match kind {
         TokenKind::Text => {
             let inner = text_of_token(alloc, text)?;
-            Ok(inner.as_str().len() <= 1_000)
+            Ok(inner.as_str().len() <= MOST_TEXT)
         }
         TokenKind::Word | TokenKind::Number | TokenKind::Date | TokenKind::Symbol => Ok(true),
     }

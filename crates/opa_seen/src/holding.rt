@@ -26,7 +26,8 @@ pub fn concluded_line<K: Sheet>(
     tree: &Expr,
     enclosing: &[InstanceId],
 ) -> Result<Line<Shade>, NoMemory>
-    ensures { IfOk result (StandsFor DAYS (λ d. mapped (fit_of money) (shade (K.shape sheet.now) (K.listing sheet.now) tree.now enclosing.now d))) }
+    ensures { IfOk result (StandsFor DAYS (λ d. mapped (fit_of money)
+        (shade (K.shape sheet.now) (K.listing sheet.now) tree.now enclosing.now d))) }
 {
     let seen = shade_line(alloc, sheet, tree, enclosing)?;
     let line = fitted_shades(alloc, money, &seen)?;

@@ -114,7 +114,8 @@ pub fn taken_line(
     value: &Line<Shade>,
     rest: &Line<Shade>,
 ) -> Result<Line<Shade>, NoMemory>
-    ensures { IfOk result (StandsFor DAYS (λ d. choice_shade (meant.shade_at cond.now d) (meant.shade_at value.now d) (meant.shade_at rest.now d))) }
+    ensures { IfOk result (StandsFor DAYS (λ d. choice_shade (meant.shade_at cond.now d)
+        (meant.shade_at value.now d) (meant.shade_at rest.now d))) }
 {
     let conds = part_line(alloc, Part::Value, cond)?;
     let values = choice_line(

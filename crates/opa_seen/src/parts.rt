@@ -40,7 +40,8 @@ pub fn part_lines(
     part: Part,
     lines: &[Line<Shade>],
 ) -> Result<Vec<Line<Value>>, NoMemory>
-    ensures { IfOk result (λ vs. (d : ℕ) → d < DAYS → values_at vs.items d ≡ map (part_of part) (shades_at lines.now d)) }
+    ensures { IfOk result (λ vs. (d : ℕ) → d < DAYS →
+        values_at vs.items d ≡ map (part_of part) (shades_at lines.now d)) }
 {
     let mut parts = Vec::new(alloc);
     for line in lines {

@@ -30,7 +30,9 @@ pub fn span_shades(
     end: &Line<Shade>,
     x: &Line<Shade>,
 ) -> Result<Line<Shade>, NoMemory>
-    ensures { IfOk result (λ l. spans.has_span kind ≡ true → StandsFor DAYS (λ d. span_shade (spans.span_fold kind) (shade_at x.now) (shade_at start.now d) (shade_at end.now d)) l) }
+    ensures { IfOk result (λ l. spans.has_span kind ≡ true →
+        StandsFor DAYS (λ d. span_shade (spans.span_fold kind) (shade_at x.now) (shade_at start.now d)
+        (shade_at end.now d)) l) }
 {
     let first = part_line(alloc, Part::Value, start)?;
     let last = part_line(alloc, Part::Value, end)?;

@@ -16,7 +16,7 @@ use Rattle.opa_tree.proofs.DepthLaws as tree
 use Rattle.opa_tree.proofs.Folds.{fold-Const, fold-Attr, fold-All, fold-Any, fold-Not, fold-Op, fold-Certain, fold-Known, fold-Over, fold-Window, fold-Rolling, fold-Table, fold-of_row}
 use Rattle.opa_sentence.specs.Measures.{total, nodes_step, nodes_row, nodes}
 use Rattle.opa_sentence.specs.Rows.{row_nodes}
-use Rattle.opa_sentence.specs.declared.measure.TheConstants.{MOST_DEPTH, MOST_NODES}
+use Rattle.opa_io.specs.declared.limits.TheConstants.{MOST_DEPTH, MOST_NODES}
 
 told : (n : ℕ) → min (1 + n) (MOST_DEPTH + 1) ≡ min (1 + min n (MOST_DEPTH + 1)) (MOST_DEPTH + 1)
 told n = omega arith

@@ -4,7 +4,7 @@ use Rattle.opa_tree.specs.declared.expr.Expr.{Expr}
 use Rattle.opa_tree.specs.declared.expr.Expr.TheOpen.{Expr-F, Row-F, Const, Attr, All, Any, Not, Op, Certain, Known, Over, Window, Rolling, Table}
 use Rattle.opa_tree.specs.declared.expr.Expr.TheFolds.{fold-Expr}
 use Rattle.opa_sentence.specs.declared.measure.Measure.{Measure}
-use Rattle.opa_sentence.specs.declared.measure.TheConstants.{MOST_DEPTH, MOST_NODES, MOST_NESTING}
+use Rattle.opa_io.specs.declared.limits.TheConstants.{MOST_DEPTH, MOST_NODES, MOST_NESTING}
 
 -- ---- how many trees and rows a tree is made of
 

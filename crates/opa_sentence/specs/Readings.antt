@@ -16,7 +16,7 @@ use Rattle.opa_tree.specs.Trees.{depth}
 use Rattle.opa_sentence.specs.declared.functions.Function.{Function}
 use Rattle.opa_sentence.specs.declared.functions.Function.TheVariants as function
 use Rattle.opa_sentence.specs.declared.measure.Measure.{Measure}
-use Rattle.opa_sentence.specs.declared.measure.TheConstants.{MOST_TEXT}
+use Rattle.opa_io.specs.declared.limits.TheConstants.{MOST_TEXT}
 use Rattle.opa_sentence.specs.declared.names.Operand.{Operand}
 use Rattle.opa_sentence.specs.declared.names.Relation.{Relation}
 use Rattle.opa_sentence.specs.declared.names.Relation.TheVariants as relation

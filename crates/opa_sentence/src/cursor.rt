@@ -32,7 +32,8 @@ impl<'t> Cursor<'t> {
 
     /// The class and the text of the first token, and what follows it.
     pub fn first(self) -> Option<(Class, &'t str, Cursor<'t>)>
-        ensures { MatchOption result (seen self.entry ≡ []) (λ x. seen self.entry ≡ record { class = x.0; text = x.1.now } ∷ seen x.2) }
+        ensures { MatchOption result (seen self.entry ≡ [])
+            (λ x. seen self.entry ≡ record { class = x.0; text = x.1.now } ∷ seen x.2) }
     {
         match self.tokens {
             [] => None,

@@ -22,7 +22,7 @@ pub use class::{Class, class_of};
 pub use cursor::Cursor;
 pub use functions::{Argument, Function, argument_at};
 pub use laws::{measures_are_told, one_meaning, quoted_texts_are_read};
-pub use measure::{MOST_DEPTH, MOST_NESTING, MOST_NODES, MOST_TEXT, Measure};
+pub use measure::Measure;
 pub use names::{Member, Names, Operand, Relation};
 pub use reader::read;
 pub use reading::{Arguments, Parts, Reading};

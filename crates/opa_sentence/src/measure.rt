@@ -2,16 +2,7 @@
 ghost use Rattle.std.specs.Prelude.{◌≡◌, ◌+◌, ◌<◌, min};
 ghost use Rattle.opa_sentence.specs.Measures.{of_none, of_leaf, beside as beside_of, above as above_of, inside as inside_of, without_name as unnamed_of, fits as fits_in, capped};
 
-/// How deep a tree may be, and a line nested.
-pub const MOST_DEPTH: u32 = 64;
-
-pub const MOST_NESTING: u32 = 64;
-
-/// How many nodes all trees may have together.
-pub const MOST_NODES: u32 = 200_000;
-
-/// How many bytes a text may have.
-pub const MOST_TEXT: usize = 1000;
+use opa_io::limits::{MOST_DEPTH, MOST_NESTING, MOST_NODES};
 
 /// The depth and the nodes of a tree, the nesting of its text, whether all its operands and relations are declared, and
 /// whether all its texts are short enough. A number over its bound is told as the bound and one.

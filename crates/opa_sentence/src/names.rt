@@ -2,10 +2,10 @@
 ghost use Rattle.std.specs.Prelude.{◌≡◌, ◌+◌, min, IfOk};
 ghost use Rattle.opa_tree.specs.Trees.{depth as depth_of};
 ghost use Rattle.opa_sentence.specs.Measures.{nodes as nodes_of};
-ghost use Rattle.opa_sentence.specs.declared.measure.TheConstants.{MOST_DEPTH, MOST_NODES};
+ghost use Rattle.opa_io.specs.declared.limits.TheConstants.{MOST_DEPTH, MOST_NODES};
 
-use crate::measure::{MOST_DEPTH, MOST_NODES};
 use crate::sizes::{depth_of, nodes_of};
+use opa_io::limits::{MOST_DEPTH, MOST_NODES};
 use opa_io::{List, NoMemory};
 use opa_model::{AttrId, RelId};
 use opa_tree::Expr;

@@ -3,8 +3,8 @@ ghost use Rattle.std.specs.Prelude.{◌≡◌, IfOk};
 ghost use Rattle.opa_sentence.specs.Measures.{bounded, above as above_of};
 ghost use Rattle.opa_sentence.specs.Readings.{kept as kept_of, literal as literal_of, is_short as is_short_of, literal_measure, unnamed as unnamed_of, attribute as attribute_of, no_parts, with_tree as with_tree_of, with_part, one_part, nested, all as all_of, any as any_of, operation as operation_of, denial as denial_of, operand as operand_of, between as between_of};
 
-use crate::measure::MOST_TEXT;
 use crate::{Measure, Operand, Relation};
+use opa_io::limits::MOST_TEXT;
 use opa_io::{Boxed, List, NoMemory};
 use opa_model::AttrId;
 use opa_tree::{Expr, OpKind};

@@ -5,7 +5,8 @@ ghost use Rattle.opa_sentence.specs.Measures.{nodes, total};
 ghost use Rattle.opa_sentence.specs.Rows.{row_nodes};
 ghost use Rattle.opa_tree.specs.Trees.{row_depth};
 
-use crate::measure::{MOST_DEPTH, MOST_NODES, capped_to};
+use crate::measure::capped_to;
+use opa_io::limits::{MOST_DEPTH, MOST_NODES};
 use opa_tree::{Expr, Row};
 
 /// The depth, or one more than the most.

@@ -35,13 +35,17 @@ pub fn settle_answer<D: Derive, R: Readers, L: Ledger>(
     requires readers { AreReaders base.now next.now.case.now (R.readers readers.now) }
     requires current { AreCurrent base.now next.now.case.now (kept_of store.old) }
     requires empty { store.old.slots ≡ [] }
-    ensures settled { OnOk result (AreSettled (shift base.now next.now.case.now (case_with next.now)) (staged_of store.new)) }
-    ensures current { OnOk result (AreCurrent base.now (case_with next.now) (laid (kept_of store.new) (staged_of store.new))) }
+    ensures settled { OnOk result (AreSettled (shift base.now next.now.case.now (case_with next.now))
+        (staged_of store.new)) }
+    ensures current { OnOk result (AreCurrent base.now (case_with next.now)
+        (laid (kept_of store.new) (staged_of store.new))) }
     ensures readers { AreReaders base.now (case_with next.now) (R.readers readers.now) }
     ensures order { AreInOrder base.now store.new.slots }
     ensures kept { SameLines (kept_of store.old) (kept_of store.new) }
-    ensures dirty { OnOk result (length store.new.slots ≡ reached (shift base.now next.now.case.now (case_with next.now))) }
-    ensures counted { OnOk result (steps.new ≡ steps.old + reached (shift base.now next.now.case.now (case_with next.now))) }
+    ensures dirty { OnOk result (length store.new.slots ≡ reached
+        (shift base.now next.now.case.now (case_with next.now))) }
+    ensures counted { OnOk result (steps.new ≡ steps.old + reached
+        (shift base.now next.now.case.now (case_with next.now))) }
     ensures bound { steps.new ≤ steps.old + reached (shift base.now next.now.case.now (case_with next.now)) }
 {
     let tasks = start_answer(alloc, base, readers, next)?;

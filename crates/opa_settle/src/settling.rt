@@ -37,7 +37,8 @@ pub fn settle<D: Derive, N: Next, R: Readers, L: Ledger>(
     requires ranked { AreRanked base.now tasks }
     requires begun { IsBegun (shift base.now held.now (N.next next.now)) (slots_of tasks) }
     ensures settled { OnOk result (AreSettled (shift base.now held.now (N.next next.now)) (staged_of store.new)) }
-    ensures current { OnOk result (AreCurrent base.now (N.next next.now) (laid_over (N.next next.now) (kept_of store.new) (staged_of store.new))) }
+    ensures current { OnOk result (AreCurrent base.now (N.next next.now)
+        (laid_over (N.next next.now) (kept_of store.new) (staged_of store.new))) }
     ensures order { AreInOrder base.now store.new.slots }
     ensures kept { SameLines (kept_of store.old) (kept_of store.new) }
     ensures dirty { OnOk result (length store.new.slots ≡ reached (shift base.now held.now (N.next next.now))) }

@@ -73,7 +73,8 @@ pub fn start_answer<R: Readers>(
     requires after { IsOf base.now (case_with next.now) }
     requires unruled { is_some (rule_of base.now.rules next.now.attr) ≡ false }
     requires readers { AreReaders base.now next.now.case.now (R.readers readers.now) }
-    ensures begun { IfOk result (λ tasks. IsBegun (shift base.now next.now.case.now (case_with next.now)) (slots_of tasks)) }
+    ensures begun { IfOk result (λ tasks. IsBegun (shift base.now next.now.case.now (case_with next.now))
+        (slots_of tasks)) }
     ensures ranked { IfOk result (AreRanked base.now) }
 {
     let mut tasks = Tasks::new(alloc);

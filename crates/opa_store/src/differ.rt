@@ -17,7 +17,8 @@ pub fn lines_differ(
     old: Option<&Line<Value>>,
     new: Option<&Line<Value>>,
 ) -> Result<bool, NoMemory>
-    ensures { IfOk result (λ differ. differ ≡ is_some (first_difference DAYS (line_value (option_copied old.entry)) (line_value (option_copied new.entry)))) }
+    ensures { IfOk result (λ differ. differ ≡ is_some
+        (first_difference DAYS (line_value (option_copied old.entry)) (line_value (option_copied new.entry)))) }
 {
     match old {
         Some(old) => differs_from(alloc, old, new),

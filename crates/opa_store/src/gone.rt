@@ -30,7 +30,8 @@ impl Store {
     /// Takes out the lines of what isn't live in a case. It takes no memory.
     pub fn keep_live<N: Next>(&mut self, next: &N)
         requires { self.old.slots ≡ [] }
-        ensures kept { (a : Attr) (i : Instance) → kept_of self.new a i ≡ cond (is_live (N.next next.now).live i) (kept_of self.old a i) None }
+        ensures kept { (a : Attr) (i : Instance) →
+            kept_of self.new a i ≡ cond (is_live (N.next next.now).live i) (kept_of self.old a i) None }
         ensures staged { self.new.slots ≡ [] }
     {
         self.entries.retain(&Living { next });

@@ -108,9 +108,12 @@ impl Store {
         next: &N,
         steps: &mut Steps<L>,
     ) -> Result<bool, NoMemory>
-        requires may { MayDerive (base_of (D.stands_for code.now)) (laid_look (N.next next.now) (kept_of self.old) (staged_of self.old)) slot.attr slot.inst }
+        requires may { MayDerive (base_of (D.stands_for code.now))
+            (laid_look (N.next next.now) (kept_of self.old) (staged_of self.old)) slot.attr slot.inst }
         requires once { is_some (staged_of self.old slot.attr slot.inst) ≡ false }
-        ensures derived { IfOk result (λ differs. (line : Answer) × StandsFor DAYS (derived (base_of (D.stands_for code.now)) (laid_look (N.next next.now) (kept_of self.old) (staged_of self.old)) slot.attr slot.inst) line
+        ensures derived { IfOk result (λ differs. (line : Answer) ×
+            StandsFor DAYS (derived (base_of (D.stands_for code.now))
+            (laid_look (N.next next.now) (kept_of self.old) (staged_of self.old)) slot.attr slot.inst) line
             × Stages (staged_of self.old) (staged_of self.new) slot.attr slot.inst line × (differs ≡ is_line_changed (kept_of self.old) slot.attr slot.inst line)) }
         ensures kept { SameLines (kept_of self.old) (kept_of self.new) }
         ensures slots { OnOk result (self.new.slots ≡ self.old.slots ++ slot ∷ []) }

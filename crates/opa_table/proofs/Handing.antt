@@ -25,7 +25,7 @@ use Rattle.opa_sentence.specs.Measures.{bounded, fits}
 use Rattle.opa_sentence.specs.Readings as says
 use Rattle.opa_parse.specs.declared.block.RuleBlock.{RuleBlock}
 use Rattle.opa_parse.specs.declared.block.Statement.{Statement}
-use Rattle.opa_parse.specs.declared.block.TheConstants.{MOST_RULES}
+use Rattle.opa_io.specs.declared.limits.TheConstants.{MOST_RULES}
 use Rattle.opa_parse.specs.declared.group.Cases.{Cases}
 use Rattle.opa_parse.specs.Handed.{AreFormed, AreDeclared}
 use Rattle.opa_parse.specs.Naming.{names_in}

@@ -11,7 +11,7 @@ use Rattle.opa_tree.specs.Accepted.{HaveForm, AreShallow}
 use Rattle.opa_tree.specs.Trees.{HasForm, IsShallow}
 use Rattle.opa_sentence.specs.declared.names.Names.{Names}
 use Rattle.opa_parse.specs.declared.block.RuleBlock.{RuleBlock}
-use Rattle.opa_parse.specs.declared.block.TheConstants.{MOST_RULES}
+use Rattle.opa_io.specs.declared.limits.TheConstants.{MOST_RULES}
 use Rattle.opa_parse.specs.declared.rules.Taken.{Taken}
 use Rattle.opa_parse.specs.Handed.{AreFormed, AreDeclared}
 use Rattle.opa_parse.specs.Naming.{names_in}

@@ -104,7 +104,8 @@ pub fn read_table(
     csv_bytes: &[u8],
 ) -> Result<Vec<Rule>, RbError>
     ensures rules { IfOk result (λ v. AreTableRules model.now inferences.now file csv_bytes.now v.items) }
-    ensures refused { IfErr result (λ e. (fault : FaultView) → e ≡ Refused fault → IsTableRefused model.now inferences.now file csv_bytes.now fault) }
+    ensures refused { IfErr result (λ e. (fault : FaultView) → e ≡ Refused fault →
+        IsTableRefused model.now inferences.now file csv_bytes.now fault) }
     // What is asked of rules that are checked, and of a rulebase.
     ensures formed { IfOk result (λ v. AreFormed inferences.now → HaveForm v.items) }
     ensures shallow { IfOk result (λ v. AreFormed inferences.now → AreShallow v.items) }

@@ -60,7 +60,8 @@ pub fn read_all_rules(
 ) -> Result<Rules, RbError>
     requires short { All (λ b. AreShort b.lines) blocks.now }
     ensures rules { IfOk result (AreAllRules model.now inferences.now blocks.now tables.now) }
-    ensures refused { IfErr result (λ e. (fault : FaultView) → e ≡ Refused fault → AreAllRefused model.now inferences.now blocks.now tables.now fault) }
+    ensures refused { IfErr result (λ e. (fault : FaultView) → e ≡ Refused fault →
+        AreAllRefused model.now inferences.now blocks.now tables.now fault) }
     // What is asked of rules that are checked, and of a rulebase.
     ensures formed { IfOk result (λ rules. AreFormed inferences.now → HaveForm rules) }
     ensures shallow { IfOk result (λ rules. AreFormed inferences.now → AreShallow rules) }

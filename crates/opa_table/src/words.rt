@@ -56,7 +56,8 @@ fn cut(alloc: Global, text: &str) -> Result<Option<Vec<Token>>, NoMemory>
 
 /// The words of a cell, or none where it isn't cut.
 pub fn words_of<'t>(alloc: Global, cell: &'t [u8]) -> Result<Option<Words<'t>>, NoMemory>
-    ensures { IfOk result (λ o. MatchOption o ((ws : Seq Lexeme) → IsCell cell.now ws → ⊥) (λ w. IsCell cell.now (lexemes w.text.now w.tokens.items))) }
+    ensures { IfOk result (λ o. MatchOption o ((ws : Seq Lexeme) → IsCell cell.now ws → ⊥)
+        (λ w. IsCell cell.now (lexemes w.text.now w.tokens.items))) }
 {
     match text_of(cell) {
         None => Ok(None),

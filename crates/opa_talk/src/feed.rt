@@ -1,6 +1,7 @@
 // A talk over its input: piece after piece is read, and each line is carried out.
 ghost use Rattle.std.specs.Prelude.{◌≡◌, ◌<◌, ◌≤◌, ◌^◌, [], length, map, vec_len, IfOk, OnOk, OnErr, IfErr};
 ghost use Rattle.std.specs.Io.KnownBytes.{Keeps};
+ghost use Rattle.opa_io.specs.declared.limits.TheConstants.{MOST_INPUT};
 ghost use Rattle.opa_io.specs.Outside.{Reads, HasCause};
 ghost use Rattle.opa_listen.specs.Hearing.{hearer};
 ghost use Rattle.opa_talk.specs.Halt.{IsCause};
@@ -12,13 +13,11 @@ ghost use Rattle.opa_talk.specs.Points.{point_of, fresh_point, Probes, TakesTurn
 use crate::halt::Halt;
 use crate::replier::Replier;
 use crate::talk::{Pending, ask, finish, take_piece};
+use opa_io::limits::MOST_INPUT;
 use opa_io::{Failed, Shelf, Sink, Source, Steps};
 use opa_listen::Listener;
 use std::alloc::{AllocError, Global};
 use std::sync::ledger::Ledger;
-
-/// How many bytes an input may have.
-const LIMIT: usize = 67_108_864;
 
 /// How many bytes are read at once.
 const PIECE: usize = 65_536;
@@ -112,15 +111,15 @@ fn take_lines<T: Replier, F: Shelf, S: Source, K: Sink, L: Ledger>(
     requires going { IsGoing T.rule (T.held replier.old (map (λ l. hearer (state l)) listeners.old.items) (F.files shelf.old) steps.old) }
     requires part { IsPart pending.old.bytes.items }
     requires room { 0 < vec_len buf.old }
-    ensures ok { IfOk result (TakesLines T.rule (point_of (T.held replier.old (map (λ l. hearer (state l)) listeners.old.items) (F.files shelf.old) steps.old) pending.old) (point_of (T.held replier.new (map (λ l. hearer (state l)) listeners.new.items) (F.files shelf.new) steps.new) pending.new) LIMIT (S.left input.old) (S.left input.new) (K.written out.old) (K.written out.new)) }
-    ensures err { IfErr result (BreaksPart T.rule (MayLeave (F.keep_faults shelf.old) (F.keep_faults shelf.new) T.Stops T.Lacks) (point_of (T.held replier.old (map (λ l. hearer (state l)) listeners.old.items) (F.files shelf.old) steps.old) pending.old) (point_of (T.held replier.new (map (λ l. hearer (state l)) listeners.new.items) (F.files shelf.new) steps.new) pending.new) LIMIT (S.left input.old) (S.left input.new) (K.written out.old) (K.written out.new)) }
+    ensures ok { IfOk result (TakesLines T.rule (point_of (T.held replier.old (map (λ l. hearer (state l)) listeners.old.items) (F.files shelf.old) steps.old) pending.old) (point_of (T.held replier.new (map (λ l. hearer (state l)) listeners.new.items) (F.files shelf.new) steps.new) pending.new) MOST_INPUT (S.left input.old) (S.left input.new) (K.written out.old) (K.written out.new)) }
+    ensures err { IfErr result (BreaksPart T.rule (MayLeave (F.keep_faults shelf.old) (F.keep_faults shelf.new) T.Stops T.Lacks) (point_of (T.held replier.old (map (λ l. hearer (state l)) listeners.old.items) (F.files shelf.old) steps.old) pending.old) (point_of (T.held replier.new (map (λ l. hearer (state l)) listeners.new.items) (F.files shelf.new) steps.new) pending.new) MOST_INPUT (S.left input.old) (S.left input.new) (K.written out.old) (K.written out.new)) }
     ensures cause { IfErr result (IsCause (F.take_faults shelf.old) (F.take_faults shelf.new) (F.keep_faults shelf.old) (F.keep_faults shelf.new) (K.faults out.old) (K.faults out.new) (S.faults input.old) (S.faults input.new)) }
     ensures later_input { S.faults input.old ≤ S.faults input.new }
     ensures later { K.faults out.old ≤ K.faults out.new }
     ensures later_take { F.take_faults shelf.old ≤ F.take_faults shelf.new }
     ensures later_keep { F.keep_faults shelf.old ≤ F.keep_faults shelf.new }
 {
-    let mut left = LIMIT;
+    let mut left = MOST_INPUT;
     while left > 0 {
         buf.truncate(left);
         match take_turn(
@@ -166,8 +165,8 @@ fn go_on<T: Replier, F: Shelf, S: Source, K: Sink, L: Ledger>(
     requires going { IsGoing T.rule (T.held replier.old (map (λ l. hearer (state l)) listeners.old.items) (F.files shelf.old) steps.old) }
     requires part { IsPart pending.old.bytes.items }
     requires room { 0 < vec_len buf.old }
-    ensures ok { OnOk result (Feeds T.rule (point_of (T.held replier.old (map (λ l. hearer (state l)) listeners.old.items) (F.files shelf.old) steps.old) pending.old) (T.held replier.new (map (λ l. hearer (state l)) listeners.new.items) (F.files shelf.new) steps.new) LIMIT (S.left input.old) (S.left input.new) (K.written out.old) (K.written out.new)) }
-    ensures err { IfErr result (FeedBreaks T.rule (MayLeave (F.keep_faults shelf.old) (F.keep_faults shelf.new) T.Stops T.Lacks) (point_of (T.held replier.old (map (λ l. hearer (state l)) listeners.old.items) (F.files shelf.old) steps.old) pending.old) (point_of (T.held replier.new (map (λ l. hearer (state l)) listeners.new.items) (F.files shelf.new) steps.new) pending.new) LIMIT (S.left input.old) (S.left input.new) (K.written out.old) (K.written out.new)) }
+    ensures ok { OnOk result (Feeds T.rule (point_of (T.held replier.old (map (λ l. hearer (state l)) listeners.old.items) (F.files shelf.old) steps.old) pending.old) (T.held replier.new (map (λ l. hearer (state l)) listeners.new.items) (F.files shelf.new) steps.new) MOST_INPUT (S.left input.old) (S.left input.new) (K.written out.old) (K.written out.new)) }
+    ensures err { IfErr result (FeedBreaks T.rule (MayLeave (F.keep_faults shelf.old) (F.keep_faults shelf.new) T.Stops T.Lacks) (point_of (T.held replier.old (map (λ l. hearer (state l)) listeners.old.items) (F.files shelf.old) steps.old) pending.old) (point_of (T.held replier.new (map (λ l. hearer (state l)) listeners.new.items) (F.files shelf.new) steps.new) pending.new) MOST_INPUT (S.left input.old) (S.left input.new) (K.written out.old) (K.written out.new)) }
     ensures cause { IfErr result (IsCause (F.take_faults shelf.old) (F.take_faults shelf.new) (F.keep_faults shelf.old) (F.keep_faults shelf.new) (K.faults out.old) (K.faults out.new) (S.faults input.old) (S.faults input.new)) }
     ensures later_input { S.faults input.old ≤ S.faults input.new }
     ensures later { K.faults out.old ≤ K.faults out.new }
@@ -204,9 +203,18 @@ pub fn converse<T: Replier, F: Shelf, S: Source, K: Sink, L: Ledger>(
     out: &mut K,
 ) -> Result<(), Halt>
     requires fewer { length listeners.old.items < 2 ^ 64 }
-    ensures ok { OnOk result (Converses T.rule (T.held replier.old (map (λ l. hearer (state l)) listeners.old.items) (F.files shelf.old) steps.old) (T.held replier.new (map (λ l. hearer (state l)) listeners.new.items) (F.files shelf.new) steps.new) LIMIT (S.left input.old) (S.left input.new) (K.written out.old) (K.written out.new)) }
-    ensures err { IfErr result (Halts T.rule (MayLeave (F.keep_faults shelf.old) (F.keep_faults shelf.new) T.Stops T.Lacks) (T.held replier.old (map (λ l. hearer (state l)) listeners.old.items) (F.files shelf.old) steps.old) (T.held replier.new (map (λ l. hearer (state l)) listeners.new.items) (F.files shelf.new) steps.new) LIMIT (S.left input.old) (S.left input.new) (K.written out.old) (K.written out.new)) }
-    ensures cause { IfErr result (IsCause (F.take_faults shelf.old) (F.take_faults shelf.new) (F.keep_faults shelf.old) (F.keep_faults shelf.new) (K.faults out.old) (K.faults out.new) (S.faults input.old) (S.faults input.new)) }
+    ensures ok { OnOk result (Converses T.rule
+        (T.held replier.old (map (λ l. hearer (state l)) listeners.old.items) (F.files shelf.old) steps.old)
+        (T.held replier.new (map (λ l. hearer (state l)) listeners.new.items) (F.files shelf.new) steps.new) MOST_INPUT
+        (S.left input.old) (S.left input.new) (K.written out.old) (K.written out.new)) }
+    ensures err { IfErr result (Halts T.rule
+        (MayLeave (F.keep_faults shelf.old) (F.keep_faults shelf.new) T.Stops T.Lacks)
+        (T.held replier.old (map (λ l. hearer (state l)) listeners.old.items) (F.files shelf.old) steps.old)
+        (T.held replier.new (map (λ l. hearer (state l)) listeners.new.items) (F.files shelf.new) steps.new) MOST_INPUT
+        (S.left input.old) (S.left input.new) (K.written out.old) (K.written out.new)) }
+    ensures cause { IfErr result (IsCause (F.take_faults shelf.old) (F.take_faults shelf.new)
+        (F.keep_faults shelf.old) (F.keep_faults shelf.new) (K.faults out.old) (K.faults out.new)
+        (S.faults input.old) (S.faults input.new)) }
     ensures later_input { S.faults input.old ≤ S.faults input.new }
     ensures later { K.faults out.old ≤ K.faults out.new }
     ensures later_take { F.take_faults shelf.old ≤ F.take_faults shelf.new }

@@ -63,8 +63,12 @@ pub fn ask<T: Replier, F: Shelf, K: Sink, L: Ledger>(
     steps: &Steps<L>,
     out: &mut K,
 ) -> Result<bool, Halt>
-    ensures ok { IfOk result (λ over. Asks T.rule (T.held replier.now (map (λ l. hearer (state l)) listeners.now.items) (F.files shelf.now) steps.now) over (K.written out.old) (K.written out.new)) }
-    ensures err { OnErr result (AppendsFront (K.written out.old) (K.written out.new) (T.rule.prompt (T.held replier.now (map (λ l. hearer (state l)) listeners.now.items) (F.files shelf.now) steps.now))) }
+    ensures ok { IfOk result (λ over. Asks T.rule
+        (T.held replier.now (map (λ l. hearer (state l)) listeners.now.items) (F.files shelf.now) steps.now) over
+        (K.written out.old) (K.written out.new)) }
+    ensures err { OnErr result (AppendsFront (K.written out.old) (K.written out.new)
+        (T.rule.prompt (T.held replier.now (map (λ l. hearer (state l)) listeners.now.items)
+        (F.files shelf.now) steps.now))) }
     ensures cause { IfErr result (λ halt. IsLineCause 0 0 0 0 (K.faults out.old) (K.faults out.new) halt) }
     ensures later { K.faults out.old ≤ K.faults out.new }
 {
@@ -137,11 +141,22 @@ pub fn take_piece<T: Replier, F: Shelf, K: Sink, L: Ledger>(
     piece: &[u8],
     out: &mut K,
 ) -> Result<bool, Halt>
-    requires going { IsGoing T.rule (T.held replier.old (map (λ l. hearer (state l)) listeners.old.items) (F.files shelf.old) steps.old) }
+    requires going { IsGoing T.rule (T.held replier.old (map (λ l. hearer (state l)) listeners.old.items)
+        (F.files shelf.old) steps.old) }
     requires part { IsPart pending.old.bytes.items }
-    ensures ok { IfOk result (TakesPiece T.rule (point_of (T.held replier.old (map (λ l. hearer (state l)) listeners.old.items) (F.files shelf.old) steps.old) pending.old) (point_of (T.held replier.new (map (λ l. hearer (state l)) listeners.new.items) (F.files shelf.new) steps.new) pending.new) piece.now (K.written out.old) (K.written out.new)) }
-    ensures err { OnErr result (BreaksWithin T.rule (MayLeave (F.keep_faults shelf.old) (F.keep_faults shelf.new) T.Stops T.Lacks) (point_of (T.held replier.old (map (λ l. hearer (state l)) listeners.old.items) (F.files shelf.old) steps.old) pending.old) (T.held replier.new (map (λ l. hearer (state l)) listeners.new.items) (F.files shelf.new) steps.new) piece.now (K.written out.old) (K.written out.new)) }
-    ensures cause { IfErr result (IsLineCause (F.take_faults shelf.old) (F.take_faults shelf.new) (F.keep_faults shelf.old) (F.keep_faults shelf.new) (K.faults out.old) (K.faults out.new)) }
+    ensures ok { IfOk result (TakesPiece T.rule
+        (point_of (T.held replier.old (map (λ l. hearer (state l)) listeners.old.items)
+        (F.files shelf.old) steps.old) pending.old)
+        (point_of (T.held replier.new (map (λ l. hearer (state l)) listeners.new.items)
+        (F.files shelf.new) steps.new) pending.new) piece.now (K.written out.old) (K.written out.new)) }
+    ensures err { OnErr result (BreaksWithin T.rule
+        (MayLeave (F.keep_faults shelf.old) (F.keep_faults shelf.new) T.Stops T.Lacks)
+        (point_of (T.held replier.old (map (λ l. hearer (state l)) listeners.old.items)
+        (F.files shelf.old) steps.old) pending.old)
+        (T.held replier.new (map (λ l. hearer (state l)) listeners.new.items) (F.files shelf.new) steps.new)
+        piece.now (K.written out.old) (K.written out.new)) }
+    ensures cause { IfErr result (IsLineCause (F.take_faults shelf.old) (F.take_faults shelf.new)
+        (F.keep_faults shelf.old) (F.keep_faults shelf.new) (K.faults out.old) (K.faults out.new)) }
     ensures later { K.faults out.old ≤ K.faults out.new }
     ensures later_take { F.take_faults shelf.old ≤ F.take_faults shelf.new }
     ensures later_keep { F.keep_faults shelf.old ≤ F.keep_faults shelf.new }
@@ -168,11 +183,22 @@ pub fn finish<T: Replier, F: Shelf, K: Sink, L: Ledger>(
     pending: &Pending,
     out: &mut K,
 ) -> Result<(), Halt>
-    requires going { IsGoing T.rule (T.held replier.old (map (λ l. hearer (state l)) listeners.old.items) (F.files shelf.old) steps.old) }
+    requires going { IsGoing T.rule (T.held replier.old (map (λ l. hearer (state l)) listeners.old.items)
+        (F.files shelf.old) steps.old) }
     requires part { IsPart pending.now.bytes.items }
-    ensures ok { OnOk result (Finishes T.rule (point_of (T.held replier.old (map (λ l. hearer (state l)) listeners.old.items) (F.files shelf.old) steps.old) pending.now) (T.held replier.new (map (λ l. hearer (state l)) listeners.new.items) (F.files shelf.new) steps.new) (K.written out.old) (K.written out.new)) }
-    ensures err { OnErr result (Breaks T.rule (MayLeave (F.keep_faults shelf.old) (F.keep_faults shelf.new) T.Stops T.Lacks) (point_of (T.held replier.old (map (λ l. hearer (state l)) listeners.old.items) (F.files shelf.old) steps.old) pending.now) (T.held replier.new (map (λ l. hearer (state l)) listeners.new.items) (F.files shelf.new) steps.new) pending.now.bytes.items (K.written out.old) (K.written out.new)) }
-    ensures cause { IfErr result (IsLineCause (F.take_faults shelf.old) (F.take_faults shelf.new) (F.keep_faults shelf.old) (F.keep_faults shelf.new) (K.faults out.old) (K.faults out.new)) }
+    ensures ok { OnOk result (Finishes T.rule
+        (point_of (T.held replier.old (map (λ l. hearer (state l)) listeners.old.items)
+        (F.files shelf.old) steps.old) pending.now)
+        (T.held replier.new (map (λ l. hearer (state l)) listeners.new.items) (F.files shelf.new) steps.new)
+        (K.written out.old) (K.written out.new)) }
+    ensures err { OnErr result (Breaks T.rule
+        (MayLeave (F.keep_faults shelf.old) (F.keep_faults shelf.new) T.Stops T.Lacks)
+        (point_of (T.held replier.old (map (λ l. hearer (state l)) listeners.old.items)
+        (F.files shelf.old) steps.old) pending.now)
+        (T.held replier.new (map (λ l. hearer (state l)) listeners.new.items) (F.files shelf.new) steps.new)
+        pending.now.bytes.items (K.written out.old) (K.written out.new)) }
+    ensures cause { IfErr result (IsLineCause (F.take_faults shelf.old) (F.take_faults shelf.new)
+        (F.keep_faults shelf.old) (F.keep_faults shelf.new) (K.faults out.old) (K.faults out.new)) }
     ensures later { K.faults out.old ≤ K.faults out.new }
     ensures later_take { F.take_faults shelf.old ≤ F.take_faults shelf.new }
     ensures later_keep { F.keep_faults shelf.old ≤ F.keep_faults shelf.new }

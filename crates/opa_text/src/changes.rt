@@ -18,7 +18,8 @@ use std::alloc::Global;
 /// The line that these tokens say, all of them: `VALUE; from DATE VALUE; ..`.
 pub fn line_of(alloc: Global, pieces: Pieces<'_>) -> Result<Option<Line<Value>>, NoMemory>
     requires { AreOfKind pieces }
-    ensures line { IfOk result (λ r. MatchOption r ((l : List (ℕ × Value)) → SpellsLine l (seen pieces.entry) → ⊥) (λ l. SpellsLine l (seen pieces.entry))) }
+    ensures line { IfOk result (λ r. MatchOption r ((l : List (ℕ × Value)) → SpellsLine l (seen pieces.entry) → ⊥)
+        (λ l. SpellsLine l (seen pieces.entry))) }
     ensures days { IfOk result (λ r. IfSome r HasDays) }
 {
     match pairs_of(alloc, pieces)? {
@@ -54,7 +55,9 @@ pub fn first_value<'t>(
     pieces: Pieces<'t>,
 ) -> Result<Option<(Value, Pieces<'t>)>, NoMemory>
     requires { AreOfKind pieces }
-    ensures value { IfOk result (λ r. MatchOption r ((v : Value) (rest : List Piece) → SpellsValue v (seen pieces.entry) rest → ⊥) (λ x. SpellsValue x.0 (seen pieces.entry) (seen x.1))) }
+    ensures value { IfOk result (λ r. MatchOption r
+        ((v : Value) (rest : List Piece) → SpellsValue v (seen pieces.entry) rest → ⊥)
+        (λ x. SpellsValue x.0 (seen pieces.entry) (seen x.1))) }
     ensures days { IfOk result (λ r. IfSome r (λ x. IsOfCalendar x.0)) }
     ensures later { IfOk result (λ r. IfSome r (λ x. AreOfKind x.1)) }
 {
@@ -64,7 +67,8 @@ pub fn first_value<'t>(
 /// The day at the front, and what follows it.
 pub fn first_day<'t>(pieces: Pieces<'t>) -> Option<(u32, Pieces<'t>)>
     requires { AreOfKind pieces }
-    ensures day { MatchOption result ((d : ℕ) (rest : List Piece) → SpellsDay d (seen pieces.entry) rest → ⊥) (λ x. SpellsDay x.0 (seen pieces.entry) (seen x.1)) }
+    ensures day { MatchOption result ((d : ℕ) (rest : List Piece) → SpellsDay d (seen pieces.entry) rest → ⊥)
+        (λ x. SpellsDay x.0 (seen pieces.entry) (seen x.1)) }
     ensures bound { IfSome result (λ x. x.0 < DAYS) }
     ensures later { IfSome result (λ x. AreOfKind x.1) }
 {

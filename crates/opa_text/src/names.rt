@@ -51,7 +51,8 @@ fn more_names(alloc: Global, names: &[Txt]) -> Result<Txt, NoMemory>
 /// The names that these tokens say, all of them: `none`, or names between quotes with commas between them.
 pub fn names_of(alloc: Global, pieces: Pieces<'_>) -> Result<Option<List<Txt>>, NoMemory>
     requires { AreOfKind pieces }
-    ensures { IfOk result (λ r. MatchOption r ((ns : Seq (Seq ℕ)) → SpellsNames ns (seen pieces.entry) → ⊥) (λ ns. SpellsNames ns (seen pieces.entry))) }
+    ensures { IfOk result (λ r. MatchOption r ((ns : Seq (Seq ℕ)) → SpellsNames ns (seen pieces.entry) → ⊥)
+        (λ ns. SpellsNames ns (seen pieces.entry))) }
 {
     if is_only("none", pieces) {
         return Ok(Some(List::new(alloc)));
@@ -68,7 +69,9 @@ pub fn first_name<'t>(
     pieces: Pieces<'t>,
 ) -> Result<Option<(Txt, Pieces<'t>)>, NoMemory>
     requires { AreOfKind pieces }
-    ensures name { IfOk result (λ r. MatchOption r ((n : Seq ℕ) (rest : Seq Piece) → seen pieces.entry ≡ text n ∷ rest → ⊥) (λ x. seen pieces.entry ≡ text x.0 ∷ seen x.1)) }
+    ensures name { IfOk result (λ r. MatchOption r
+        ((n : Seq ℕ) (rest : Seq Piece) → seen pieces.entry ≡ text n ∷ rest → ⊥)
+        (λ x. seen pieces.entry ≡ text x.0 ∷ seen x.1)) }
     ensures later { IfOk result (λ r. IfSome r (λ x. AreOfKind x.1)) }
 {
     name_at(alloc, pieces)

@@ -59,7 +59,9 @@ fn before_name<'t>(pieces: Pieces<'t>) -> Option<(Pieces<'t>, &'t str)>
 /// What stands before `at` and a date.
 pub fn before_date<'t>(pieces: Pieces<'t>) -> Option<(Pieces<'t>, &'t str)>
     requires { AreOfKind pieces }
-    ensures ends { MatchOption result ((front : List Piece) (t : List ℕ) → EndsWith (codes "at") kinds.Date t front (seen pieces.entry) → ⊥) (λ x. EndsWith (codes "at") kinds.Date x.1.now (seen x.0) (seen pieces.entry)) }
+    ensures ends { MatchOption result ((front : List Piece) (t : List ℕ) →
+        EndsWith (codes "at") kinds.Date t front (seen pieces.entry) → ⊥)
+        (λ x. EndsWith (codes "at") kinds.Date x.1.now (seen x.0) (seen pieces.entry)) }
     ensures before { IfSome result (λ x. AreOfKind x.0) }
 {
     let (front, kind, text) = ends_with("at", pieces)?;
@@ -115,7 +117,8 @@ fn are_words(start: Pieces<'_>) -> bool
 /// The point that these tokens are, all of them.
 pub fn point_of(alloc: Global, pieces: Pieces<'_>) -> Result<Option<Point>, NoMemory>
     requires { AreOfKind pieces }
-    ensures { IfOk result (λ r. MatchOption r ((p : Place) → SpellsPoint p (seen pieces.entry) → ⊥) (λ p. SpellsPoint p (seen pieces.entry))) }
+    ensures { IfOk result (λ r. MatchOption r ((p : Place) → SpellsPoint p (seen pieces.entry) → ⊥)
+        (λ p. SpellsPoint p (seen pieces.entry))) }
 {
     match before_name(pieces) {
         None => plain_point(alloc, pieces),
@@ -184,7 +187,9 @@ pub fn first_point<'t>(
     pieces: Pieces<'t>,
 ) -> Result<Option<(Point, Pieces<'t>)>, NoMemory>
     requires { AreOfKind pieces }
-    ensures point { IfOk result (λ r. MatchOption r ((p : Place) (rest : List Piece) → SpellsFirst p (seen pieces.entry) rest → ⊥) (λ x. SpellsFirst x.0 (seen pieces.entry) (seen x.1))) }
+    ensures point { IfOk result (λ r. MatchOption r
+        ((p : Place) (rest : List Piece) → SpellsFirst p (seen pieces.entry) rest → ⊥)
+        (λ x. SpellsFirst x.0 (seen pieces.entry) (seen x.1))) }
     ensures later { IfOk result (λ r. IfSome r (λ x. AreOfKind x.1)) }
 {
     let (front, rest) = pieces.split(point_end(pieces));

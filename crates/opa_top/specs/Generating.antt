@@ -9,6 +9,7 @@ use Rattle.opa_script.specs.Examples.{rules_text, input_text}
 use Rattle.opa_value.specs.NumberText.{read_number}
 use Rattle.opa_top.specs.Checking.{IsTold}
 use Rattle.opa_top.specs.Running.{Outside, IsUnused, Runs, a_run}
+use Rattle.opa_io.specs.declared.limits.TheConstants.{MOST_PEOPLE}
 
 -- the whole number that a text says
 abbrev pub SaysNumber : ℕ → List ℕ → Type 0
@@ -16,7 +17,7 @@ SaysNumber n text = read_number text ≡ Ok (pos (n * 10000))
 
 -- so many people aren't generated
 abbrev pub IsOutOfRange : ℕ → Type 0
-IsOutOfRange n = (n < 1) ⊎ (1000 < n)
+IsOutOfRange n = (n < 1) ⊎ (MOST_PEOPLE < n)
 
 abbrev pub refused_number : List ℕ
 refused_number = codes "refused: number" ++ 10 ∷ []
@@ -57,11 +58,11 @@ Generates n old new result =
 -- A number out of range is refused; for another so many people are generated.
 pub record IsGenerated (number : List ℕ) (old new : Outside) (result : Status) : Type 0 where
   pub refuses : (n : ℕ) → SaysNumber n number → IsOutOfRange n → RunsOut old new result ⊎ (IsTold status.Refused refused_number old.written new.written old.writes new.writes result × IsUnused old new)
-  pub talks : (n : ℕ) → SaysNumber n number → 1 ≤ n → n ≤ 1000 → Generates n old new result
+  pub talks : (n : ℕ) → SaysNumber n number → 1 ≤ n → n ≤ MOST_PEOPLE → Generates n old new result
 
 -- the number is in range, or it isn't
 abbrev pub IsSize : List ℕ → ℕ → Type 0
-IsSize number size = (1 ≤ size) × (size ≤ 1000) × ((n : ℕ) → SaysNumber n number → n ≡ size)
+IsSize number size = (1 ≤ size) × (size ≤ MOST_PEOPLE) × ((n : ℕ) → SaysNumber n number → n ≡ size)
 
 abbrev pub IsNoSize : List ℕ → Type 0
 IsNoSize number = (n : ℕ) → SaysNumber n number → IsOutOfRange n

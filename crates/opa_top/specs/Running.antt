@@ -17,10 +17,11 @@ use Rattle.opa_reply.specs.Held.{Held, at_first}
 use Rattle.opa_reply.specs.Interviews.{interview, LacksAsked, StopsAsked}
 use Rattle.opa_reply.specs.Replies.{conversation, Lacks, Stops}
 use Rattle.opa_top.specs.Checking.{IsOpened, IsTold}
+use Rattle.opa_io.specs.declared.limits.TheConstants.{MOST_INPUT}
 
 -- how many bytes an input may have
 abbrev pub MOST : ℕ
-MOST = 67108864
+MOST = MOST_INPUT
 
 -- What is told of the outside: the files of the shelf, the bytes that are left of the input, those that were written, what
 -- listeners watch and keep, the counts of faults of taking and keeping files, of reading and of writing, and the count of steps.

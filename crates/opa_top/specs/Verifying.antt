@@ -10,6 +10,7 @@ use Rattle.opa_proof.specs.declared.verdict.Verdict.{Verdict}
 use Rattle.opa_proof.specs.declared.verdict.Verdict.TheVariants as verdict
 use Rattle.opa_tree.specs.declared.rulebase.Rulebase.{Rulebase}
 use Rattle.opa_top.specs.Checking.{IsOpened, IsTold}
+use Rattle.opa_io.specs.declared.limits.TheConstants.{MOST_REPORT}
 
 -- what is told where there is no report to judge: its form breaks at line 0
 abbrev pub no_report : List ℕ
@@ -17,7 +18,7 @@ no_report = codes "refused: report 1 0" ++ 10 ∷ []
 
 -- how many bytes a report may have
 abbrev pub REPORT_MOST : ℕ
-REPORT_MOST = 67108864
+REPORT_MOST = MOST_REPORT
 
 -- no file has this name, where files are told
 abbrev pub IsNoFile : Option Files → List ℕ → Type 0

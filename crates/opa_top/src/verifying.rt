@@ -3,14 +3,12 @@ ghost use Rattle.std.specs.Prelude.{◌≡◌, ◌≤◌};
 ghost use Rattle.opa_top.specs.Verifying.{JudgesFile, Verifies, status_of as meant};
 
 use crate::check::tell;
+use opa_io::limits::MOST_REPORT;
 use opa_io::{Shelf, Sink, Status, TakeFault};
 use opa_proof::{Verdict, tell as judge};
 use opa_rulebase::{LoadError, load_rulebase};
 use opa_tree::Rulebase;
 use std::alloc::Global;
-
-/// How many bytes a report may have.
-const REPORT_MOST: u64 = 67_108_864;
 
 /// Yes is Done, and each other verdict is Refused.
 fn status_of(verdict: Verdict) -> Status
@@ -35,7 +33,7 @@ fn judge_file<F: Shelf, K: Sink>(
     ensures files { F.files shelf.new ≡ F.files shelf.old }
     ensures later { F.take_faults shelf.old ≤ F.take_faults shelf.new }
 {
-    match shelf.take(alloc, report, REPORT_MOST) {
+    match shelf.take(alloc, report, MOST_REPORT) {
         Ok(bytes) => match judge(alloc, base, bytes.as_slice()) {
             Ok(told) => tell(status_of(told.verdict), out, told.text.as_str()),
             Err(_) => Status::NoMemory,

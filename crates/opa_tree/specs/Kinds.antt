@@ -19,6 +19,7 @@ use Rattle.opa_tree.specs.declared.expr.Expr.{Expr}
 use Rattle.opa_tree.specs.declared.expr.Expr.TheOpen.{Expr-F, Row-F, Const, Attr, All, Any, Not, Op, Certain, Known, Over, Window, Rolling, Table}
 use Rattle.opa_tree.specs.declared.expr.Expr.TheFolds.{fold-Expr}
 use Rattle.opa_tree.specs.declared.rules.Rule.{Rule}
+use Rattle.opa_io.specs.declared.limits.TheConstants.{MOST_DAYS}
 
 -- number and currency are one kind
 abbrev pub kind_number : Kind → ℕ
@@ -167,7 +168,7 @@ kinds_step m (Certain x) = typed (λ k. is_kind kind.Bool k && list_any x.can al
 kinds_step m (Known x) = typed (λ k. is_kind kind.Bool k && list_any x.can all_kinds)
 kinds_step m (Over q r xs) = typed (λ k. option_map_or (λ x. quant_can q x.one xs k) (relation_at m r) false)
 kinds_step m (Window w xs) = typed (window_can w xs)
-kinds_step m (Rolling b n x) = typed (λ k. nat_le 1 n && nat_le n 36600 && is_kind kind.Bool k && x.can kind.Bool)
+kinds_step m (Rolling b n x) = typed (λ k. nat_le 1 n && nat_le n MOST_DAYS && is_kind kind.Bool k && x.can kind.Bool)
 kinds_step m (Table rows last) = typed (λ k. list_all (λ row. row k) rows && last.can k)
 
 -- a row can have the kinds of its value, where its condition is a bool

@@ -37,7 +37,8 @@ pub fn first_fault(
     lines: &[ReportLine],
 ) -> Result<Option<usize>, NoMemory>
     requires days { HaveDays lines.now }
-    ensures { IfOk result (λ o. MatchOption o (AreHeldUp (base_of base.now) lines.now) (IsFirstFault (base_of base.now) lines.now)) }
+    ensures { IfOk result (λ o. MatchOption o (AreHeldUp (base_of base.now) lines.now)
+        (IsFirstFault (base_of base.now) lines.now)) }
 {
     let told = told_by(alloc, lines)?;
     let mut kept = Cells::new(alloc);

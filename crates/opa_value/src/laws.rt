@@ -24,7 +24,8 @@ pub fn below_is_kept()
     ensures all { (us vs : List Value) → AllZip IsBelow us vs → IsBelow (all_of us) (all_of vs) }
     ensures any { (us vs : List Value) → AllZip IsBelow us vs → IsBelow (any_of us) (any_of vs) }
     ensures not { (u v : Value) → IsBelow u v → IsBelow (not_of u) (not_of v) }
-    ensures strict { (f : List Value → Value) (us vs : List Value) → AllZip IsBelow us vs → IsBelow (strict f us) (strict f vs) }
+    ensures strict { (f : List Value → Value) (us vs : List Value) → AllZip IsBelow us vs →
+        IsBelow (strict f us) (strict f vs) }
 {}
 
 /// A rounded quotient is the nearest whole number, halves away from zero, and nothing else is.
@@ -50,11 +51,13 @@ pub fn reading_is_spelling()
 #[tactic(auto, using(crate::proofs::ReadBack::texts))]
 pub fn texts_read_back()
     ensures plain { (count : ℤ) → InRange count → read_number (plain_text count) ≡ Ok count }
-    ensures money { (count : ℤ) → InRange count → unsigned_abs count % 100 ≡ 0 → read_number (money_text count) ≡ Ok count }
+    ensures money { (count : ℤ) → InRange count → unsigned_abs count % 100 ≡ 0 →
+        read_number (money_text count) ≡ Ok count }
 {}
 
 /// A plain text is the shortest that spells its number: it has no zeros that could be left out.
 #[tactic(auto, using(crate::proofs::Shortest::plain_shortest))]
 pub fn plain_is_shortest()
-    ensures { (count : ℤ) (text : List ℕ) → InRange count → Spells text count → length (plain_text count) ≤ length text }
+    ensures { (count : ℤ) (text : List ℕ) → InRange count → Spells text count →
+        length (plain_text count) ≤ length text }
 {}

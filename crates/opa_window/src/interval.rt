@@ -23,7 +23,8 @@ pub fn interval_always(
     end: &Line<Value>,
     x: &Line<Value>,
 ) -> Result<Line<Value>, NoMemory>
-    ensures { IfOk result (StandsFor DAYS (λ d. meant.interval_always (day_value x.now) (day_value start.now d) (day_value end.now d))) }
+    ensures { IfOk result (StandsFor DAYS (λ d. meant.interval_always (day_value x.now) (day_value start.now d)
+        (day_value end.now d))) }
 {
     interval(alloc, Fold::All, start, end, x)
 }
@@ -35,7 +36,8 @@ pub fn interval_sometimes(
     end: &Line<Value>,
     x: &Line<Value>,
 ) -> Result<Line<Value>, NoMemory>
-    ensures { IfOk result (StandsFor DAYS (λ d. meant.interval_sometimes (day_value x.now) (day_value start.now d) (day_value end.now d))) }
+    ensures { IfOk result (StandsFor DAYS (λ d. meant.interval_sometimes (day_value x.now) (day_value start.now d)
+        (day_value end.now d))) }
 {
     interval(alloc, Fold::Any, start, end, x)
 }
@@ -47,7 +49,8 @@ pub fn interval_sum(
     end: &Line<Value>,
     x: &Line<Value>,
 ) -> Result<Line<Value>, NoMemory>
-    ensures { IfOk result (StandsFor DAYS (λ d. meant.interval_sum (day_value x.now) (day_value start.now d) (day_value end.now d))) }
+    ensures { IfOk result (StandsFor DAYS (λ d. meant.interval_sum (day_value x.now) (day_value start.now d)
+        (day_value end.now d))) }
 {
     interval(alloc, Fold::Sum, start, end, x)
 }
@@ -59,7 +62,8 @@ pub fn interval_max(
     end: &Line<Value>,
     x: &Line<Value>,
 ) -> Result<Line<Value>, NoMemory>
-    ensures { IfOk result (StandsFor DAYS (λ d. meant.interval_max (day_value x.now) (day_value start.now d) (day_value end.now d))) }
+    ensures { IfOk result (StandsFor DAYS (λ d. meant.interval_max (day_value x.now) (day_value start.now d)
+        (day_value end.now d))) }
 {
     interval(alloc, Fold::Greatest, start, end, x)
 }
@@ -71,7 +75,8 @@ pub fn interval_min(
     end: &Line<Value>,
     x: &Line<Value>,
 ) -> Result<Line<Value>, NoMemory>
-    ensures { IfOk result (StandsFor DAYS (λ d. meant.interval_min (day_value x.now) (day_value start.now d) (day_value end.now d))) }
+    ensures { IfOk result (StandsFor DAYS (λ d. meant.interval_min (day_value x.now) (day_value start.now d)
+        (day_value end.now d))) }
 {
     interval(alloc, Fold::Least, start, end, x)
 }
@@ -83,7 +88,8 @@ pub fn interval_run(
     end: &Line<Value>,
     x: &Line<Value>,
 ) -> Result<Line<Value>, NoMemory>
-    ensures { IfOk result (StandsFor DAYS (λ d. meant.interval_run (day_value x.now) (day_value start.now d) (day_value end.now d))) }
+    ensures { IfOk result (StandsFor DAYS (λ d. meant.interval_run (day_value x.now) (day_value start.now d)
+        (day_value end.now d))) }
 {
     interval(alloc, Fold::Run, start, end, x)
 }

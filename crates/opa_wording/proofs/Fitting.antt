@@ -10,7 +10,7 @@ use Rattle.opa_tree.proofs.DepthLaws.{depth-All, depth-Any, depth-Table}
 use Rattle.opa_tree.proofs.Folds.{fold-All, fold-Any, fold-Table, fold-of_row}
 use Rattle.opa_tree.specs.declared.expr.Expr.TheFolds.{fold-Row}
 use Rattle.opa_sentence.specs.declared.measure.Measure.{Measure}
-use Rattle.opa_sentence.specs.declared.measure.TheConstants.{MOST_DEPTH, MOST_NODES, MOST_NESTING}
+use Rattle.opa_io.specs.declared.limits.TheConstants.{MOST_DEPTH, MOST_NODES, MOST_NESTING}
 use Rattle.opa_sentence.specs.declared.names.Names.{Names}
 use Rattle.opa_sentence.specs.declared.reading.Reading.{Reading}
 use Rattle.opa_sentence.specs.declared.reading.Parts.{Parts}

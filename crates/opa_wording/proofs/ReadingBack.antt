@@ -23,7 +23,7 @@ use Rattle.opa_layout.specs.Blocks.{AreBlocks, AreDeeper, IsHeaded, block_lines,
 use Rattle.opa_layout.proofs.OneLayout.{one_layout_holds}
 use Rattle.opa_words.specs.Pieces.{word}
 use Rattle.opa_words.specs.Written.{Written, AreWritten, text_of}
-use Rattle.opa_sentence.specs.declared.measure.TheConstants.{MOST_DEPTH, MOST_NODES}
+use Rattle.opa_io.specs.declared.limits.TheConstants.{MOST_DEPTH, MOST_NODES}
 use Rattle.opa_sentence.specs.declared.names.Names.{Names}
 use Rattle.opa_sentence.specs.declared.reading.Reading.{Reading}
 use Rattle.opa_sentence.specs.Grammar.{LINE, Spells}
@@ -34,7 +34,7 @@ use Rattle.opa_parse.specs.declared.block.BlockSort.{BlockSort}
 use Rattle.opa_parse.specs.declared.block.BlockSort.TheVariants as block_sort
 use Rattle.opa_parse.specs.declared.block.RuleBlock.{RuleBlock}
 use Rattle.opa_parse.specs.declared.block.Statement.{Statement}
-use Rattle.opa_parse.specs.declared.block.TheConstants.{MOST_RULES}
+use Rattle.opa_io.specs.declared.limits.TheConstants.{MOST_RULES}
 use Rattle.opa_parse.specs.declared.group.Said.{Said}
 use Rattle.opa_parse.specs.Blocks.{SpellsRule, IsStatement, statement}
 use Rattle.opa_parse.specs.Fronts.{Stands}

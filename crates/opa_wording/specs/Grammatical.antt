@@ -16,6 +16,7 @@ use Rattle.opa_tree.specs.declared.kinds.WinKind.{WinKind}
 use Rattle.opa_tree.specs.declared.expr.Expr.{Expr}
 use Rattle.opa_tree.specs.declared.expr.Expr.TheVariants as expr
 use Rattle.opa_tree.specs.Trees.{is_literal, op_arity, quant_arity, window_arity}
+use Rattle.opa_io.specs.declared.limits.TheConstants.{MOST_DAYS}
 
 -- `Round` is written with a number, and each other operation with trees alone
 abbrev pub is_round : OpKind → Bool
@@ -37,7 +38,7 @@ module _ (m : Lists) where
       known : (e : Expr) → IsGrammatical e → IsGrammatical (expr.Known e)
       over : (q : Quant) (r : RelId) (es : List Expr) → HasRelation m r → length es ≡ quant_arity q → AreGrammatical es → IsGrammatical (expr.Over q r es)
       window : (k : WinKind) (es : List Expr) → length es ≡ window_arity k → AreGrammatical es → IsGrammatical (expr.Window k es)
-      rolling : (always : Bool) (n : ℕ) (e : Expr) → n ≤ 36600 → IsGrammatical e → IsGrammatical (expr.Rolling always n e)
+      rolling : (always : Bool) (n : ℕ) (e : Expr) → n ≤ MOST_DAYS → IsGrammatical e → IsGrammatical (expr.Rolling always n e)
 
     pub data AreGrammatical : List Expr → Type 0 where
       none : AreGrammatical []

@@ -10,7 +10,7 @@ use Rattle.opa_tree.specs.declared.expr.Expr.TheViews.{out-Expr}
 use Rattle.opa_tree.specs.declared.rules.Inferred.{Inferred}
 use Rattle.opa_tree.specs.declared.rules.Rule.{Rule}
 use Rattle.opa_tree.specs.Trees.{depth}
-use Rattle.opa_sentence.specs.declared.measure.TheConstants.{MOST_DEPTH, MOST_NODES, MOST_NESTING}
+use Rattle.opa_io.specs.declared.limits.TheConstants.{MOST_DEPTH, MOST_NODES, MOST_NESTING}
 use Rattle.opa_sentence.specs.declared.names.Names.{Names}
 use Rattle.opa_sentence.specs.declared.reading.Reading.{Reading}
 use Rattle.opa_sentence.specs.Grammar.{LINE, Spells}
@@ -20,6 +20,7 @@ use Rattle.opa_parse.specs.Naming.{names_in}
 use Rattle.opa_parse.specs.Rules.{inferred_nodes}
 use Rattle.opa_wording.specs.Told.{all_told}
 use Rattle.opa_wording.specs.Laid.{tree_words, rule_lines, size}
+use Rattle.opa_io.specs.declared.limits.TheConstants.{MOST_LINE}
 
 -- ---- the trees that stand on the lines of a rule
 
@@ -80,4 +81,4 @@ pub record IsWithinLimits (m : Lists) (inferences : List Inferred) (r : Rule) : 
   pub deep : depth r.expr ≤ MOST_DEPTH
   pub wide : inferred_nodes inferences + nodes r.expr ≤ MOST_NODES
   pub lines : AllByRecursion (LineFits m (names_in m inferences)) (rule_trees r)
-  pub short : AllByRecursion (λ l. size l ≤ 65536) (rule_lines m r)
+  pub short : AllByRecursion (λ l. size l ≤ MOST_LINE) (rule_lines m r)

@@ -30,7 +30,8 @@ impl Model for Phrases {
 
     ghost view = { λ p. p.texts };
 
-    ghost invariant = { λ p. (length p.texts < 2 ^ 32) × FindsFirst (get_by_text p.positions) p.texts × All (λ t. length t ≤ p.widest) p.texts };
+    ghost invariant = { λ p. (length p.texts < 2 ^ 32) × FindsFirst (get_by_text p.positions) p.texts × All
+        (λ t. length t ≤ p.widest) p.texts };
 }
 
 impl Phrases {
@@ -50,7 +51,8 @@ impl Phrases {
     /// phrase has room for. Only where a phrase takes more than 1,024 bytes does it go over all phrases.
     pub fn longest(&self, text: &str, tokens: &[Token], place: usize) -> Option<(u32, usize)>
         requires { All (IsWithin text.now) tokens.now }
-        ensures { MatchOption result (NoneIsSpelled self.now text.now (drop place tokens.now)) (λ x. IsLongestPhrase self.now text.now (drop place tokens.now) x.0 x.1) }
+        ensures { MatchOption result (NoneIsSpelled self.now text.now (drop place tokens.now))
+            (λ x. IsLongestPhrase self.now text.now (drop place tokens.now) x.0 x.1) }
     {
         let rest = rest_from(tokens, place);
         if self.widest <= ROOM {

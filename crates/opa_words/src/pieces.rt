@@ -35,7 +35,8 @@ impl<'t> Pieces<'t> {
     /// The kind and the text of the first token, and what follows it.
     pub fn first(self) -> Option<(TokenKind, &'t str, Pieces<'t>)>
         requires { AreOfKind self }
-        ensures first { MatchOption result (seen self.entry ≡ []) (λ x. seen self.entry ≡ record { kind = x.0; text = x.1.now } ∷ seen x.2) }
+        ensures first { MatchOption result (seen self.entry ≡ [])
+            (λ x. seen self.entry ≡ record { kind = x.0; text = x.1.now } ∷ seen x.2) }
         ensures kind { IfSome result (λ x. IsToken x.0 (chars x.1.now)) }
         ensures later { IfSome result (λ x. AreOfKind x.2) }
     {

@@ -27,7 +27,12 @@ impl Fussy {
 impl Listener for Fussy {
     ghost use Rattle.std.specs.Prelude.{[], ◌-◌, vec_len, vec_capacity};
 
-    ghost state = { λ s. record { watched = []; kept = s.kept.items; spare = vec_capacity s.kept - vec_len s.kept; style = s.style } };
+    ghost state = { λ s. record {
+      watched = [];
+      kept = s.kept.items;
+      spare = vec_capacity s.kept - vec_len s.kept;
+      style = s.style;
+    } };
 
     fn wants(&self, _attr: AttrId) -> bool {
         true

@@ -2,7 +2,7 @@ use Rattle.std.proofs.Common.{◌≡◌, ap, ap₂, sym, ◌∙◌, nat_lt, leng
 use Rattle.std.specs.Prelude.{is_none}
 use Rattle.opa_tree.specs.declared.faults.RbKind.TheVariants as kind
 use Rattle.opa_tree.specs.FirstFaults.{first_of, first_fault}
-use Rattle.opa_parse.specs.declared.block.TheConstants.{MOST_PHRASE}
+use Rattle.opa_io.specs.declared.limits.TheConstants.{MOST_PHRASE}
 use Rattle.opa_parse.specs.RuleFaults.{fault_at, when, marked, size_faults}
 use Rattle.opa_parse.proofs.MemberLaws.{of_five}
 use Rattle.opa_parse.proofs.RuleLaws.{none_test}

@@ -1,5 +1,5 @@
 use Rattle.std.proofs.Common.{◌≡◌, ◌+◌, min, map, length}
-use Rattle.opa_sentence.specs.declared.measure.TheConstants.{MOST_NODES}
+use Rattle.opa_io.specs.declared.limits.TheConstants.{MOST_NODES}
 use Rattle.opa_sentence.specs.declared.names.Member.{Member}
 use Rattle.opa_sentence.specs.Measures.{nodes, total}
 use Rattle.opa_parse.proofs.rules.inferred_nodes.Given as goal

@@ -1,6 +1,6 @@
 use Rattle.std.proofs.Common.{◌≡◌, ◌+◌, map, min, take}
 use Rattle.opa_tree.specs.Trees.{depth, highest}
-use Rattle.opa_sentence.specs.declared.measure.TheConstants.{MOST_DEPTH}
+use Rattle.opa_io.specs.declared.limits.TheConstants.{MOST_DEPTH}
 use Rattle.opa_tree.specs.Trees.{row_depth}
 use Rattle.opa_sentence.proofs.sizes.+deep.Given as goal
 

@@ -1,6 +1,6 @@
 use Rattle.std.proofs.Common.{◌≡◌, ◌+◌, map, min, take}
 use Rattle.opa_sentence.specs.Measures.{nodes, total}
-use Rattle.opa_sentence.specs.declared.measure.TheConstants.{MOST_NODES}
+use Rattle.opa_io.specs.declared.limits.TheConstants.{MOST_NODES}
 use Rattle.opa_sentence.specs.Rows.{row_nodes}
 use Rattle.opa_sentence.proofs.sizes.+wide.Given as goal
 

@@ -1,6 +1,6 @@
 use Rattle.std.proofs.Common.{◌≡◌, ℕ, List, map, ap, ◌∙◌, ◌+◌, min, Some}
 use Rattle.opa_tree.specs.declared.faults.RbFault.{RbFault}
-use Rattle.opa_sentence.specs.declared.measure.TheConstants.{MOST_NODES}
+use Rattle.opa_io.specs.declared.limits.TheConstants.{MOST_NODES}
 use Rattle.opa_sentence.specs.declared.names.Member.{Member}
 use Rattle.opa_sentence.specs.declared.names.Names.{Names}
 use Rattle.opa_sentence.specs.Measures.{nodes, total}

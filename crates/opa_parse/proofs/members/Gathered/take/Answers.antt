@@ -1,6 +1,6 @@
 use Rattle.std.proofs.Common.{◌≡◌, ap, sym, ◌∙◌, ◌+◌, min}
 use Rattle.opa_tree.specs.FirstFaults.{first_of, first_fault}
-use Rattle.opa_sentence.specs.declared.measure.TheConstants.{MOST_NODES}
+use Rattle.opa_io.specs.declared.limits.TheConstants.{MOST_NODES}
 use Rattle.opa_parse.specs.MemberFaults.{block_faults}
 use Rattle.opa_parse.proofs.MemberLaws.{gathers}
 use Rattle.opa_parse.proofs.RuleLaws.{none_test}

@@ -1,6 +1,6 @@
 use Rattle.std.proofs.Common.{◌≡◌, ap, sym, ◌∙◌, ◌+◌, min}
 use Rattle.opa_tree.specs.FirstFaults.{first_of}
-use Rattle.opa_sentence.specs.declared.measure.TheConstants.{MOST_NODES}
+use Rattle.opa_io.specs.declared.limits.TheConstants.{MOST_NODES}
 use Rattle.opa_parse.proofs.RuleLaws.{takes, none_test}
 use Rattle.opa_parse.proofs.rules.Taken.take.Goals as goal
 
