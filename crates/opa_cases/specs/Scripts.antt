@@ -20,6 +20,7 @@ use Rattle.opa_cases.specs.declared.kept.OpenCase.{OpenCase}
 use Rattle.opa_cases.specs.declared.orders.Order.{Order}
 use Rattle.opa_cases.specs.declared.orders.Order.TheVariants as order
 use Rattle.opa_cases.specs.Orders.{IsOrder, IsNoOrder}
+use Rattle.opa_io.specs.declared.limits.TheConstants.{MOST_SUPPOSITIONS}
 
 -- a case with the number of slots that its last change reached, on what was kept for suppositions, the last one last
 abbrev pub opened_as : CaseView → ℕ → List KeptCase → OpenCase
@@ -34,7 +35,7 @@ fresh = opened_as no_case 0 []
 
 -- how many suppositions a case may stand on
 abbrev pub DEEPEST : ℕ
-DEEPEST = 4
+DEEPEST = MOST_SUPPOSITIONS
 
 abbrev pub line : List ℕ → List ℕ
 line text = text ++ 10 ∷ []
