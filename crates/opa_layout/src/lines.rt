@@ -29,24 +29,6 @@ pub fn first_line(text: &str) -> Option<(Line<'_>, &str)>
           size = length x.0.bytes.now;
           text = (if x.0.ended then strip_carriage_return x.0.bytes.now else x.0.bytes.now);
         } ∷ rows_from (n + 1) x.1.now) }
-    ensures shorter { length result.now ≤ length text.now }
-{
-    match text.strip_prefix("\u{feff}") {
-        Some(rest) => rest,
-        None => text,
-    }
-}
-
-/// The first line with what follows it.
-pub fn first_line(text: &str) -> Option<(Line<'_>, &str)>
-    ensures rows { MatchOption result (text.now ≡ [])
-        (λ x. (n : ℕ) → rows_from n text.now ≡
-        record {
-          number = n;
-          size = length x.0.bytes.now;
-          text = (if x.0.ended then strip_carriage_return x.0.bytes.now else x.0.bytes.now);
-        } ∷ rows_from
-        (n + 1) x.1.now) }
     ensures shorter { MatchOption result (text.now ≡ [])
         (λ x. (length x.0.bytes.now + length x.1.now ≤ length text.now) × (length x.1.now < length text.now)) }
 {
