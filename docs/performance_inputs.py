@@ -25,6 +25,13 @@ persons("end_input.txt", 1000, False)
 for count in (250, 500, 1000):
     persons(f"each_{count}_input.txt", count, True)
 
+# a thousand persons, answered again and again, and the sum shown after each answer
+for answers in (1000, 2000, 4000, 8000):
+    with open(f"again_{answers}_input.txt", "w") as file:
+        file.write("list the persons = " + ", ".join(f'"p{n}"' for n in range(1000)) + "\n")
+        for n in range(answers):
+            file.write(f'answer the income of "p{n % 1000}" = {n}; from 2020-01-01 {n + 1}; from 2022-06-01 {n + 2}\nshow the total\n')
+
 # a chain of 4,000 attributes and 3,999 rules
 with open("chain.txt", "w") as file:
     file.write("global\n" + "".join(f"  number a{n}\n" for n in range(4000)) + "".join(f"a{n} = a{n - 1} + 1\n" for n in range(1, 4000)))
