@@ -10,8 +10,8 @@ returns-then-as_str-eq0-clause-fault c =
     (match_some c.in_ok-name.field-0 c.in-Some.name ((t : List ℕ) → seen c.args.rest ≡ text t ∷ [] → ⊥) (λ t. seen c.args.rest ≡ text t ∷ []) c.in-Some.is c.in_ok-name.ensures)
     (λ h. absurd (omega (arith, h.0, c.if-as_str-eq0.true, ap length c.as_str.ensures)))
 
-pub returns-then-as_str-gt-LONGEST_NAME-clause-fault : goal.returns-then-as_str-gt-LONGEST_NAME-clause-fault
-returns-then-as_str-gt-LONGEST_NAME-clause-fault c =
+pub returns-then-as_str-gt-MOST_FILE_NAME-clause-fault : goal.returns-then-as_str-gt-MOST_FILE_NAME-clause-fault
+returns-then-as_str-gt-MOST_FILE_NAME-clause-fault c =
     no_file_name (seen c.args.rest) c.in-Some.name
     (match_some c.in_ok-name.field-0 c.in-Some.name ((t : List ℕ) → seen c.args.rest ≡ text t ∷ [] → ⊥) (λ t. seen c.args.rest ≡ text t ∷ []) c.in-Some.is c.in_ok-name.ensures)
-    (λ h. absurd (omega (arith, h.1, c.if-as_str-gt-LONGEST_NAME.true, ap length c.as_str-2.ensures)))
+    (λ h. absurd (omega (arith, h.1, c.if-as_str-gt-MOST_FILE_NAME.true, ap length c.as_str-2.ensures)))
