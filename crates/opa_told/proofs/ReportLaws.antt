@@ -69,8 +69,11 @@ module _ (r : Rulebase) (c : CaseView) (a : AttrId) (i : InstanceId) (known : Ha
   pub none_told : (d : ℕ) (t : List ℕ) → false ≡ is_point r c a i → t ≡ refused_point → IsReportTold r c a i d t
   none_told d t none says = record { here = λ h. absurd (cc (none, point_is, h)); nowhere = λ _. says }
 
-  pub some_told : (d : ℕ) (x : Report) (t : List ℕ) → true ≡ is_point r c a i → IsAbout a i d x → IsExact r c x → t ≡ report_text r x → IsReportTold r c a i d t
-  some_told d x t some about exact says = record { here = λ _. record { report = x; about = about; exact = exact; says = says }; nowhere = λ h. absurd (cc (some, point_is, h)) }
+  pub some_told : (d : ℕ) (x : Report) (t : List ℕ) → true ≡ is_point r c a i → IsAbout a i d x → IsExact r c x → ListsEntries r c x → HasDays x → IsDeclaredBy r x → t ≡ report_text r x → IsReportTold r c a i d t
+  some_told d x t some about exact entries days declared says = record {
+    here = λ _. record { report = x; about = about; exact = exact; entries = entries; days = days; declared = declared; says = says };
+    nowhere = λ h. absurd (cc (some, point_is, h));
+  }
 
 -- ---- a point's report has one text
 

@@ -6,15 +6,18 @@ use Rattle.opa_case.specs.Cases.{CaseView}
 use Rattle.opa_tree.specs.declared.rulebase.Rulebase.{Rulebase}
 use Rattle.opa_mean.specs.Slots.{has_place}
 use Rattle.opa_report.specs.declared.lines.Report.{Report}
-use Rattle.opa_report.specs.Promises.{IsAbout, IsExact}
+use Rattle.opa_report.specs.Promises.{IsAbout, IsExact, ListsEntries, HasDays, IsDeclaredBy}
 use Rattle.opa_report_text.specs.Texts.{report_text}
 use Rattle.opa_told.specs.Shown.{refused_point}
 
--- the text of the point's report
+-- The text of the point's report, which lists just what is in the report of the point, on days of the calendar, of what is declared.
 pub record IsReported (r : Rulebase) (c : CaseView) (a : AttrId) (i : InstanceId) (d : ℕ) (text : List ℕ) : Type 0 where
   pub report : Report
   pub about : IsAbout a i d report
   pub exact : IsExact r c report
+  pub entries : ListsEntries r c report
+  pub days : HasDays report
+  pub declared : IsDeclaredBy r report
   pub says : text ≡ report_text r report
 
 -- The text of the report of a declared attribute, where the instance has the attribute.

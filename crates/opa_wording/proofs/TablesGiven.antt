@@ -96,7 +96,7 @@ module _ (m : Lists) where
 
   -- a tree below an equals sign, or a table without cases
   abbrev IsColumn : Expr → Type 0
-  IsColumn e = IsBare e ⊎ IsTree m false e
+  IsColumn e = IsBare m e ⊎ IsTree m false e
 
 abbrev HasHeads : Heads → Found → Type 0
 HasHeads h (found.Table d) = d.heads ≡ h
@@ -204,9 +204,9 @@ module _ (m : Lists) (ns : Names) (names : AreNamed m ns) where
   more_cases xs place cs (r ∷ rs) p s q =
       more_cases xs place (with_case cs (value_at place r.number r.values) (condition xs r)) rs p (one_case xs place cs r p (fewer_rows m ns names cs.rows s) q.0) q.1
 
-  bare : (v : Option Expr) → Of (IsColumn m) (table_of (Some []) v)
-  bare None = tt
-  bare (Some v) = inl (v, refl)
+  bare : (v : Option Expr) → Given m v → Of (IsColumn m) (table_of (Some []) v)
+  bare None h = tt
+  bare (Some v) h = inl (v, h, refl)
 
   of_tree : (o : Option Expr) → Of (IsTree m false) o → Of (IsColumn m) o
   of_tree None h = tt
@@ -217,7 +217,7 @@ module _ (m : Lists) (ns : Names) (names : AreNamed m ns) where
   as_equation (Some e) h = inr (IsTree.equation e h)
 
   cased : (x : Reading) (xs : List Reading) (place : ℕ) (rs : List Case) (v : Said) → GivenEach m bounded (x ∷ xs) → CasesGiven m rs → Given m v.reading.tree → Of (IsColumn m) (tabled (with_cases (x ∷ xs) place (no_cases_below (x ∷ xs)) rs) v).reading.tree
-  cased x xs place [] v p q h = of_if (IsColumn m) (fits (table_measure (no_cases_below (x ∷ xs)) v.reading.measure)) (table_of (Some []) v.reading.tree) (bare v.reading.tree)
+  cased x xs place [] v p q h = of_if (IsColumn m) (fits (table_measure (no_cases_below (x ∷ xs)) v.reading.measure)) (table_of (Some []) v.reading.tree) (bare v.reading.tree h)
   cased x xs place (r ∷ rs) v p q h =
       let first = with_case (no_cases_below (x ∷ xs)) (value_at place r.number r.values) (condition (x ∷ xs) r) in
       of_tree _
@@ -234,7 +234,7 @@ module _ (m : Lists) (ns : Names) (names : AreNamed m ns) where
 
   -- what a rule is as a tree below its conclusion, or a table without cases
   abbrev Inside : Rule → Type 0
-  Inside r = IsBare r.expr ⊎ IsTree m r.by_if r.expr
+  Inside r = IsBare m r.expr ⊎ IsTree m r.by_if r.expr
 
   column_block_given : (file : ℕ) (d : Table) (place : ℕ) (a : Option AttrId) → TableGiven m d → MadeOf Inside (column_block file d place a)
   column_block_given file d place a h b e s p q r =
@@ -242,7 +242,7 @@ module _ (m : Lists) (ns : Names) (names : AreNamed m ns) where
       let whole : Statement = record { attr = a; by_if = false; said = said } in
       let same : whole ≡ s = cc p in
       let k : Of (IsColumn m) (Some e) = subst (Of (IsColumn m)) (ap (λ (z : Statement). z.said.reading.tree) same ∙ r) (column_given d place h) in
-      subst (λ (by_if : Bool). IsBare e ⊎ IsTree m by_if e) (ap (λ (z : Statement). z.by_if) same) k
+      subst (λ (by_if : Bool). IsBare m e ⊎ IsTree m by_if e) (ap (λ (z : Statement). z.by_if) same) k
 
   columns_given : (file : ℕ) (d : Table) (place : ℕ) (attrs : List (Option AttrId)) → TableGiven m d → hand.Each (MadeOf Inside) (blocks_from file d place attrs)
   columns_given file d place [] h = tt
@@ -266,14 +266,14 @@ module _ (m : Lists) (ns : Names) (names : AreNamed m ns) where
   from_rules (x ∷ blocks) h = (λ a e s p q r. inr (h.0 a e s p q r).tree, from_rules blocks h.1)
 
   -- with its attribute declared
-  whole_rule : (r : Rule) → HasAttribute m r.attr → Inside r → IsBare r.expr ⊎ IsRule m r
+  whole_rule : (r : Rule) → HasAttribute m r.attr → Inside r → IsBare m r.expr ⊎ IsRule m r
   whole_rule r d (inl bare) = inl bare
   whole_rule r d (inr own) = inr (record { attribute = d; tree = own })
 
-  whole_rules : (rules : List Rule) → All (λ (r : Rule). HasAttribute m r.attr) rules → hand.Each Inside rules → All (λ (r : Rule). IsBare r.expr ⊎ IsRule m r) rules
-  whole_rules [] d h = All-nil (λ (r : Rule). IsBare r.expr ⊎ IsRule m r)
+  whole_rules : (rules : List Rule) → All (λ (r : Rule). HasAttribute m r.attr) rules → hand.Each Inside rules → All (λ (r : Rule). IsBare m r.expr ⊎ IsRule m r) rules
+  whole_rules [] d h = All-nil (λ (r : Rule). IsBare m r.expr ⊎ IsRule m r)
   whole_rules (r ∷ rules) d h =
-      All-cons (λ (r : Rule). IsBare r.expr ⊎ IsRule m r) r rules (whole_rule r (All-head (λ (r : Rule). HasAttribute m r.attr) r rules d) h.0) (whole_rules rules (All-tail (λ (r : Rule). HasAttribute m r.attr) r rules d) h.1)
+      All-cons (λ (r : Rule). IsBare m r.expr ⊎ IsRule m r) r rules (whole_rule r (All-head (λ (r : Rule). HasAttribute m r.attr) r rules d) h.0) (whole_rules rules (All-tail (λ (r : Rule). HasAttribute m r.attr) r rules d) h.1)
 
 pub all_rules_are_given_hold : AllRulesAreGiven
 all_rules_are_given_hold m inferences members blocks textual tables rules a =

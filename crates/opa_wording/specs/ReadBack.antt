@@ -109,14 +109,14 @@ AreTextual blocks = All (λ b. All (λ l. IsUtf8 l.text) b.lines) blocks
 abbrev pub RulesAreGiven : Type 0
 RulesAreGiven = (m : Lists) (inferences : List Inferred) → AreMembersGiven m inferences → (blocks : List Block) → AreTextual blocks → (rules : List Rule) → AreRules m inferences blocks rules → All (IsRule m) rules
 
--- a table without cases, which no block spells
-abbrev pub IsBare : Expr → Type 0
-IsBare e = (last : Expr) × (e ≡ expr.Table [] last)
+-- a table without cases, which no block spells: a tree that the grammar gives stands alone in it
+abbrev pub IsBare : Lists → Expr → Type 0
+IsBare m e = (last : Expr) × IsGrammatical m last × (e ≡ expr.Table [] last)
 
 -- So is each rule that is read of blocks and tables, but for that of a table without cases.
 abbrev pub AllRulesAreGiven : Type 0
 AllRulesAreGiven = (m : Lists) (inferences : List Inferred) → AreMembersGiven m inferences → (blocks : List Block) → AreTextual blocks
-    → (tables : List TableFile) (rules : List Rule) → AreAllRules m inferences blocks tables rules → All (λ r. IsBare r.expr ⊎ IsRule m r) rules
+    → (tables : List TableFile) (rules : List Rule) → AreAllRules m inferences blocks tables rules → All (λ r. IsBare m r.expr ⊎ IsRule m r) rules
 
 -- and so is each inferred relation
 abbrev pub InferencesAreGiven : Type 0
