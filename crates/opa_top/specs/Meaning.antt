@@ -3,6 +3,7 @@ use Rattle.opa_mean.specs.Rulebases.{Determination, Supported, Asked, Relevant, 
 use Rattle.opa_mean.specs.SlotLaws.{LineIsOne}
 use Rattle.opa_dirty.specs.Dirty.{SettledStays}
 use Rattle.opa_goals.specs.Laws.{StatesAreExact}
+use Rattle.opa_verified.specs.Laws.{ReportsAreVerified}
 
 pub record Meaning : Type 0 where
   -- A value is the answer where there is no rule; else it is its rule's value over the values of what the rule mentions.
@@ -15,6 +16,8 @@ pub record Meaning : Type 0 where
   pub settled : SettledStays
   -- What a report lists fixes the value.
   pub supported : Supported
+  -- Whatever files open, the verifier says Yes to each reply to a line that asks for a report in a run over it.
+  pub verified : ReportsAreVerified
   -- What is unknown has a need; nothing outside its needs can decide it; and where nothing is asked, nothing is unknown.
   pub asked : Asked
   pub relevant : Relevant

@@ -4,6 +4,7 @@ ghost use Rattle.opa_top.specs.Meaning.{Meaning};
 use opa_dirty::settled_stays;
 use opa_goals::states_are_exact;
 use opa_mean::{asked, determination, finished, line_is_one, relevant, supported};
+use opa_verified::reports_are_verified;
 
 /// The laws of the words that transcripts are made of.
 pub(crate) fn shown_is_meant()
@@ -14,6 +15,7 @@ pub(crate) fn shown_is_meant()
     states_are_exact();
     settled_stays();
     supported();
+    reports_are_verified();
     asked();
     relevant();
     finished();

@@ -7,6 +7,7 @@ returns c = record {
   states = c.states_are_exact.ensures;
   settled = c.settled_stays.ensures;
   supported = c.supported.ensures;
+  verified = c.reports_are_verified.ensures;
   asked = c.asked.ensures;
   relevant = c.relevant.ensures;
   finished = c.finished.ensures;

@@ -1,0 +1,16 @@
+pub mod CleanCases
+pub mod CleanCommands
+pub mod DeclaredPhrases
+pub mod FewItems
+pub mod FineRules
+pub mod JsonStrings
+pub mod JsonTexts
+pub mod JsonTrees
+pub mod LoadedCases
+pub mod OpenedPrintable
+pub mod PrintedPlaces
+pub mod ReportsTold
+pub mod Runs
+pub mod Seams
+pub mod TextFiles
+pub mod TextRows

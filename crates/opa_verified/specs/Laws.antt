@@ -1,0 +1,71 @@
+-- What holds of what files open, of what is held in a run over it, and of the reports that a run prints.
+use Rattle.std.specs.Prelude.{◌≡◌, ◌<◌, ◌^◌, ℕ, true, List, length, Option, Ok}
+use Rattle.std.specs.Str.{IsUtf8}
+use Rattle.opa_date.specs.declared.TheConstants.{DAYS}
+use Rattle.opa_io.specs.Outside.{Files}
+use Rattle.opa_model.specs.declared.ids.AttrId.{AttrId}
+use Rattle.opa_model.specs.Models.{IsModel, HasAttribute}
+use Rattle.opa_tree.specs.declared.rulebase.Rulebase.{Rulebase}
+use Rattle.opa_cells.specs.declared.instance.InstanceId.{InstanceId}
+use Rattle.opa_case.specs.Cases.{CaseView}
+use Rattle.opa_mean.specs.Rulebases.{IsOf}
+use Rattle.opa_mean.specs.Slots.{has_place}
+use Rattle.opa_listen.specs.Hearing.{Hearer}
+use Rattle.opa_rulebase.specs.Loading.{Opens}
+use Rattle.opa_script.specs.declared.command.Command.TheVariants as command
+use Rattle.opa_talk.specs.Transcript.{IsTranscript}
+use Rattle.opa_told.specs.Reports.{IsReportTold}
+use Rattle.opa_reply.specs.Held.{Held, at_first}
+use Rattle.opa_reply.specs.Replies.{Asks, conversation}
+use Rattle.opa_proof.specs.Fine.{IsPrintableBase, IsPrintableCase}
+use Rattle.opa_proof.specs.OfCases.{IsOfCase}
+use Rattle.opa_proof.specs.Telling.{SaysSupported, Tells}
+use Rattle.opa_proof.specs.declared.verdict.Verdict.{Verdict}
+use Rattle.opa_proof.specs.declared.verdict.Verdict.TheVariants as verdict
+
+-- What the files of a shelf open under a name that is a text can be printed.
+abbrev pub OpenedIsPrintable : Type 0
+OpenedIsPrintable = (files : Files) (name : List ℕ) (base : Rulebase) → IsUtf8 name → Opens files name (Ok base) → IsPrintableBase base
+
+-- and what it declares is a model
+abbrev pub OpenedIsModel : Type 0
+OpenedIsModel = (files : Files) (name : List ℕ) (base : Rulebase) → IsUtf8 name → Opens files name (Ok base) → IsModel base.model
+
+-- What is told of a point's report is the text of a report of a clean case.
+abbrev pub ReportsAreOfCases : Type 0
+ReportsAreOfCases = (r : Rulebase) (c : CaseView) → IsPrintableBase r → IsOf r c → IsPrintableCase c
+    → (a : AttrId) (i : InstanceId) (d : ℕ) → HasAttribute r.model a → d < DAYS → has_place r c a i ≡ true → (text : List ℕ) → length text < 2 ^ 64 → IsReportTold r c a i d text → IsOfCase r text
+
+-- ---- runs
+
+-- This is held in a run over a rulebase: whoever listens, whatever files are told and however many lines were derived by then,
+-- lines were carried out from the empty case on.
+pub record IsHeldInRun (base : Rulebase) (x : Held) : Type 0 where
+  pub hearers : List Hearer
+  pub files : Option Files
+  pub derived : ℕ
+  pub lines : List (List ℕ)
+  pub text : List ℕ
+  pub printed : IsTranscript conversation (at_first base hearers files derived) lines text x
+
+-- What is held in a run is held over that rulebase, and its case fits and can be printed.
+abbrev pub HeldIsPrintable : Type 0
+HeldIsPrintable = (base : Rulebase) → IsModel base.model → (x : Held) → IsHeldInRun base x → (x.rules ≡ base) × IsOf base x.case × IsPrintableCase x.case
+
+-- In a run over the rulebase a line asks for the report of a point that there is, and this is the reply.
+pub record IsReportInRun (base : Rulebase) (said : List ℕ) : Type 0 where
+  pub held : Held
+  pub reached : IsHeldInRun base held
+  pub line : List ℕ
+  pub attr : AttrId
+  pub inst : InstanceId
+  pub day : ℕ
+  pub asks : Asks held line (command.Report attr inst day)
+  pub there : has_place held.rules held.case attr inst ≡ true
+  pub after : Held
+  pub replies : conversation.Replies held line said after
+
+-- Whatever the files of a shelf open, Yes is the verdict on what a run over it prints as a report, and what is told of it says so.
+abbrev pub ReportsAreVerified : Type 0
+ReportsAreVerified = (files : Files) (name : List ℕ) (base : Rulebase) → IsUtf8 name → Opens files name (Ok base)
+    → (said : List ℕ) → IsReportInRun base said → length said < 2 ^ 64 → (v : Verdict) (told : List ℕ) → Tells base said v told → (v ≡ verdict.Yes) × SaysSupported base said told
