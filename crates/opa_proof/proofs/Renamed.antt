@@ -74,10 +74,12 @@ use Rattle.opa_proof.proofs.Fining.{value_written}
 use Rattle.opa_upheld.proofs.Orderly.{reports_are_held_up_holds}
 use Rattle.opa_proof.specs.Naming.{instance_for, is_printed_so, point_at, list_at, asked_point, named_line, member_line, AreNamed}
 use Rattle.opa_proof.specs.Restating.{name_of, spot_of, origin_by, spelled_line, spelled_of, IsRestated}
-use Rattle.opa_proof.specs.Laws.{ReportsAreSupported, ReportsGetYes}
-use Rattle.opa_proof.specs.Telling.{Tells}
+use Rattle.opa_proof.specs.Laws.{ReportsAreSupported, ReportsGetYes, ReportsTellValues}
+use Rattle.opa_proof.specs.Judging.{asked_value}
+use Rattle.opa_proof.specs.OfCases.{IsOfCase}
+use Rattle.opa_proof.specs.Telling.{Tells, supported_text}
 use Rattle.opa_proof.proofs.Saying.{told_judges}
-use Rattle.opa_proof.proofs.Restated.{origin_is, gets_yes, stands_in}
+use Rattle.opa_proof.proofs.Restated.{origin_is, gets_yes, same_report, stands_in}
 
 -- ---- values
 
@@ -449,12 +451,27 @@ module _ (s : Rulebase) (c : CaseView) (is : IsOf s c) where
         let outer = and_parts (nat_lt x.attr.0 (length s.model.attributes)) (has_place s c x.attr x.inst) point in
         (and_parts (is_live c.live x.inst) (x.inst.entity.0 == owner_of (shape_of s.model) x.attr) outer.1).0
 
+-- what is printed of a report of a case names it again
+case_restated : (r : Rulebase) (text : List ℕ) (of : IsOfCase r text) → IsRestated r of.report
+case_restated r text of =
+    restated r of.given of.fits of.report of.exact of.declared of.point (can_be_printed r of.given of.fits of.report of.exact of.declared of.base of.own of.entries of.days of.point of.day)
+
 pub reports_get_yes_holds : ReportsGetYes
 reports_get_yes_holds r text w of j =
     let x = of.report in
     let live = is_alive r of.given of.fits x of.exact of.declared of.point in
     let h = reports_are_held_up_holds r of.given of.fits x live of.entries of.days in
-    gets_yes r text x (restated r of.given of.fits x of.exact of.declared of.point (can_be_printed r of.given of.fits x of.exact of.declared of.base of.own of.entries of.days of.point of.day)) of.told of.few h.0 (value_at r of.given x.attr x.inst x.day) h.1 w j
+    gets_yes r text x (case_restated r text of) of.told of.few h.0 (value_at r of.given x.attr x.inst x.day) h.1 w j
 
 pub reports_are_supported_holds : ReportsAreSupported
 reports_are_supported_holds r text said w of t = subst (λ v. Tells r text v said) (reports_get_yes_holds r text w of (told_judges r text w said t)) t
+
+pub reports_tell_values_hold : ReportsTellValues
+reports_tell_values_hold r text said w of t =
+    let x = of.report in
+    let live = is_alive r of.given of.fits x of.exact of.declared of.point in
+    let listed = (reports_are_held_up_holds r of.given of.fits x live of.entries of.days).1 in
+    let supported = reports_are_supported_holds r text said w of t in
+    let report = same_report r text x (case_restated r text of) of.told of.few supported.report supported.read in
+    let value : supported.value ≡ value_at r of.given x.attr x.inst x.day = cc (sym supported.listed ∙ ap asked_value report ∙ listed) in
+    supported.says ∙ ap (λ y. supported_text r y supported.value) report ∙ ap (supported_text r x) value

@@ -174,7 +174,7 @@ module _ (r : Rulebase) (text : List ℕ) (x : Report) (is : IsRestated r x) (sa
       go (inl h) = let f : None ≡ Some (x.attr, x.inst) = sym h.1 ∙ ap (asked_point r) same.asked ∙ is.asked in cc f
       go (inr h) = let u = h.1.1.1.1 in never_unnamed r j.0.printed (spelled_of r x).printed x.lines h.1.1.0 u.line same.printed is.lines u.stands u.isnt
 
-  same_report : (y : Report) → IsReadAs r text y → y ≡ x
+  pub same_report : (y : Report) → IsReadAs r text y → y ≡ x
   same_report y read =
       let same = says_same read.spelled read.told in
       let point : ◌≡◌ {A = AttrId × InstanceId} (y.attr, y.inst) (x.attr, x.inst) = cc (sym read.asked ∙ ap (asked_point r) same.asked ∙ is.asked) in

@@ -17,7 +17,7 @@ use Rattle.opa_tree.specs.declared.rulebase.Rulebase.{Rulebase}
 use Rattle.opa_upheld.specs.Proofs.{AreHeldUp}
 use Rattle.opa_upheld.specs.Told.{first_told, value_by}
 use Rattle.opa_upheld.proofs.Orderly.{held_up_supports_holds}
-use Rattle.opa_proof.specs.Judging.{IsTextOfReport, Judges, asked_value}
+use Rattle.opa_proof.specs.Judging.{IsReadAs, IsTextOfReport, Judges, asked_value}
 use Rattle.opa_proof.specs.Telling.{Tells, refused_text, supported_text}
 use Rattle.opa_proof.specs.declared.verdict.Verdict.{Verdict}
 use Rattle.opa_proof.specs.declared.verdict.Verdict.TheVariants as verdict
@@ -32,10 +32,11 @@ module _ (r : Rulebase) (text : List ℕ) where
   pub tells_not_derived : (k : ℕ) (w : Verdict) (said : List ℕ) → w ≡ verdict.NotDerived k → said ≡ refused_text (verdict.NotDerived k) → Judges r text (verdict.NotDerived k) → Tells r text w said
   tells_not_derived k w said e s j = subst (λ v. Tells r text v said) (sym e) (j, s)
 
-  pub tells_supported : (x : Report) (v : Value) (w : Verdict) (said : List ℕ) → w ≡ verdict.Yes → said ≡ supported_text r x v → IsTextOfReport r text x → AreHeldUp (base_of r) x.lines → asked_value x ≡ Some v → Tells r text w said
-  tells_supported x v w said e s told held listed = subst (λ y. Tells r text y said) (sym e) (record {
+  pub tells_supported : (x : Report) (v : Value) (w : Verdict) (said : List ℕ) → w ≡ verdict.Yes → said ≡ supported_text r x v → IsTextOfReport r text x → IsReadAs r text x → AreHeldUp (base_of r) x.lines → asked_value x ≡ Some v → Tells r text w said
+  tells_supported x v w said e s told read held listed = subst (λ y. Tells r text y said) (sym e) (record {
     report = x;
     told = told;
+    read = read;
     held = held;
     value = v;
     listed = listed;

@@ -2,13 +2,13 @@
 use Rattle.std.specs.Prelude.{◌≡◌, ℕ, List}
 use Rattle.opa_case.specs.Cases.{CaseView, IsLive}
 use Rattle.opa_tree.specs.declared.rulebase.Rulebase.{Rulebase}
-use Rattle.opa_mean.specs.Rulebases.{IsOf}
+use Rattle.opa_mean.specs.Rulebases.{IsOf, value_at}
 use Rattle.opa_report.specs.Promises.{ListsEntries, HasDays}
 use Rattle.opa_report.specs.declared.lines.Report.{Report}
 use Rattle.opa_report_text.specs.Texts.{ArePrintable, report_text}
 use Rattle.opa_proof.specs.Judging.{IsUpheld, Judges}
 use Rattle.opa_proof.specs.OfCases.{IsOfCase}
-use Rattle.opa_proof.specs.Telling.{SaysSupported, Tells}
+use Rattle.opa_proof.specs.Telling.{SaysSupported, Tells, supported_text}
 use Rattle.opa_proof.specs.declared.verdict.Verdict.{Verdict}
 use Rattle.opa_proof.specs.declared.verdict.Verdict.TheVariants as verdict
 
@@ -23,3 +23,7 @@ ReportsGetYes = (r : Rulebase) (text : List ℕ) (v : Verdict) → IsOfCase r te
 -- so what is told of such a text says that its value is supported
 abbrev pub ReportsAreSupported : Type 0
 ReportsAreSupported = (r : Rulebase) (text said : List ℕ) (v : Verdict) → IsOfCase r text → Tells r text v said → SaysSupported r text said
+
+-- and tells the value that the case gives the report's point on its day
+abbrev pub ReportsTellValues : Type 0
+ReportsTellValues = (r : Rulebase) (text said : List ℕ) (v : Verdict) (of : IsOfCase r text) → Tells r text v said → said ≡ supported_text r of.report (value_at r of.given of.report.attr of.report.inst of.report.day)

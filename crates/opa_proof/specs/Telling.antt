@@ -14,7 +14,7 @@ use Rattle.opa_text.specs.Texts.{value_text}
 use Rattle.opa_tree.specs.declared.rulebase.Rulebase.{Rulebase}
 use Rattle.opa_upheld.specs.Proofs.{AreHeldUp}
 use Rattle.opa_value.specs.declared.value.Value.{Value}
-use Rattle.opa_proof.specs.Judging.{IsTextOfReport, Judges, asked_value}
+use Rattle.opa_proof.specs.Judging.{IsReadAs, IsTextOfReport, Judges, asked_value}
 use Rattle.opa_proof.specs.declared.verdict.Verdict.{Verdict}
 use Rattle.opa_proof.specs.declared.verdict.Verdict.TheVariants as verdict
 
@@ -39,10 +39,12 @@ refused_text (verdict.Syntax k) = refused_report 1 k
 refused_text (verdict.Name k) = refused_report 2 k
 refused_text (verdict.NotDerived k) = refused_report 3 k
 
--- The text is a report's whose lines are held up, what it lists supports the value that it lists for its point, and this says so.
+-- The text is a report's, and by its names no other's; its lines are held up, what it lists supports the value that it lists for its
+-- point, and this says so.
 pub record SaysSupported (r : Rulebase) (text said : List ℕ) : Type 0 where
   pub report : Report
   pub told : IsTextOfReport r text report
+  pub read : IsReadAs r text report
   pub held : AreHeldUp (base_of r) report.lines
   pub value : Value
   pub listed : asked_value report ≡ Some value

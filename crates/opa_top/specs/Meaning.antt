@@ -3,6 +3,8 @@ use Rattle.opa_mean.specs.Rulebases.{Determination, Supported, Asked, Relevant, 
 use Rattle.opa_mean.specs.SlotLaws.{LineIsOne}
 use Rattle.opa_dirty.specs.Dirty.{SettledStays}
 use Rattle.opa_goals.specs.Laws.{StatesAreExact}
+use Rattle.opa_reply.specs.Interviews.{Tells, interview}
+use Rattle.opa_reply.specs.Replies.{Asks, conversation}
 use Rattle.opa_verified.specs.Laws.{ReportsAreVerified}
 
 pub record Meaning : Type 0 where
@@ -16,8 +18,10 @@ pub record Meaning : Type 0 where
   pub settled : SettledStays
   -- What a report lists fixes the value.
   pub supported : Supported
-  -- Whatever files open, the verifier says Yes to each reply to a line that asks for a report in a run over it.
-  pub verified : ReportsAreVerified
+  -- Whatever files open, the verifier says Yes to each reply that is a report in a run or an interview over it, and tells the value
+  -- that the case gives the point.
+  pub verified : ReportsAreVerified conversation Asks
+  pub verified_asked : ReportsAreVerified interview Tells
   -- What is unknown has a need; nothing outside its needs can decide it; and where nothing is asked, nothing is unknown.
   pub asked : Asked
   pub relevant : Relevant

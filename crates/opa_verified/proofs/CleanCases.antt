@@ -1,11 +1,10 @@
 -- Changes by clean names and values leave a case that can be printed.
-use Rattle.std.proofs.Common.{◌≡◌, ◌⊎◌, inl, inr, ℕ, Bool, true, false, cond, List, [], ◌∷◌, None, Some, Option, Result, Ok, Err, refl, sym, ◌∙◌, subst}
+use Rattle.std.proofs.Common.{◌≡◌, ◌⊎◌, inl, inr, ℕ, Bool, true, false, cond, List, [], ◌∷◌, None, Some, Option, Ok, refl, sym, ◌∙◌, subst}
 use Rattle.std.specs.Prelude.{◌&&◌, not}
-use Rattle.std.specs.FinMap.{FinMap, get, insert, remove, empty, get-empty}
-use Rattle.std.specs.List.{list_any, list_all, AllByRecursion}
+use Rattle.std.specs.FinMap.{FinMap, insert, remove, get-empty}
+use Rattle.std.specs.List.{AllByRecursion}
 use Rattle.std.specs.Str.{IsUtf8}
 use Rattle.opa_value.specs.declared.value.Value.{Value}
-use Rattle.opa_value.specs.declared.value.Value.TheVariants as value
 use Rattle.opa_model.specs.declared.ids.AttrId.{AttrId}
 use Rattle.opa_model.specs.declared.ids.RelId.{RelId}
 use Rattle.opa_cells.specs.Keys.{cell_cmp}
@@ -15,11 +14,11 @@ use Rattle.opa_case.specs.declared.change.ChangeCommand.{ChangeCommand}
 use Rattle.opa_case.specs.declared.change.ChangeCommand.TheVariants as change
 use Rattle.opa_case.specs.declared.change.Refusal.TheVariants.{Name}
 use Rattle.opa_case.specs.Cases.{CaseView, Answer, no_case}
-use Rattle.opa_case.specs.Clean.{IsClean, is_clean_text, is_clean_value, are_clean_names, is_clean_answer}
+use Rattle.opa_case.specs.Clean.{is_clean_text, is_clean_value, are_clean_names, is_clean_answer}
 use Rattle.opa_case.specs.Fits.{Known, Answered}
 use Rattle.opa_case.specs.Live.{Names}
 use Rattle.opa_case.specs.Shapes.{Shape}
-use Rattle.opa_case.specs.Steps.{settle, is_misplaced, is_unanswerable, is_unknown_answer, answer_fault, list_fault, within, with_answer, without_answer, with_list, without_list, step}
+use Rattle.opa_case.specs.Steps.{is_misplaced, is_unanswerable, is_unknown_answer, answer_fault, list_fault, within, with_answer, without_answer, with_list, without_list, step}
 use Rattle.opa_case.proofs.Answering.{answer_inserted, answer_removed}
 use Rattle.opa_case.proofs.Kept.{inserted, removed, guard, ok_is, passed, within_is}
 use Rattle.opa_case.proofs.Stepping.{settled_list, settled_answer}

@@ -1,7 +1,7 @@
 -- What commands and replies say is clean.
-use Rattle.std.proofs.Common.{◌≡◌, ◌⊎◌, inl, inr, ◌<◌, ◌≤◌, ℕ, ℤ, neg_ℤ, Bool, true, false, cond, List, [], ◌∷◌, ◌++◌, length, None, Some, Option, Ok, refl, sym, ◌∙◌, ap, subst, arith}
-use Rattle.std.specs.Prelude.{nat_le, unsigned_abs, codes, if◌then◌else◌}
-use Rattle.std.specs.Str.{IsUtf8, bytes_eq, chars}
+use Rattle.std.proofs.Common.{◌≡◌, inl, inr, ◌<◌, ◌≤◌, ℕ, ℤ, neg_ℤ, Bool, true, false, cond, List, [], ◌∷◌, ◌++◌, None, Some, Option, Ok, refl, sym, ◌∙◌, ap, subst, arith}
+use Rattle.std.specs.Prelude.{MatchOption, nat_le, codes, if◌then◌else◌}
+use Rattle.std.specs.Str.{bytes_eq}
 use Rattle.opa_date.specs.declared.TheConstants.{DAYS}
 use Rattle.opa_value.specs.declared.value.Value.{Value}
 use Rattle.opa_value.specs.declared.value.Value.TheVariants as value
@@ -11,19 +11,16 @@ use Rattle.opa_value.proofs.Spelling.{reads_number}
 use Rattle.opa_line.specs.Lines.{at, value_from, Follows, IsLine}
 use Rattle.opa_model.specs.declared.lists.Lists.{Lists}
 use Rattle.opa_words.specs.declared.kinds.Token.{Token}
-use Rattle.opa_words.specs.declared.kinds.TokenKind.{TokenKind}
 use Rattle.opa_words.specs.declared.kinds.TokenKind.TheVariants as kind
-use Rattle.opa_words.specs.Cuts.{Cuts}
 use Rattle.opa_words.specs.Kinds.{quoted}
-use Rattle.opa_words.specs.Pieces.{Piece, IsCutInto, piece, pieces, word, number, date, symbol, text}
+use Rattle.opa_words.specs.Pieces.{Piece, piece, pieces, word, number, date, symbol, text}
 use Rattle.opa_words.specs.Places.{token_text}
 use Rattle.opa_sentence.specs.Lexemes.{lexemes, class_of}
 use Rattle.opa_sentence.specs.Quoted.{unquoted}
 use Rattle.opa_sentence.proofs.QuotedLaws.{reads_quoted_holds}
 use Rattle.opa_text.specs.Laws.{CanBeQuoted}
-use Rattle.opa_text.specs.Spelled.{SpellsNumber, SpellsDay, SpellsValue, SpellsChanges, SpellsPairs, SpellsLine, SpellsMore, SpellsNames}
+use Rattle.opa_text.specs.Spelled.{SpellsNumber, SpellsValue, SpellsChanges, SpellsPairs, SpellsLine, SpellsMore, SpellsNames}
 use Rattle.opa_case.specs.declared.change.ChangeCommand.{ChangeCommand}
-use Rattle.opa_case.specs.declared.change.ChangeCommand.TheVariants as change
 use Rattle.opa_case.specs.declared.question.Question.{Question}
 use Rattle.opa_case.specs.declared.question.Question.TheVariants as question
 use Rattle.opa_script.specs.declared.command.Command.{Command}
@@ -32,7 +29,7 @@ use Rattle.opa_script.specs.Commands.{Says, Shows, IsCommand}
 use Rattle.opa_text.specs.declared.pointed.Point.{Point}
 use Rattle.opa_script.specs.Laws.{IsWellFormed}
 use Rattle.opa_script.specs.Lines.{HasTokens}
-use Rattle.opa_script.specs.Replies.{SaysChange, IsPlainReply, IsReply, slashed}
+use Rattle.opa_script.specs.Replies.{SaysChange, IsNotLong, IsPlainReply, IsReply, slashed}
 use Rattle.opa_script.specs.Shapes.{verb_named}
 use Rattle.opa_wording.proofs.TokensGiven.{IsSuch, AreSuch, cut_such}
 use Rattle.opa_verified.proofs.CleanCases.{IsCleanName, IsCleanValue, IsCleanPair, ChangesClean, quoted_clean}
@@ -203,3 +200,23 @@ command_clean m line c (inr h) formed =
     let begins = are.2 in
     let rest = (after_one h.1.0 are.1 tokens (word begins.0) begins.1).1 in
     said (λ v. (m : Lists) (ps : List Piece) (c : Command) → Each PieceIsClean ps → Says m v ps c → SaysClean c) (verb_named begins.0) are.0 begins.2 (word_clean begins.0) m are.1 c rest are.3.1 formed
+
+-- ---- replies to questions
+
+change_clean : (q : Question) (ps : List Piece) (k : ChangeCommand) → Each PieceIsClean ps → SaysChange q ps k → IsWellFormed (command.Change k) → ChangesClean k
+change_clean (question.Attr a i) ps k clean h formed =
+    let l = h.0 in subst ChangesClean (sym h.2) (line_clean l ps (subst (λ (c : ChangeCommand). IsWellFormed (command.Change c)) h.2 formed) clean h.1)
+change_clean (question.Members r i) ps k clean h formed = subst ChangesClean (sym h.2) (names_clean h.0 ps clean h.1)
+
+plain_clean : (q : Question) (line : List ℕ) (c : Command) → IsPlainReply q line c → SaysClean c
+plain_clean q line c (inl h) = same_clean c command.Nothing h.1 (λ formed. tt)
+plain_clean q line c (inr h) =
+    let ps = h.1.0 in let reply = h.1.2 in
+    same_clean c (command.Change reply.1.0) reply.1.2 (λ formed. change_clean q ps reply.1.0 (tokens_clean line ps h.1.1) reply.1.1 formed)
+
+pub reply_clean : (m : Lists) (q : Question) (line : List ℕ) (c : Command) → IsReply m q line c → IsWellFormed c → IsCleanCommand c
+reply_clean m q line c = go (slashed line)
+  where
+    go : (o : Option (List ℕ)) → MatchOption o (IsPlainReply q line c) (λ rest. IsCommand m rest c × IsNotLong line rest) → SaysClean c
+    go None h = plain_clean q line c h
+    go (Some rest) h = command_clean m rest c h.0

@@ -1,17 +1,16 @@
 -- What files open declares a model: no more is declared than there are lines.
-use Rattle.std.proofs.Common.{◌≡◌, ◌∙◌, ℕ, ◌+◌, ◌*◌, ◌≤◌, ◌<◌, ◌^◌, Bool, true, false, cond, List, [], ◌∷◌, ◌++◌, length, map, filter, Option, None, Some, Result, Ok, Err, refl, sym, ap, subst, length-append, arith}
-use Rattle.std.specs.Prelude.{◌==◌, flat_map, if◌then◌else◌}
+use Rattle.std.proofs.Common.{◌≡◌, ℕ, ◌+◌, ◌*◌, ◌≤◌, Bool, true, false, cond, List, [], ◌∷◌, ◌++◌, length, map, filter, Option, None, Some, Result, Ok, Err, refl, sym, ap, subst, length-append, arith}
+use Rattle.std.specs.Prelude.{◌==◌, if◌then◌else◌}
 use Rattle.std.specs.Option.{option_map, option_and_then}
 use Rattle.std.proofs.lemmas.List.{length-map}
 use Rattle.std.proofs.lemmas.Option.{cond_some}
 use Rattle.opa_io.specs.Outside.{Files}
-use Rattle.opa_io.specs.declared.limits.TheConstants.{MOST_FILE, MOST_FILE_LINES}
+use Rattle.opa_io.specs.declared.limits.TheConstants.{MOST_FILE}
 use Rattle.opa_model.specs.declared.lists.Lists.{Lists}
-use Rattle.opa_model.specs.declared.things.Verb.{Verb}
 use Rattle.opa_model.specs.Models.{IsModel}
 use Rattle.opa_words.specs.declared.kinds.Token.{Token}
 use Rattle.opa_layout.specs.declared.block.Block.{Block}
-use Rattle.opa_layout.specs.Blocks.{lines_of, block_lines}
+use Rattle.opa_layout.specs.Blocks.{lines_of}
 use Rattle.opa_layout.proofs.ShortLaws.{block_lines-few}
 use Rattle.opa_tree.specs.declared.faults.RbKind.{RbKind}
 use Rattle.opa_files.specs.declared.fault.Unread.{Unread}
@@ -28,7 +27,7 @@ use Rattle.opa_decl.specs.declared.head.Head.TheVariants as head
 use Rattle.opa_decl.specs.declared.items.Item.{Item}
 use Rattle.opa_decl.specs.declared.items.Item.TheVariants as item
 use Rattle.opa_decl.specs.declared.items.Name.{Name}
-use Rattle.opa_decl.specs.Cutting.{AreCut, block_of, line_of}
+use Rattle.opa_decl.specs.Cutting.{block_of, line_of}
 use Rattle.opa_decl.specs.Declarations.{Declares, items_in, items_of, items_or_none}
 use Rattle.opa_decl.specs.Heads.{head_of, is_declaration}
 use Rattle.opa_decl.specs.Spelling.{behind_head, member_in, headed_verb, headed_phrase, headed_text, inside_in, screen_item, verb_item, verb_block, global_block, entity_block, goal_block, screen_block, file_block, block_by, spelled_in, spelled}

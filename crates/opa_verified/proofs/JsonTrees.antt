@@ -1,6 +1,6 @@
 -- The strings of a tree that is read of a text are texts.
-use Rattle.std.proofs.Common.{◌≡◌, ℕ, zero, suc, List, [], ◌∷◌, length, Ordering, Less, Equal, Greater, Option, None, Some, refl, subst}
-use Rattle.std.specs.Prelude.{option_map, option_and_then}
+use Rattle.std.proofs.Common.{ℕ, zero, suc, List, [], ◌∷◌, length, Ordering, Less, Equal, Greater, Option, None, Some, subst}
+use Rattle.std.specs.Prelude.{option_and_then}
 use Rattle.std.specs.Ordering.{match_ordering}
 use Rattle.std.specs.Str.{IsUtf8}
 use Rattle.json.specs.Token.{Token}
@@ -8,9 +8,9 @@ use Rattle.json.specs.Lex.{tokens}
 use Rattle.json.specs.Json as json
 use Rattle.json.specs.Json.{Json, Parse, parse_map, after_end_array, read_key, items_step, members_step, items, members, value_with, value}
 use Rattle.serde_json.specs.Data.{Data, number, array, object, item, Members, no_members, member, put}
-use Rattle.serde_json.specs.Read.{number_of, of_json, of_items, of_members, max_depth, read}
+use Rattle.serde_json.specs.Read.{number_of, of_json, of_items, of_members, max_depth}
 use Rattle.opa_verified.proofs.JsonTexts.{HasTexts, ItemsHaveTexts, MembersHaveTexts, JsonIsText}
-use Rattle.opa_verified.proofs.JsonStrings.{Of, of_map, of_then, TokenIsText, TokensAreTexts, tokens_are_texts}
+use Rattle.opa_verified.proofs.JsonStrings.{Of, of_map, of_then, TokensAreTexts, tokens_are_texts}
 
 abbrev mutual
   JsonTexts : Json → Type 0

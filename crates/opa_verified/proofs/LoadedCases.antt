@@ -1,15 +1,14 @@
 -- A case that is loaded fits, and its names and answers are clean.
-use Rattle.std.proofs.Common.{◌≡◌, ◌∙◌, ◌⊎◌, inl, inr, ◌<◌, ℕ, zero, suc, ℤ, Bool, true, false, cond, List, [], ◌∷◌, ◌++◌, length, take, drop, map, position, Ordering, Less, Equal, Greater, Option, None, Some, Result, Ok, Err, refl, sym, ap, subst, arith}
-use Rattle.std.specs.Prelude.{◌==◌, ◌+◌, ◌-◌, ◌&&◌, codes, option_map, option_and_then, if◌then◌else◌}
-use Rattle.std.specs.FinMap.{FinMap, get, insert, empty, get-empty}
+use Rattle.std.proofs.Common.{◌≡◌, ◌∙◌, ◌⊎◌, inl, inr, ◌<◌, ℕ, zero, suc, ℤ, Bool, true, false, cond, List, [], ◌∷◌, length, take, drop, position, Ordering, Less, Equal, Greater, Option, None, Some, Result, Ok, Err, refl, sym, ap, subst, arith}
+use Rattle.std.specs.Prelude.{◌+◌, ◌-◌, codes, option_map, option_and_then}
+use Rattle.std.specs.FinMap.{FinMap, insert, empty, get-empty}
 use Rattle.std.specs.Ordering.{match_ordering}
 use Rattle.std.specs.Str.{IsUtf8, bytes_eq}
 use Rattle.std.proofs.lemmas.List.{length-map}
 use Rattle.std.proofs.lemmas.List.Quantifiers.{position-Some}
 use Rattle.std.proofs.lemmas.Slice.Eq.{bytes_eq-Decides}
-use Rattle.std.proofs.lemmas.Str.{IsUtf8-drop}
 use Rattle.serde_json.specs.Data.{Data, null, boolean, number, string, array, object, Items, no_items, item, Members, no_members, member}
-use Rattle.serde_json.specs.Find.{get as find_in, get_member, as_str, as_array}
+use Rattle.serde_json.specs.Find.{get as find_in, get_member, as_str}
 use Rattle.opa_date.specs.declared.TheConstants.{DAYS}
 use Rattle.opa_value.specs.declared.value.Value.{Value}
 use Rattle.opa_value.specs.declared.value.Value.TheVariants as value
@@ -26,11 +25,11 @@ use Rattle.opa_model.specs.Lookups.{attribute_named, attribute_phrases, relation
 use Rattle.opa_model.specs.Models.{IsModel}
 use Rattle.opa_cells.specs.Keys.{cell_cmp}
 use Rattle.opa_cells.specs.declared.instance.InstanceId.{InstanceId}
-use Rattle.opa_case.specs.Cases.{CaseView, Answer, stored}
+use Rattle.opa_case.specs.Cases.{CaseView, Answer}
 use Rattle.opa_case.specs.Clean.{is_clean_text}
 use Rattle.opa_case.specs.Fits.{Known, Answered, IsAnswer, Fits}
-use Rattle.opa_case.specs.Live.{Names, Population, is_live, live_of}
-use Rattle.opa_case.specs.Shapes.{IsShape, shape_of}
+use Rattle.opa_case.specs.Live.{Names, is_live}
+use Rattle.opa_case.specs.Shapes.{shape_of}
 use Rattle.opa_case.specs.Steps.{is_unknown_answer, answer_fault}
 use Rattle.opa_case.proofs.Answering.{answer_inserted, is_answer}
 use Rattle.opa_case.proofs.Kept.{inserted}
@@ -38,8 +37,8 @@ use Rattle.opa_case.proofs.Shaped.{shape_is}
 use Rattle.opa_text.specs.Readers.{number_read, number_of, day_of}
 use Rattle.opa_saved.specs.declared.fault.LoadFault.{LoadFault}
 use Rattle.opa_saved.specs.declared.loaded.Origin.{Origin}
-use Rattle.opa_saved.specs.Forms.{File, each, listed, items_in, member_in, value_in, pair_with, pair_of, pair_in, pairs_in, unless_fault, value_on, line_of, line_in, name_in, names_in, point_in, answer_with, list_with, answer_in, list_in, answers_apart, lists_apart, answers_in, lists_in, differ, answer_points, list_points, has_size, says_format, version_in, file_at, file_with, file_of, file_in, day_at}
-use Rattle.opa_saved.specs.Loading.{answer_instance, list_instance, put_list, put_lists, put_answer, put_answers, lists_of_file, answers_of_file, case_with, case_of, living, live_in, answer_refusal, text_refusal, entry_refusals, refusals_of, least_of, IsLoaded}
+use Rattle.opa_saved.specs.Forms.{File, each, listed, items_in, member_in, value_in, pair_of, pair_in, pairs_in, unless_fault, value_on, line_of, line_in, name_in, names_in, point_in, answer_with, list_with, answer_in, list_in, answers_apart, lists_apart, answers_in, lists_in, differ, answer_points, list_points, has_size, says_format, version_in, file_at, file_of, file_in, day_at}
+use Rattle.opa_saved.specs.Loading.{answer_instance, list_instance, put_list, put_lists, put_answer, put_answers, lists_of_file, answers_of_file, case_of, living, live_in, answer_refusal, text_refusal, entry_refusals, refusals_of, least_of, IsLoaded}
 use Rattle.opa_saved.specs.Building.{AreAnswerable}
 use Rattle.opa_saved.specs.Texts.{after, clean, plainly, number_value, text_value, day_value, plain_value, typed_value, value_of, same_value}
 use Rattle.opa_saved.proofs.AnswerLaws.{or_none}

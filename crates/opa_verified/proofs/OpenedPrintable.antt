@@ -1,13 +1,9 @@
 -- What files open can be printed.
-use Rattle.std.proofs.Common.{◌≡◌, ◌<◌, ◌^◌, Bool, true, false, cond, List, [], ◌∷◌, ◌++◌, map, All, Contains, Option, None, Some, Result, Ok, Err, refl, sym, ap, subst, ℕ}
+use Rattle.std.proofs.Common.{◌≡◌, Bool, true, false, cond, List, [], ◌∷◌, ◌++◌, map, All, Contains, Some, Result, Ok, Err, refl, sym, subst, ℕ}
 use Rattle.std.specs.Prelude.{find}
-use Rattle.std.specs.List.{AllByRecursion}
 use Rattle.std.specs.Str.{IsUtf8}
-use Rattle.std.proofs.lemmas.List.Elements.{All-append, All-contains, All-head, All-tail, All-from_recursion, All-nil, All-cons}
+use Rattle.std.proofs.lemmas.List.Elements.{All-append, All-contains, All-head, All-tail, All-nil, All-cons}
 use Rattle.opa_io.specs.Outside.{Files}
-use Rattle.opa_value.specs.declared.value.Value.TheVariants as value
-use Rattle.opa_model.specs.declared.ids.AttrId.{AttrId}
-use Rattle.opa_model.specs.declared.lists.Lists.{Lists}
 use Rattle.opa_model.specs.Lookups.{attribute_phrases, relation_phrases}
 use Rattle.opa_model.specs.Models.{IsModel}
 use Rattle.opa_verbs.specs.Phrasing.{IsReadable}
@@ -15,7 +11,7 @@ use Rattle.opa_layout.specs.declared.block.Block.{Block}
 use Rattle.opa_layout.specs.declared.block.BlockLine.{BlockLine}
 use Rattle.opa_tree.specs.declared.rulebase.Rulebase.{Rulebase}
 use Rattle.opa_tree.specs.declared.rules.Rule.{Rule}
-use Rattle.opa_tree.specs.Rules.{rule_of, concludes}
+use Rattle.opa_tree.specs.Rules.{concludes}
 use Rattle.opa_files.specs.declared.source.SourceFile.{SourceFile}
 use Rattle.opa_files.specs.Files.{AreFiles}
 use Rattle.opa_decl.specs.Declarations.{Declares, items_of}
@@ -27,9 +23,7 @@ use Rattle.opa_wording.proofs.RulesGiven.{inferences_are_given_hold}
 use Rattle.opa_wording.proofs.TablesGiven.{all_rules_are_given_hold}
 use Rattle.opa_rulebase.specs.Loading as loading
 use Rattle.opa_rulebase.specs.Loading.{IsAccepted, Opens, table_files}
-use Rattle.opa_spelled.specs.Spelling.{IsOrigin}
 use Rattle.opa_proof.specs.Fine.{AreFine, constants, IsPrintableBase}
-use Rattle.opa_proof.specs.Restating.{origin_by}
 use Rattle.opa_verified.specs.Laws.{OpenedIsModel, OpenedIsPrintable}
 use Rattle.opa_verified.proofs.DeclaredPhrases.{declared_texts}
 use Rattle.opa_verified.proofs.FewItems.{declared_model}

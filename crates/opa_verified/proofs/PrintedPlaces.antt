@@ -1,8 +1,7 @@
 -- The places of rules can be printed.
-use Rattle.std.proofs.Common.{◌≡◌, ◌∙◌, ℕ, zero, suc, ◌+◌, ◌<◌, ◌^◌, Bool, true, false, cond, List, [], ◌∷◌, ◌++◌, map, Option, None, Some, refl, sym, ap, subst, arith}
-use Rattle.std.specs.Prelude.{◌&&◌, ◌||◌, slice_index_or}
-use Rattle.std.specs.Char.{IsScalar}
-use Rattle.std.specs.List.{list_any, AllByRecursion}
+use Rattle.std.proofs.Common.{◌≡◌, ◌∙◌, ℕ, zero, suc, ◌+◌, ◌<◌, ◌^◌, Bool, true, false, cond, List, [], ◌∷◌, ◌++◌, Option, refl, sym, ap, subst, arith}
+use Rattle.std.specs.Prelude.{◌||◌, slice_index_or}
+use Rattle.std.specs.List.{list_any}
 use Rattle.std.specs.Str.{IsUtf8, chars}
 use lib.Utf8.{scalar, scalars, encode}
 use Rattle.std.proofs.lemmas.Str.{IsUtf8-nil, IsUtf8-append, IsUtf8-encode, chars_past_char, chars-nil, scalars-chars}
@@ -13,11 +12,9 @@ use Rattle.opa_words.specs.Names.{printed_character, printed_characters, printed
 use Rattle.opa_words.proofs.Letters.{left, right}
 use Rattle.opa_layout.specs.declared.block.Block.{Block}
 use Rattle.opa_layout.specs.declared.block.BlockLine.{BlockLine}
-use Rattle.opa_tree.specs.declared.expr.Expr.{Expr}
 use Rattle.opa_tree.specs.declared.rules.Rule.{Rule}
 use Rattle.opa_sentence.specs.declared.names.Names.{Names}
 use Rattle.opa_parse.specs.declared.block.RuleBlock.{RuleBlock}
-use Rattle.opa_parse.specs.declared.block.Statement.{Statement}
 use Rattle.opa_parse.specs.Rules as rules
 use Rattle.opa_parse.specs.Rules.{AreRuleBlocks, IsRuleBlock, first_number, rules_in}
 use Rattle.opa_parse.proofs.Handing as hand

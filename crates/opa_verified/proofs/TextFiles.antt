@@ -1,5 +1,5 @@
 -- The files of a shelf are texts, and so are the lines of their blocks.
-use Rattle.std.proofs.Common.{◌≡◌, ◌∙◌, ℕ, ◌+◌, ◌<◌, ◌≤◌, List, [], ◌∷◌, ◌++◌, length, All, Bool, true, false, cond, Option, None, Some, Result, Ok, Err, refl, sym, ap, subst, append_assoc, arith}
+use Rattle.std.proofs.Common.{◌≡◌, ℕ, ◌+◌, ◌≤◌, List, [], ◌∷◌, ◌++◌, length, All, Bool, true, false, cond, Option, None, Some, Result, Ok, Err, refl, sym, subst, append_assoc, arith}
 use Rattle.std.specs.Prelude.{◌==◌, nat_lt}
 use Rattle.std.specs.List.{AllByRecursion}
 use Rattle.std.specs.FinMap as map
@@ -10,16 +10,15 @@ use Rattle.opa_io.specs.Outside.{Files}
 use Rattle.opa_io.specs.declared.limits.TheConstants.{MOST_FILE}
 use Rattle.opa_words.specs.Cuts.{Cuts}
 use Rattle.opa_words.specs.Kinds.{doubled, quoted}
-use Rattle.opa_words.specs.Pieces.{Piece, piece, pieces, word, text}
+use Rattle.opa_words.specs.Pieces.{Piece, pieces}
 use Rattle.opa_words.specs.Places.{IsWithin, token_text}
 use Rattle.opa_words.specs.declared.kinds.Token.{Token}
 use Rattle.opa_words.proofs.PlaceLaws.{tokens_within}
 use Rattle.opa_layout.specs.declared.block.Block.{Block}
-use Rattle.opa_layout.specs.declared.block.BlockLine.{BlockLine}
-use Rattle.opa_layout.specs.Lines.{Row, rows}
-use Rattle.opa_layout.specs.Blocks.{lines_of, block_lines}
+use Rattle.opa_layout.specs.Lines.{Row}
+use Rattle.opa_layout.specs.Blocks.{lines_of}
 use Rattle.opa_tree.specs.declared.faults.RbKind.{RbKind}
-use Rattle.opa_tree.specs.declared.faults.RbKind.TheVariants.{Bytes, Limit, Missing}
+use Rattle.opa_tree.specs.declared.faults.RbKind.TheVariants.{Limit}
 use Rattle.opa_files.specs.declared.fault.Unread.{Unread}
 use Rattle.opa_files.specs.declared.source.FileLine.{FileLine}
 use Rattle.opa_files.specs.declared.source.SourceFile.{SourceFile}

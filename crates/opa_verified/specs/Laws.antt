@@ -1,4 +1,4 @@
--- What holds of what files open, of what is held in a run over it, and of the reports that a run prints.
+-- What holds of what files open, of what is held in a run or an interview over it, and of the reports that are printed there.
 use Rattle.std.specs.Prelude.{◌≡◌, ◌<◌, ◌^◌, ℕ, true, List, length, Option, Ok}
 use Rattle.std.specs.Str.{IsUtf8}
 use Rattle.opa_date.specs.declared.TheConstants.{DAYS}
@@ -8,18 +8,19 @@ use Rattle.opa_model.specs.Models.{IsModel, HasAttribute}
 use Rattle.opa_tree.specs.declared.rulebase.Rulebase.{Rulebase}
 use Rattle.opa_cells.specs.declared.instance.InstanceId.{InstanceId}
 use Rattle.opa_case.specs.Cases.{CaseView}
-use Rattle.opa_mean.specs.Rulebases.{IsOf}
+use Rattle.opa_case.specs.Shapes.{attribute_or}
+use Rattle.opa_mean.specs.Rulebases.{IsOf, value_at}
 use Rattle.opa_mean.specs.Slots.{has_place}
 use Rattle.opa_listen.specs.Hearing.{Hearer}
 use Rattle.opa_rulebase.specs.Loading.{Opens}
+use Rattle.opa_script.specs.declared.command.Command.{Command}
 use Rattle.opa_script.specs.declared.command.Command.TheVariants as command
-use Rattle.opa_talk.specs.Transcript.{IsTranscript}
+use Rattle.opa_talk.specs.Transcript.{Rule, IsTranscript}
 use Rattle.opa_told.specs.Reports.{IsReportTold}
 use Rattle.opa_reply.specs.Held.{Held, at_first}
-use Rattle.opa_reply.specs.Replies.{Asks, conversation}
 use Rattle.opa_proof.specs.Fine.{IsPrintableBase, IsPrintableCase}
 use Rattle.opa_proof.specs.OfCases.{IsOfCase}
-use Rattle.opa_proof.specs.Telling.{SaysSupported, Tells}
+use Rattle.opa_proof.specs.Telling.{SaysSupported, Tells, supported_line}
 use Rattle.opa_proof.specs.declared.verdict.Verdict.{Verdict}
 use Rattle.opa_proof.specs.declared.verdict.Verdict.TheVariants as verdict
 
@@ -36,36 +37,43 @@ abbrev pub ReportsAreOfCases : Type 0
 ReportsAreOfCases = (r : Rulebase) (c : CaseView) → IsPrintableBase r → IsOf r c → IsPrintableCase c
     → (a : AttrId) (i : InstanceId) (d : ℕ) → HasAttribute r.model a → d < DAYS → has_place r c a i ≡ true → (text : List ℕ) → length text < 2 ^ 64 → IsReportTold r c a i d text → IsOfCase r text
 
--- ---- runs
+-- ---- runs and interviews
 
--- This is held in a run over a rulebase: whoever listens, whatever files are told and however many lines were derived by then,
--- lines were carried out from the empty case on.
-pub record IsHeldInRun (base : Rulebase) (x : Held) : Type 0 where
+-- This is held over a rulebase after lines that a rule replies to, from the empty case on: whoever listens, whatever files are
+-- told, and however many lines were derived by then.
+pub record IsHeldBy (rule : Rule Held) (base : Rulebase) (x : Held) : Type 0 where
   pub hearers : List Hearer
   pub files : Option Files
   pub derived : ℕ
   pub lines : List (List ℕ)
   pub text : List ℕ
-  pub printed : IsTranscript conversation (at_first base hearers files derived) lines text x
+  pub printed : IsTranscript rule (at_first base hearers files derived) lines text x
 
--- What is held in a run is held over that rulebase, and its case fits and can be printed.
-abbrev pub HeldIsPrintable : Type 0
-HeldIsPrintable = (base : Rulebase) → IsModel base.model → (x : Held) → IsHeldInRun base x → (x.rules ≡ base) × IsOf base x.case × IsPrintableCase x.case
+-- What is held is held over that rulebase, and its case fits and can be printed.
+abbrev pub HeldIsPrintable : Rule Held → Type 0
+HeldIsPrintable rule = (base : Rulebase) → IsModel base.model → (x : Held) → IsHeldBy rule base x → (x.rules ≡ base) × IsOf base x.case × IsPrintableCase x.case
 
--- In a run over the rulebase a line asks for the report of a point that there is, and this is the reply.
-pub record IsReportInRun (base : Rulebase) (said : List ℕ) : Type 0 where
+-- After some lines over the rulebase a line says that the report of a point is asked for, which there is, and this is the reply.
+pub record IsReportBy (rule : Rule Held) (Says : Held → List ℕ → Command → Type 0) (base : Rulebase) (said : List ℕ) : Type 0 where
   pub held : Held
-  pub reached : IsHeldInRun base held
+  pub reached : IsHeldBy rule base held
   pub line : List ℕ
   pub attr : AttrId
   pub inst : InstanceId
   pub day : ℕ
-  pub asks : Asks held line (command.Report attr inst day)
+  pub asks : Says held line (command.Report attr inst day)
   pub there : has_place held.rules held.case attr inst ≡ true
   pub after : Held
-  pub replies : conversation.Replies held line said after
+  pub replies : rule.Replies held line said after
 
--- Whatever the files of a shelf open, Yes is the verdict on what a run over it prints as a report, and what is told of it says so.
-abbrev pub ReportsAreVerified : Type 0
-ReportsAreVerified = (files : Files) (name : List ℕ) (base : Rulebase) → IsUtf8 name → Opens files name (Ok base)
-    → (said : List ℕ) → IsReportInRun base said → length said < 2 ^ 64 → (v : Verdict) (told : List ℕ) → Tells base said v told → (v ≡ verdict.Yes) × SaysSupported base said told
+-- Yes is the verdict on the text, what is told of it says that its value is supported, and tells the value that the case gives the point
+-- on that day.
+pub record IsVerified (base : Rulebase) (c : CaseView) (a : AttrId) (i : InstanceId) (d : ℕ) (text : List ℕ) (v : Verdict) (told : List ℕ) : Type 0 where
+  pub yes : v ≡ verdict.Yes
+  pub supported : SaysSupported base text told
+  pub value : told ≡ supported_line (attribute_or base.model a).phrase (attribute_or base.model a).kind i d (value_at base c a i d)
+
+-- Whatever the files of a shelf open, a reply that is a report over it is verified.
+abbrev pub ReportsAreVerified : Rule Held → (Held → List ℕ → Command → Type 0) → Type 0
+ReportsAreVerified rule Says = (files : Files) (name : List ℕ) (base : Rulebase) → IsUtf8 name → Opens files name (Ok base)
+    → (said : List ℕ) (report : IsReportBy rule Says base said) → length said < 2 ^ 64 → (v : Verdict) (told : List ℕ) → Tells base said v told → IsVerified base report.held.case report.attr report.inst report.day said v told

@@ -1,4 +1,6 @@
-// What holds of what files open, of what is held in a run over it, and of the reports that a run prints.
+// What holds of what files open, of what is held in a run or an interview over it, and of the reports that are printed there.
+ghost use Rattle.opa_reply.specs.Interviews.{Tells, interview};
+ghost use Rattle.opa_reply.specs.Replies.{Asks, conversation};
 ghost use Rattle.opa_verified.specs.Laws as law;
 
 /// What files open is of a model, and can be printed: its phrases, the places of its rules, and their constants.
@@ -12,12 +14,14 @@ pub fn reports_are_of_cases()
     ensures { law.ReportsAreOfCases }
 {}
 
-/// A case that is held in a run can be printed: its names, and the texts and numbers of its answers.
+/// A case that is held in a run or an interview can be printed: its names, and the texts and numbers of its answers.
 pub fn held_is_printable()
-    ensures { law.HeldIsPrintable }
+    ensures run { law.HeldIsPrintable conversation }
+    ensures interview { law.HeldIsPrintable interview }
 {}
 
-/// Yes is the verdict on what a run prints as a report, and what is told of it says so.
+/// Yes is the verdict on what a run or an interview prints as a report; what is told of it says so, with the value of the case.
 pub fn reports_are_verified()
-    ensures { law.ReportsAreVerified }
+    ensures run { law.ReportsAreVerified conversation Asks }
+    ensures interview { law.ReportsAreVerified interview Tells }
 {}

@@ -1,4 +1,5 @@
-//! Laws alone: what files open and what is held in a run can be printed, and the verifier supports what a run prints as a report.
+//! Laws alone: what files open and what is held in a run or an interview can be printed, and the verifier supports what is printed
+//! there as a report.
 #![tactic(auto)]
 
 mod laws;

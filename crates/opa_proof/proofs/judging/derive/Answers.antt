@@ -24,7 +24,7 @@ returns-in_ok-told-in-None c =
     let held : AreHeldUp b lines = subst (λ o. MatchOption o (AreHeldUp b lines) (IsFirstFault b lines)) c.in-None.is c.in_ok-first_fault.ensures in
     let listed : asked_value r ≡ Some c.in-Some.value.now = sym (ap (λ ls. (listing_of ls).value r.attr r.inst r.day) c.as_slice-lines.ensures) ∙ sym c.listed.ensures ∙ ap option_copied c.in-Some.is in
     let told = c.in_ok-told-in-None in
-    tells_supported c.args.base.now c.args.text.now r c.in-Some.value.now told.told.verdict told.told.text told.ensures.verdict told.ensures.text c.requires.text (subst (AreHeldUp b) c.as_slice-lines.ensures held) listed
+    tells_supported c.args.base.now c.args.text.now r c.in-Some.value.now told.told.verdict told.told.text told.ensures.verdict told.ensures.text c.requires.text c.requires.read (subst (AreHeldUp b) c.as_slice-lines.ensures held) listed
 
 pub returns-in_ok-told-in-Some-2 : goal.returns-in_ok-told-in-Some-2
 returns-in_ok-told-in-Some-2 c =

@@ -1,5 +1,8 @@
-use Rattle.opa_verified.proofs.Runs.{reports_are_verified_hold}
+use Rattle.opa_verified.proofs.Runs.{run_reports_hold, interview_reports_hold}
 use Rattle.opa_verified.proofs.laws.reports_are_verified.Goals as goal
 
-pub returns : goal.returns
-returns c = reports_are_verified_hold
+pub returns-clause-run : goal.returns-clause-run
+returns-clause-run c = run_reports_hold
+
+pub returns-clause-interview : goal.returns-clause-interview
+returns-clause-interview c = interview_reports_hold
