@@ -1,17 +1,17 @@
 -- How a caseload ends, from what its parts ensure.
-use Rattle.std.proofs.Common.{◌≡◌, ◌≤◌, inl, inr, ℕ, true, false, List, [], ◌∷◌, Result, Ok, Err, OnOk, IfErr, refl, subst, arith, ap, ◌∙◌}
+use Rattle.std.proofs.Common.{◌≡◌, ◌≤◌, inl, inr, ℕ, true, false, List, [], ◌∷◌, Result, Ok, Err, OnOk, IfErr, refl, subst, ap, ◌∙◌}
 use Rattle.std.specs.Prelude.{Option}
-use Rattle.opa_io.specs.Outside.{Rose}
 use Rattle.opa_outside.specs.Outside.{MOST, Outside}
 use Rattle.opa_talk.specs.declared.halt.Halt.{Halt}
 use Rattle.opa_talk.specs.declared.halt.Halt.TheVariants as halt
-use Rattle.opa_talk.specs.Halt.{IsCause}
+use Rattle.opa_talk.specs.Halt.{IsCause, end_of}
 use Rattle.opa_talk.specs.Talk.{Converses, Halts, HaltsAt, HaltedAmong, LeftAt, Paused, MayLeave}
 use Rattle.opa_talk.specs.Transcript.{Prints, IsTranscript}
 use Rattle.opa_talk.proofs.EndLaws.{halts_memory}
+use Rattle.opa_talk.proofs.RoseLaws.{rose_later}
 use Rattle.opa_tree.specs.declared.rulebase.Rulebase.{Rulebase}
 use Rattle.opa_cases.specs.Caseload.{Held, caseload, Lacks, Stops, RepliesLine, RepliesNamed, at_first}
-use Rattle.opa_cases.specs.Serving.{SaysFront, SaysWhole, Talks, TalksAll, TalksPart, end_of}
+use Rattle.opa_cases.specs.Serving.{SaysFront, SaysWhole, Talks, TalksAll, TalksPart}
 
 module _ (base : Rulebase) (old new : Outside) (s s' : Held) (is : s ≡ at_first base old.files) (files : new.files ≡ s'.files) where
   pub talks_all : {E : Type 0} (r : Result (Unit {0}) E) → OnOk r (Converses caseload s s' MOST old.left new.left old.written new.written) → OnOk r (TalksAll base old new)
@@ -66,10 +66,6 @@ fed_files base old new (Ok u) (y, c, files) part = files ∙ transcript_files (a
 fed_files base old new (Err e) all (y, (read, took, h), files) = files ∙ halts_files old.keeps new.keeps (at_first base old.files) y read new.left old.written new.written e h
 
 -- ---- the end
-
--- a count that rose later rose
-rose_later : (before mid now : ℕ) → before ≤ mid → Rose mid now → Rose before now
-rose_later before mid now less rose = search (arith, less, rose)
 
 module _ (base : Rulebase) (old new : Outside) (mid : ℕ) (less : old.takes ≤ mid) where
   whole : (y : Held) (read : List ℕ) → Paused caseload (at_first base old.files) y read old.written new.written → SaysWhole base old new read

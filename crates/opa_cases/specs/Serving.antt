@@ -9,7 +9,6 @@ use Rattle.opa_outside.specs.Outside.{MOST, Outside, IsUnused, IsSilent}
 use Rattle.opa_outside.specs.Telling.{IsTold}
 use Rattle.opa_rulebase.specs.Loading.{Opens}
 use Rattle.opa_talk.specs.declared.halt.Halt.{Halt}
-use Rattle.opa_talk.specs.declared.halt.Halt.TheVariants as halt
 use Rattle.opa_talk.specs.Lines.{input_lines, IsWhole}
 use Rattle.opa_talk.specs.Transcript.{IsTranscript}
 use Rattle.opa_talk.specs.Talk.{HaltedAmong, Converses, Halts, MayLeave}
@@ -73,13 +72,3 @@ TalksAll base old new = (y : Held) × Converses caseload (at_first base old.file
 -- some of the input was read, and the talk halts there
 abbrev pub TalksPart : Rulebase → Outside → Outside → Halt → Type 0
 TalksPart base old new halt = (y : Held) × Halts caseload (MayLeave old.keeps new.keeps Stops Lacks) (at_first base old.files) y MOST old.left new.left old.written new.written halt × (new.files ≡ y.files)
-
--- how an input ends that was fed
-abbrev pub end_of : Result (Unit {0}) Halt → Status
-end_of (Ok u) = status.Done
-end_of (Err halt.Input) = status.ReadFault
-end_of (Err halt.Output) = status.WriteFault
-end_of (Err halt.Take) = status.ReadFault
-end_of (Err halt.Keep) = status.WriteFault
-end_of (Err halt.Memory) = status.NoMemory
-end_of (Err halt.Limit) = status.InputLimit

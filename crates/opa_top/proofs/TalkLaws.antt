@@ -1,20 +1,20 @@
 -- How a run ends, from what its parts ensure.
 use Rattle.std.proofs.Common.{◌≡◌, ◌≤◌, ◌+◌, inl, inr, ℕ, true, false, List, Result, Ok, Err, OnOk, IfErr, refl, sym, subst, arith, ◌∙◌}
 use Rattle.std.specs.Io.KnownBytes.{IsAtEnd}
-use Rattle.opa_io.specs.Outside.{Rose}
 use Rattle.opa_io.specs.declared.fault.Status.{Status}
 use Rattle.opa_io.specs.declared.fault.Status.TheVariants as status
 use Rattle.opa_infer.specs.Sessions.{first_slots}
 use Rattle.opa_model.specs.Models.{IsModel}
 use Rattle.opa_talk.specs.declared.halt.Halt.{Halt}
 use Rattle.opa_talk.specs.declared.halt.Halt.TheVariants as halt
-use Rattle.opa_talk.specs.Halt.{IsCause}
+use Rattle.opa_talk.specs.Halt.{IsCause, end_of}
 use Rattle.opa_talk.specs.Talk.{Converses, Halts, HaltedAmong, Paused, MayLeave}
 use Rattle.opa_talk.proofs.EndLaws.{halts_memory}
+use Rattle.opa_talk.proofs.RoseLaws.{rose_later}
 use Rattle.opa_tree.specs.declared.rulebase.Rulebase.{Rulebase}
 use Rattle.opa_reply.specs.Held.{Held}
 use Rattle.opa_top.specs.Checking.{IsTold}
-use Rattle.opa_top.specs.Running.{MOST, Manner, Outside, IsFirst, beginning, Leaves, SaysFront, SaysOver, SaysWhole, Talks, TalksAll, TalksPart, Runs, a_run, end_of}
+use Rattle.opa_top.specs.Running.{MOST, Manner, Outside, IsFirst, beginning, Leaves, SaysFront, SaysOver, SaysWhole, Talks, TalksAll, TalksPart, Runs, a_run}
 
 module _ (way : Manner) (base : Rulebase) (old new : Outside) (first : ℕ) (few : IsFirst base old first) (s s' : Held) (is : s ≡ beginning base old first) (leaves : Leaves new s') where
   pub talks_all : {E : Type 0} (r : Result (Unit {0}) E) → OnOk r (Converses way.rule s s' MOST old.left new.left old.written new.written) → OnOk r (TalksAll way base old new)
@@ -50,10 +50,6 @@ talks_not way base old steps few = (
   halts_memory way.rule (MayLeave old.keeps old.keeps way.stops way.lacks) (beginning base old steps) MOST old.left old.written,
   record { files = refl; hearers = refl; steps = omega arith },
 )
-
--- a count that rose later rose
-rose_later : (before mid now : ℕ) → before ≤ mid → Rose mid now → Rose before now
-rose_later before mid now less rose = search (arith, less, rose)
 
 module _ (way : Manner) (base : Rulebase) (old new : Outside) (mid : ℕ) (less : old.takes ≤ mid) where
   module _ (first : ℕ) (some : IsFirst base old first) where

@@ -6,7 +6,6 @@ use Rattle.opa_io.specs.declared.fault.Status.{Status}
 use Rattle.opa_io.specs.declared.fault.Status.TheVariants as status
 use Rattle.opa_listen.specs.Hearing.{Hearer}
 use Rattle.opa_talk.specs.declared.halt.Halt.{Halt}
-use Rattle.opa_talk.specs.declared.halt.Halt.TheVariants as halt
 use Rattle.opa_talk.specs.Lines.{input_lines, IsWhole}
 use Rattle.opa_talk.specs.Transcript.{Rule, IsGoing, IsOver, IsTranscript}
 use Rattle.opa_talk.specs.Talk.{HaltedAmong, Converses, Halts, MayLeave}
@@ -152,13 +151,3 @@ TalksAll way base old new = (first : ℕ) × IsFirst base old first × (y : Held
 -- some of the input was read, and the talk halts there
 abbrev pub TalksPart : Manner → Rulebase → Outside → Outside → Halt → Type 0
 TalksPart way base old new halt = (first : ℕ) × IsFirst base old first × (y : Held) × Halts way.rule (MayLeave old.keeps new.keeps way.stops way.lacks) (beginning base old first) y MOST old.left new.left old.written new.written halt × Leaves new y
-
--- how a run ends that was fed
-abbrev pub end_of : Result (Unit {0}) Halt → Status
-end_of (Ok u) = status.Done
-end_of (Err halt.Input) = status.ReadFault
-end_of (Err halt.Output) = status.WriteFault
-end_of (Err halt.Take) = status.ReadFault
-end_of (Err halt.Keep) = status.WriteFault
-end_of (Err halt.Memory) = status.NoMemory
-end_of (Err halt.Limit) = status.InputLimit
