@@ -1,14 +1,11 @@
 // A line of the input, as it is read.
-ghost use denote.Ref.{Bor};
-ghost use Rattle.std.specs.Option.{option_map};
-ghost use Rattle.std.specs.Prelude.{◌≡◌, ℕ, List as Seq};
-ghost use Rattle.opa_script.specs.Replies.{slashed};
+ghost use Rattle.std.specs.Prelude.{◌≡◌};
 ghost use Rattle.std.specs.Str.Lines.{strip_carriage_return};
 ghost use Rattle.opa_reply.specs.Interviews as meant_asked;
 ghost use Rattle.opa_reply.specs.Lines as meant;
 
 use opa_io::limits::MOST_LINE;
-use opa_script::{is_idle, past_blanks};
+use opa_script::{is_idle, slashed};
 
 /// Without the carriage return at the end.
 fn without_return(bytes: &[u8]) -> &[u8]
@@ -47,21 +44,11 @@ pub(crate) fn is_too_long(line: &[u8]) -> bool
     bytes_of(line).len() > MOST_LINE && !is_idle(text_of(line))
 }
 
-/// What follows a slash that is the first character but blanks.
-fn behind_slash(text: &[u8]) -> Option<&[u8]>
-    ensures { option_map (λ (r : Bor (Seq ℕ)). r.now) result ≡ slashed text.now }
-{
-    match past_blanks(text) {
-        [] => None,
-        [first, rest @ ..] => if *first == b'/' { Some(rest) } else { None },
-    }
-}
-
 /// Whether a text is blank or a comment, also behind a slash.
 fn is_idle_reply(text: &[u8]) -> bool
     ensures { result ≡ meant_asked.is_idle_reply text.now }
 {
-    match behind_slash(text) {
+    match slashed(text) {
         Some(rest) => is_idle(rest),
         None => is_idle(text),
     }

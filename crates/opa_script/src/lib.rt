@@ -27,4 +27,4 @@ pub use laws::{
 };
 pub use lines::{is_idle, past_blanks};
 pub use reading::read_command;
-pub use replies::read_reply;
+pub use replies::{read_reply, slashed};
