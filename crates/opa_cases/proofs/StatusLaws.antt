@@ -9,11 +9,11 @@ use Rattle.opa_outside.specs.Outside.{MOST, Outside, IsUnused, IsSilent, ReadAtM
 use Rattle.opa_outside.specs.Telling.{IsTold}
 use Rattle.opa_rulebase.specs.Loading.{Opens}
 use Rattle.opa_talk.specs.Talk.{MayLeave}
-use Rattle.opa_talk.proofs.StatusLaws.{all_read, first_among, took_within, unread, whole_among}
+use Rattle.opa_talk.proofs.StatusLaws.{all_read, calm_is_done, first_among, unread, whole_among}
 use Rattle.opa_talk.proofs.TranscriptLaws.{cuts_anywhere}
 use Rattle.opa_tree.specs.declared.rulebase.Rulebase.{Rulebase}
 use Rattle.opa_cases.specs.Caseload.{caseload, Lacks, Stops, at_first}
-use Rattle.opa_cases.specs.Serving.{IsOpened, SaysAll, SaysFront, SaysWhole, Talks, Ran}
+use Rattle.opa_cases.specs.Serving.{IsOpened, counts, SaysAll, SaysFront, SaysWhole, Talks, Ran}
 use Rattle.opa_cases.specs.Statuses.{WroteRefusal, WroteFront, Wrote, WroteLines, LeftOff, OpensBase, OpensRefusal, HasCause, status_of}
 use Rattle.opa_cases.specs.Promises.{Promises}
 use Rattle.opa_cases.proofs.Alone.{alone}
@@ -159,16 +159,9 @@ module _ (name : List ℕ) (files : Files) (bytes : List ℕ) (old new : Outside
   Decided s = (opened : Result Rulebase (List ℕ)) × Opens files name opened × (s ≡ status_of opened)
 
   talk_decided : (s : Status) (base : Rulebase) → old.left ≡ Some bytes → Opens files name (Ok base) → Talks base old new s → s ≢ status.NoMemory → Decided s
-  talk_decided status.Done base l o t some = (Ok base, o, refl)
-  talk_decided status.Refused base l o t some = absurd t
-  talk_decided status.Usage base l o t some = absurd t
-  talk_decided status.ReadFault base l o (read, took, few, inl h) some = absurd (calm.read h.0)
-  talk_decided status.ReadFault base l o (read, took, few, inr h) some = absurd (calm.take h.0)
-  talk_decided status.WriteFault base l o (read, took, few, (inl h, says)) some = absurd (calm.write h)
-  talk_decided status.WriteFault base l o (read, took, few, (inr h, says)) some = absurd (calm.keep h)
-  talk_decided status.NoMemory base l o t some = absurd (some refl)
-  talk_decided status.InputLimit base l o (read, took, many, says) some =
-      absurd (let few = took_within bytes read new.left (subst (λ x. Consumes x new.left read) l took) in omega (arith, few, many, short))
+  talk_decided s base l o t some =
+      let done = calm_is_done MOST old.left new.left (counts old) (counts new) (λ read. IsAtEnd new.left × SaysAll base old new read) (SaysWhole base old new) (SaysFront base old new) bytes l short calm.take calm.keep calm.read calm.write s t some in
+      (Ok base, o, done)
 
   refusal_decided : (s : Status) (text : List ℕ) → Opens files name (Err text) → IsTold status.Refused text old.written new.written old.writes new.writes s → Decided s
   refusal_decided s text o (inl h) = (Err text, o, h.0)

@@ -2,16 +2,17 @@
 use Rattle.std.proofs.Common.{◌≡◌, ◌≤◌, inl, inr, ℕ, true, false, List, [], ◌∷◌, Result, Ok, Err, OnOk, IfErr, refl, subst, ap, ◌∙◌}
 use Rattle.std.specs.Prelude.{Option}
 use Rattle.opa_outside.specs.Outside.{MOST, Outside}
+use Rattle.std.specs.Io.KnownBytes.{IsAtEnd}
 use Rattle.opa_talk.specs.declared.halt.Halt.{Halt}
 use Rattle.opa_talk.specs.declared.halt.Halt.TheVariants as halt
 use Rattle.opa_talk.specs.Halt.{IsCause, end_of}
 use Rattle.opa_talk.specs.Talk.{Converses, Halts, HaltsAt, HaltedAmong, LeftAt, Paused, MayLeave}
 use Rattle.opa_talk.specs.Transcript.{Prints, IsTranscript}
 use Rattle.opa_talk.proofs.EndLaws.{halts_memory}
-use Rattle.opa_talk.proofs.RoseLaws.{rose_later}
+use Rattle.opa_talk.proofs.StatusLaws.{halts_end}
 use Rattle.opa_tree.specs.declared.rulebase.Rulebase.{Rulebase}
 use Rattle.opa_cases.specs.Caseload.{Held, caseload, Lacks, Stops, RepliesLine, RepliesNamed, at_first}
-use Rattle.opa_cases.specs.Serving.{SaysFront, SaysWhole, Talks, TalksAll, TalksPart}
+use Rattle.opa_cases.specs.Serving.{counts, SaysAll, SaysFront, SaysWhole, Talks, TalksAll, TalksPart}
 
 module _ (base : Rulebase) (old new : Outside) (s s' : Held) (is : s ≡ at_first base old.files) (files : new.files ≡ s'.files) where
   pub talks_all : {E : Type 0} (r : Result (Unit {0}) E) → OnOk r (Converses caseload s s' MOST old.left new.left old.written new.written) → OnOk r (TalksAll base old new)
@@ -80,9 +81,6 @@ module _ (base : Rulebase) (old new : Outside) (mid : ℕ) (less : old.takes ≤
     | inl end ↦ (c.read, c.took, c.within, (end, record { text = c.text; held = y; said = c.said; wrote = c.wrote }))
     | inr over ↦ absurd (let no : false ≡ true = over.0 in cc no)
   ]
-  fed (Err halt.Input) all (y, (read, took, (few, p)), files) cause = (read, took, few, inl (cause, whole y read p))
-  fed (Err halt.Output) all (y, (read, took, (few, h)), files) cause = (read, took, few, (inl cause, front y read h))
-  fed (Err halt.Take) all (y, (read, took, (few, h)), files) cause = (read, took, few, inr (rose_later old.takes mid new.takes less cause, front y read h))
-  fed (Err halt.Keep) all (y, (read, took, (few, h)), files) cause = (read, took, few, (inr cause, front y read h))
-  fed (Err halt.Memory) all (y, (read, took, (few, h)), files) cause = (read, took, few, front y read h)
-  fed (Err halt.Limit) all (y, (read, took, (many, p)), files) cause = (read, took, many, whole y _ p)
+  fed (Err e) all (y, h, files) cause =
+      halts_end MOST old.left new.left (counts old) (counts new) (λ read. IsAtEnd new.left × SaysAll base old new read) (SaysWhole base old new) (SaysFront base old new)
+      caseload (MayLeave old.keeps new.keeps Stops Lacks) (at_first base old.files) y old.written new.written mid less (whole y) (front y) e h cause

@@ -9,6 +9,7 @@ use Rattle.opa_outside.specs.Outside.{MOST, Outside, IsUnused, IsSilent}
 use Rattle.opa_outside.specs.Telling.{IsTold}
 use Rattle.opa_rulebase.specs.Loading.{Opens}
 use Rattle.opa_talk.specs.declared.halt.Halt.{Halt}
+use Rattle.opa_talk.specs.Ended.{Counts, Ends}
 use Rattle.opa_talk.specs.Lines.{input_lines, IsWhole}
 use Rattle.opa_talk.specs.Transcript.{IsTranscript}
 use Rattle.opa_talk.specs.Talk.{HaltedAmong, Converses, Halts, MayLeave}
@@ -18,6 +19,10 @@ use Rattle.opa_cases.specs.Caseload.{Held, caseload, Lacks, Stops, at_first}
 -- this is what the files open under the name, where they are told
 abbrev pub IsOpened : Option Files → List ℕ → Result Rulebase (List ℕ) → Type 0
 IsOpened told name opened = IfSome told (λ files. Opens files name opened)
+
+-- the counts of its faults
+abbrev pub counts : Outside → Counts
+counts x = record { takes = x.takes; keeps = x.keeps; reads = x.reads; writes = x.writes }
 
 module _ (base : Rulebase) (old new : Outside) where
   -- what may be held where the reply to a line halts
@@ -42,18 +47,9 @@ module _ (base : Rulebase) (old new : Outside) where
     pub is_whole : IsWhole whole bytes
     pub says : SaysAll whole
 
-  abbrev pub ReadsSome : (List ℕ → Type 0) → Type 0
-  ReadsSome P = (read : List ℕ) × Consumes old.left new.left read × (length read ≤ MOST) × P read
-
   -- What is known of a caseload that ended so.
   abbrev pub Talks : Status → Type 0
-  Talks status.Done = ReadsSome (λ read. IsAtEnd new.left × SaysAll read)
-  Talks status.Refused = ⊥
-  Talks status.Usage = ⊥
-  Talks status.ReadFault = ReadsSome (λ read. (Rose old.reads new.reads × SaysWhole read) ⊎ (Rose old.takes new.takes × SaysFront read))
-  Talks status.WriteFault = ReadsSome (λ read. (Rose old.writes new.writes ⊎ Rose old.keeps new.keeps) × SaysFront read)
-  Talks status.NoMemory = ReadsSome SaysFront
-  Talks status.InputLimit = (read : List ℕ) × Consumes old.left new.left read × (length read ≡ MOST + 1) × SaysWhole (take MOST read)
+  Talks = Ends MOST old.left new.left (counts old) (counts new) (λ read. IsAtEnd new.left × SaysAll read) SaysWhole SaysFront
 
 -- A caseload over what the name opens: the rulebase is accepted, and the lines of the input are carried out; or it is refused,
 -- which is printed; or nothing was loaded, for a fault of the shelf or for want of memory.

@@ -7,10 +7,10 @@ use Rattle.opa_io.specs.declared.fault.Status.{Status}
 use Rattle.opa_io.specs.declared.fault.Status.TheVariants as status
 use Rattle.opa_rulebase.specs.Loading.{Opens}
 use Rattle.opa_talk.specs.Talk.{MayLeave}
-use Rattle.opa_talk.proofs.StatusLaws.{all_read, first_among, took_within, unread, whole_among}
+use Rattle.opa_talk.proofs.StatusLaws.{all_read, calm_is_done, first_among, unread, whole_among}
 use Rattle.opa_tree.specs.declared.rulebase.Rulebase.{Rulebase}
 use Rattle.opa_top.specs.Checking.{IsOpened, IsTold, verdict_status}
-use Rattle.opa_top.specs.Running.{MOST, Manner, beginning, Outside, SaysAll, SaysOver, SaysFront, SaysWhole, Talks, IsUnused, Runs}
+use Rattle.opa_top.specs.Running.{MOST, Manner, beginning, counts, Outside, SaysAll, SaysOver, SaysFront, SaysWhole, Talks, IsUnused, Runs}
 use Rattle.opa_top.specs.Statuses.{WroteRefusal, WroteFront, Wrote, WroteLines, LeftOff, OpensBase, OpensRefusal, IsThrough, HasCause, Calm, Completes, ReadAtMost}
 
 -- ---- what was written
@@ -169,16 +169,9 @@ module _ (way : Manner) (name : List ℕ) (files : Files) (bytes : List ℕ) (ol
   Decided s = (opened : Result Rulebase (List ℕ)) × Opens files name opened × (s ≡ verdict_status opened)
 
   talk_decided : (s : Status) (base : Rulebase) → old.left ≡ Some bytes → Opens files name (Ok base) → Talks way base old new s → s ≢ status.NoMemory → Decided s
-  talk_decided status.Done base l o t some = (Ok base, o, refl)
-  talk_decided status.Refused base l o t some = absurd t
-  talk_decided status.Usage base l o t some = absurd t
-  talk_decided status.ReadFault base l o (read, took, few, inl h) some = absurd (calm.read h.0)
-  talk_decided status.ReadFault base l o (read, took, few, inr h) some = absurd (calm.take h.0)
-  talk_decided status.WriteFault base l o (read, took, few, (inl h, says)) some = absurd (calm.write h)
-  talk_decided status.WriteFault base l o (read, took, few, (inr h, says)) some = absurd (calm.keep h)
-  talk_decided status.NoMemory base l o t some = absurd (some refl)
-  talk_decided status.InputLimit base l o (read, took, many, says) some =
-      absurd (let few = took_within bytes read new.left (subst (λ x. Consumes x new.left read) l took) in omega (arith, few, many, short))
+  talk_decided s base l o t some =
+      let done = calm_is_done MOST old.left new.left (counts old) (counts new) (λ read. (IsAtEnd new.left × SaysAll way base old new read) ⊎ SaysOver way base old new read) (SaysWhole way base old new) (SaysFront way base old new) bytes l short calm.take calm.keep calm.read calm.write s t some in
+      (Ok base, o, done)
 
   refusal_decided : (s : Status) (text : List ℕ) → Opens files name (Err text) → IsTold status.Refused text old.written new.written old.writes new.writes s → Decided s
   refusal_decided s text o (inl h) = (Err text, o, h.0)

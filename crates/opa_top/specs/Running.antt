@@ -6,6 +6,7 @@ use Rattle.opa_io.specs.declared.fault.Status.{Status}
 use Rattle.opa_io.specs.declared.fault.Status.TheVariants as status
 use Rattle.opa_listen.specs.Hearing.{Hearer}
 use Rattle.opa_talk.specs.declared.halt.Halt.{Halt}
+use Rattle.opa_talk.specs.Ended.{Counts, Ends}
 use Rattle.opa_talk.specs.Lines.{input_lines, IsWhole}
 use Rattle.opa_talk.specs.Transcript.{Rule, IsGoing, IsOver, IsTranscript}
 use Rattle.opa_talk.specs.Talk.{HaltedAmong, Converses, Halts, MayLeave}
@@ -47,6 +48,10 @@ outside files takes keeps left reads written writes shelf hearers input out step
   writes = writes out;
   steps = steps;
 }
+
+-- the counts of its faults
+abbrev pub counts : Outside → Counts
+counts x = record { takes = x.takes; keeps = x.keeps; reads = x.reads; writes = x.writes }
 
 -- How lines are answered: the rule, and what may be held where keeping a file failed, and where memory ran out.
 pub record Manner : Type 1 where
@@ -113,19 +118,9 @@ module _ (way : Manner) (base : Rulebase) (old new : Outside) where
     pub says : SaysAll whole
     pub going : IsGoing way.rule says.held
 
-  -- so many bytes were read at most
-  abbrev pub ReadsSome : (List ℕ → Type 0) → Type 0
-  ReadsSome P = (read : List ℕ) × Consumes old.left new.left read × (length read ≤ MOST) × P read
-
   -- What is known of a talk that ended so.
   abbrev pub Talks : Status → Type 0
-  Talks status.Done = ReadsSome (λ read. (IsAtEnd new.left × SaysAll read) ⊎ SaysOver read)
-  Talks status.Refused = ⊥
-  Talks status.Usage = ⊥
-  Talks status.ReadFault = ReadsSome (λ read. (Rose old.reads new.reads × SaysWhole read) ⊎ (Rose old.takes new.takes × SaysFront read))
-  Talks status.WriteFault = ReadsSome (λ read. (Rose old.writes new.writes ⊎ Rose old.keeps new.keeps) × SaysFront read)
-  Talks status.NoMemory = ReadsSome SaysFront
-  Talks status.InputLimit = (read : List ℕ) × Consumes old.left new.left read × (length read ≡ MOST + 1) × SaysWhole (take MOST read)
+  Talks = Ends MOST old.left new.left (counts old) (counts new) (λ read. (IsAtEnd new.left × SaysAll read) ⊎ SaysOver read) SaysWhole SaysFront
 
 -- nothing was read, nothing was kept, nobody was told, and no line was derived
 pub record IsUnused (old new : Outside) : Type 0 where
