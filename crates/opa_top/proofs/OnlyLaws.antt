@@ -1,6 +1,6 @@
 -- Nothing else could have been written: files open one thing, and lines have one transcript.
-use Rattle.std.proofs.Common.{◌≡◌, inl, inr, ℕ, List, Option, None, Some, IfSome, Result, Ok, Err, refl, ap, sym, ◌∙◌, subst}
-use Rattle.std.specs.Io.KnownBytes.{Appends, Consumes, IsAtEnd}
+use Rattle.std.proofs.Common.{◌≡◌, inl, inr, ℕ, List, Option, None, Some, IfSome, Result, Ok, Err, refl, sym, subst}
+use Rattle.std.specs.Io.KnownBytes.{Appends, Consumes}
 use Rattle.opa_io.specs.Outside.{Files}
 use Rattle.opa_io.specs.declared.fault.Status.{Status}
 use Rattle.opa_io.specs.declared.fault.Status.TheVariants as status
@@ -13,7 +13,7 @@ use Rattle.opa_rulebase.specs.Loading.{Opens}
 use Rattle.opa_decided.specs.Laws.{OneTranscript}
 use Rattle.opa_decided.specs.Opening.{OneOpening}
 use Rattle.opa_top.specs.Checking.{IsOpened, IsTold}
-use Rattle.opa_top.specs.Running.{Manner, Outside, beginning, Leaves, SaysAll, SaysOver, Talks, Runs}
+use Rattle.opa_top.specs.Running.{Manner, Outside, beginning, Leaves, SaysAll, Talks, Runs}
 use Rattle.opa_top.specs.Statuses.{WroteWhatever, IsOnly}
 use Rattle.opa_top.proofs.StatusLaws.{all_over}
 

@@ -1,5 +1,5 @@
 -- What the mode `verify` does, from what its parts ensure.
-use Rattle.std.proofs.Common.{◌≡◌, ◌≤◌, inl, inr, ℕ, List, Option, Some, None, length, sym, subst, arith}
+use Rattle.std.proofs.Common.{◌≡◌, ◌≤◌, inl, inr, ℕ, List, Option, Some, None, length, subst}
 use Rattle.opa_io.specs.Outside.{Files, IsFile, IsMissing, IsTooLong, Rose}
 use Rattle.opa_io.specs.declared.fault.Status.{Status}
 use Rattle.opa_io.specs.declared.fault.Status.TheVariants as status
@@ -9,7 +9,7 @@ use Rattle.opa_proof.specs.Telling.{Tells}
 use Rattle.opa_proof.specs.declared.verdict.Verdict.{Verdict}
 use Rattle.opa_tree.specs.declared.rulebase.Rulebase.{Rulebase}
 use Rattle.opa_top.specs.Checking.{IsTold}
-use Rattle.opa_top.specs.Verifying.{IsNoFile, JudgesFile, REPORT_MOST, Verifies, no_report, status_of}
+use Rattle.opa_top.specs.Verifying.{IsNoFile, JudgesFile, REPORT_MOST, no_report, status_of}
 
 no_file : (told : Option Files) (name : List ℕ) (before now : ℕ) → IsMissing told name before now → IsNoFile told name
 no_file None name before now h = tt

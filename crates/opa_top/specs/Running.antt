@@ -1,6 +1,6 @@
 -- A run, or an interview: an input over a rulebase. What it reads, writes, keeps, tells and answers.
-use Rattle.std.specs.Prelude.{ℕ, ◌≡◌, ◌⊎◌, ◌≤◌, ◌+◌, List, [], ◌++◌, length, take, Option, Result, Ok, Err}
-use Rattle.std.specs.Io.KnownBytes.{Consumes, Appends, IsAtEnd}
+use Rattle.std.specs.Prelude.{ℕ, ◌≡◌, ◌⊎◌, ◌≤◌, ◌+◌, List, [], ◌++◌, Option, Ok, Err}
+use Rattle.std.specs.Io.KnownBytes.{Appends, IsAtEnd}
 use Rattle.opa_io.specs.Outside.{Files, Rose}
 use Rattle.opa_io.specs.declared.fault.Status.{Status}
 use Rattle.opa_io.specs.declared.fault.Status.TheVariants as status
