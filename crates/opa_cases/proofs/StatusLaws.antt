@@ -1,21 +1,19 @@
 -- What each status of a caseload says, from how it ran.
-use Rattle.std.proofs.Common.{◌≡◌, ◌≢◌, ◌≤◌, ◌⊎◌, inl, inr, ℕ, List, [], ◌++◌, length, length-append, take, drop, append_assoc, append-nil, Option, None, Some, IfSome, Result, Ok, Err, refl, ap, sym, ◌∙◌, subst, arith}
+use Rattle.std.proofs.Common.{◌≡◌, ◌≢◌, ◌≤◌, ◌⊎◌, inl, inr, ℕ, List, [], length, take, Option, None, Some, IfSome, Result, Ok, Err, refl, sym, subst, arith}
 use Rattle.std.specs.Io.KnownBytes.{Appends, Consumes, IsAtEnd}
-use Rattle.std.proofs.lemmas.List.{take-append-drop}
+use Rattle.std.proofs.lemmas.Option.{IfSome_then}
 use Rattle.opa_io.specs.Outside.{Files, AppendsFront}
-use Rattle.opa_io.proofs.Appended.{Consumes-none}
 use Rattle.opa_io.specs.declared.fault.Status.{Status}
 use Rattle.opa_io.specs.declared.fault.Status.TheVariants as status
 use Rattle.opa_outside.specs.Outside.{MOST, Outside, IsUnused, IsSilent, ReadAtMost, Calm}
 use Rattle.opa_outside.specs.Telling.{IsTold}
 use Rattle.opa_rulebase.specs.Loading.{Opens}
-use Rattle.opa_talk.specs.Lines.{EndsLine, input_lines}
 use Rattle.opa_talk.specs.Talk.{MayLeave}
-use Rattle.opa_talk.proofs.EndLaws.{among_whole}
+use Rattle.opa_talk.proofs.StatusLaws.{all_read, calm_is_done, first_among, unread, whole_among}
 use Rattle.opa_talk.proofs.TranscriptLaws.{cuts_anywhere}
 use Rattle.opa_tree.specs.declared.rulebase.Rulebase.{Rulebase}
-use Rattle.opa_cases.specs.Caseload.{caseload, Lacks, Stops}
-use Rattle.opa_cases.specs.Serving.{IsOpened, SaysAll, SaysFront, SaysWhole, Talks, Ran}
+use Rattle.opa_cases.specs.Caseload.{caseload, Lacks, Stops, at_first}
+use Rattle.opa_cases.specs.Serving.{IsOpened, counts, SaysAll, SaysFront, SaysWhole, Talks, Ran}
 use Rattle.opa_cases.specs.Statuses.{WroteRefusal, WroteFront, Wrote, WroteLines, LeftOff, OpensBase, OpensRefusal, HasCause, status_of}
 use Rattle.opa_cases.specs.Promises.{Promises}
 use Rattle.opa_cases.proofs.Alone.{alone}
@@ -23,22 +21,11 @@ use Rattle.opa_cases.proofs.Heard.{heard}
 use Rattle.opa_cases.proofs.InOrder.{in_order}
 use Rattle.opa_cases.proofs.Suppositions.{leave_nothing}
 
--- what is told of files that are told
-told_with : (P Q : Files → Type 0) (o : Option Files) → IfSome o P → ((files : Files) → P files → Q files) → IfSome o Q
-told_with P Q None h f = tt
-told_with P Q (Some files) h f = f files h
-
-front_all : (a b : Option (List ℕ)) (text : List ℕ) → Appends a b text → AppendsFront a b text
-front_all a b text h = (text, [], append-nil text, h)
-
 -- ---- what was written
 
 module _ (name : List ℕ) (old new : Outside) where
-  unread : IsUnused old new → Consumes old.left new.left []
-  unread u = let P : Option (List ℕ) → Type 0 = λ l. Consumes old.left l [] in subst P (sym u.left) (Consumes-none old.left)
-
   none_read : IsUnused old new → ReadAtMost old new MOST
-  none_read u = ([], unread u, omega arith)
+  none_read u = ([], unread old.left new.left u.left, omega arith)
 
   abbrev Opened : Files → Type 0
   Opened files = (base : Rulebase) × Opens files name (Ok base)
@@ -47,14 +34,10 @@ module _ (name : List ℕ) (old new : Outside) where
   Refused files = (text : List ℕ) × Opens files name (Err text)
 
   opens_base : (base : Rulebase) → IsOpened old.files name (Ok base) → OpensBase name old new
-  opens_base base o = told_with (λ files. Opens files name (Ok base)) Opened old.files o (λ files h. (base, h))
+  opens_base base o = IfSome_then old.files {P = λ (files : Files). Opens files name (Ok base)} {Q = Opened} o (λ files h. (base, h))
 
   opens_refusal : (text : List ℕ) → IsOpened old.files name (Err text) → OpensRefusal name old new
-  opens_refusal text o = told_with (λ files. Opens files name (Err text)) Refused old.files o (λ files h. (text, h))
-
-  all_read : (bytes read : List ℕ) (l' : Option (List ℕ)) → Consumes (Some bytes) l' read → IsAtEnd l' → read ≡ bytes
-  all_read bytes read None took end = absurd took
-  all_read bytes read (Some rest) took end = search (append-nil, took, end)
+  opens_refusal text o = IfSome_then old.files {P = λ (files : Files). Opens files name (Err text)} {Q = Refused} o (λ files h. (text, h))
 
   wrote_all : (base : Rulebase) (read : List ℕ) (o : Option Files) (l : Option (List ℕ)) → IfSome o (λ files. Opens files name (Ok base)) → Consumes l new.left read → IsAtEnd new.left → SaysAll base old new read
       → IfSome o (λ files. IfSome l (λ bytes. (b : Rulebase) × Opens files name (Ok b) × SaysAll b old new bytes))
@@ -67,39 +50,29 @@ module _ (name : List ℕ) (old new : Outside) where
       IsSilent old new ⊎ ((text : List ℕ) × Opens files name (Err text) × AppendsFront old.written new.written text × IsUnused old new) ⊎ ((base : Rulebase) × Opens files name (Ok base) × SaysFront base old new read)
 
   wrote_front : (base : Rulebase) (read : List ℕ) → IsOpened old.files name (Ok base) → Consumes old.left new.left read → SaysFront base old new read → WroteFront name old new
-  wrote_front base read opens took says = (read, took, told_with (λ files. Opens files name (Ok base)) (Front read) old.files opens (λ files o. inr (inr (base, o, says))))
+  wrote_front base read opens took says = (read, took, IfSome_then old.files {P = λ (files : Files). Opens files name (Ok base)} {Q = Front read} opens (λ files o. inr (inr (base, o, says))))
 
   wrote_refused : (text : List ℕ) → IsOpened old.files name (Err text) → IsUnused old new → AppendsFront old.written new.written text → WroteFront name old new
-  wrote_refused text opens u wrote = ([], unread u, told_with (λ files. Opens files name (Err text)) (Front []) old.files opens (λ files o. inr (inl (text, o, wrote, u))))
+  wrote_refused text opens u wrote = ([], unread old.left new.left u.left, IfSome_then old.files {P = λ (files : Files). Opens files name (Err text)} {Q = Front []} opens (λ files o. inr (inl (text, o, wrote, u))))
 
   nothing_told : (o : Option Files) → IsSilent old new → IfSome o (Front [])
   nothing_told None none = tt
   nothing_told (Some files) none = inl none
 
   wrote_nothing : IsUnused old new → IsSilent old new → WroteFront name old new
-  wrote_nothing u none = ([], unread u, nothing_told old.files none)
-
-  whole_front : (base : Rulebase) (whole rest read : List ℕ) → whole ++ rest ≡ read → EndsLine whole → SaysAll base old new whole → SaysFront base old new read
-  whole_front base whole rest read cut ends s = record {
-    held = s.held;
-    halted = among_whole caseload (MayLeave old.keeps new.keeps Stops Lacks) _ _ whole rest read _ _ _ cut ends (record {
-      done = input_lines whole;
-      more = [];
-      cut = append-nil _;
-      text = s.text;
-      held = s.held;
-      said = s.said;
-      left = inl refl;
-      wrote = front_all old.written new.written s.text s.wrote;
-    });
-  }
+  wrote_nothing u none = ([], unread old.left new.left u.left, nothing_told old.files none)
 
   lines_front : (base : Rulebase) (read : List ℕ) → SaysWhole base old new read → SaysFront base old new read
-  lines_front base read w = whole_front base w.whole w.is_whole.rest read w.is_whole.cut w.is_whole.ends w.says
+  lines_front base read w = record {
+    held = w.says.held;
+    halted = whole_among caseload (MayLeave old.keeps new.keeps Stops Lacks) (at_first base old.files) w.says.held w.says.text new.left old.written new.written w.whole read w.is_whole w.says.said w.says.wrote;
+  }
 
   limit_front : (base : Rulebase) (read : List ℕ) → SaysWhole base old new (take MOST read) → SaysFront base old new read
-  limit_front base read w =
-      whole_front base w.whole (w.is_whole.rest ++ drop MOST read) read (sym (append_assoc w.whole w.is_whole.rest (drop MOST read)) ∙ ap (λ s. s ++ drop MOST read) w.is_whole.cut ∙ take-append-drop MOST read) w.is_whole.ends w.says
+  limit_front base read w = record {
+    held = w.says.held;
+    halted = first_among caseload (MayLeave old.keeps new.keeps Stops Lacks) (at_first base old.files) w.says.held w.says.text new.left old.written new.written MOST w.whole read w.is_whole w.says.said w.says.wrote;
+  }
 
   talked : (s : Status) (base : Rulebase) → IsOpened old.files name (Ok base) → Talks base old new s → Wrote name old new s
   talked status.Done base o (read, took, few, h) = wrote_all base read old.files old.left o took h.0 h.1
@@ -113,7 +86,7 @@ module _ (name : List ℕ) (old new : Outside) where
 
   refusal_written : (text : List ℕ) → IsOpened old.files name (Err text) → IsUnused old new → Appends old.written new.written text → WroteRefusal name old new
   refusal_written text o u wrote =
-      told_with (λ files. Opens files name (Err text)) (λ files. (t : List ℕ) × Opens files name (Err t) × Appends old.written new.written t × IsUnused old new) old.files o (λ files h. (text, h, wrote, u))
+      IfSome_then old.files {P = λ (files : Files). Opens files name (Err text)} {Q = λ (files : Files). (t : List ℕ) × Opens files name (Err t) × Appends old.written new.written t × IsUnused old new} o (λ files h. (text, h, wrote, u))
 
   told_refusal : (s : Status) (text : List ℕ) → IsOpened old.files name (Err text) → IsUnused old new → IsTold status.Refused text old.written new.written old.writes new.writes s → Wrote name old new s
   told_refusal s text o u (inl h) = subst (Wrote name old new) (sym h.0) (refusal_written text o u h.1)
@@ -129,7 +102,7 @@ module _ (name : List ℕ) (old new : Outside) where
 
   lines_written : (base : Rulebase) (read : List ℕ) (part : List ℕ → List ℕ) → IsOpened old.files name (Ok base) → Consumes old.left new.left read → SaysWhole base old new (part read) → WroteLines name old new part
   lines_written base read part o took says =
-      told_with (λ files. Opens files name (Ok base)) (λ files. (b : Rulebase) × Opens files name (Ok b) × ((r : List ℕ) × Consumes old.left new.left r × SaysWhole b old new (part r))) old.files o (λ files h. (base, h, (read, took, says)))
+      IfSome_then old.files {P = λ (files : Files). Opens files name (Ok base)} {Q = λ (files : Files). (b : Rulebase) × Opens files name (Ok b) × ((r : List ℕ) × Consumes old.left new.left r × SaysWhole b old new (part r))} o (λ files h. (base, h, (read, took, says)))
 
   talk_left_off : (s : Status) (base : Rulebase) → IsOpened old.files name (Ok base) → Talks base old new s → LeftOff name old new s
   talk_left_off status.Done base o t = tt
@@ -181,25 +154,14 @@ module _ (name : List ℕ) (old new : Outside) where
 
 -- ---- where nothing fails
 
-took_within : (bytes read : List ℕ) (l' : Option (List ℕ)) → Consumes (Some bytes) l' read → length read ≤ length bytes
-took_within bytes read None h = absurd h
-took_within bytes read (Some rest) h = omega (arith, ap length h, length-append read rest)
-
 module _ (name : List ℕ) (files : Files) (bytes : List ℕ) (old new : Outside) (calm : Calm old new) (short : length bytes ≤ MOST) where
   abbrev Decided : Status → Type 0
   Decided s = (opened : Result Rulebase (List ℕ)) × Opens files name opened × (s ≡ status_of opened)
 
   talk_decided : (s : Status) (base : Rulebase) → old.left ≡ Some bytes → Opens files name (Ok base) → Talks base old new s → s ≢ status.NoMemory → Decided s
-  talk_decided status.Done base l o t some = (Ok base, o, refl)
-  talk_decided status.Refused base l o t some = absurd t
-  talk_decided status.Usage base l o t some = absurd t
-  talk_decided status.ReadFault base l o (read, took, few, inl h) some = absurd (calm.read h.0)
-  talk_decided status.ReadFault base l o (read, took, few, inr h) some = absurd (calm.take h.0)
-  talk_decided status.WriteFault base l o (read, took, few, (inl h, says)) some = absurd (calm.write h)
-  talk_decided status.WriteFault base l o (read, took, few, (inr h, says)) some = absurd (calm.keep h)
-  talk_decided status.NoMemory base l o t some = absurd (some refl)
-  talk_decided status.InputLimit base l o (read, took, many, says) some =
-      absurd (let few = took_within bytes read new.left (subst (λ x. Consumes x new.left read) l took) in omega (arith, few, many, short))
+  talk_decided s base l o t some =
+      let done = calm_is_done MOST old.left new.left (counts old) (counts new) (λ read. IsAtEnd new.left × SaysAll base old new read) (SaysWhole base old new) (SaysFront base old new) bytes l short calm.take calm.keep calm.read calm.write s t some in
+      (Ok base, o, done)
 
   refusal_decided : (s : Status) (text : List ℕ) → Opens files name (Err text) → IsTold status.Refused text old.written new.written old.writes new.writes s → Decided s
   refusal_decided s text o (inl h) = (Err text, o, h.0)

@@ -1,17 +1,18 @@
 -- How a caseload ends, from what its parts ensure.
-use Rattle.std.proofs.Common.{◌≡◌, ◌≤◌, inl, inr, ℕ, true, false, List, [], ◌∷◌, Result, Ok, Err, OnOk, IfErr, refl, subst, arith, ap, ◌∙◌}
+use Rattle.std.proofs.Common.{◌≡◌, ◌≤◌, inl, inr, ℕ, true, false, List, [], ◌∷◌, Result, Ok, Err, OnOk, IfErr, refl, subst, ap, ◌∙◌}
 use Rattle.std.specs.Prelude.{Option}
-use Rattle.opa_io.specs.Outside.{Rose}
 use Rattle.opa_outside.specs.Outside.{MOST, Outside}
+use Rattle.std.specs.Io.KnownBytes.{IsAtEnd}
 use Rattle.opa_talk.specs.declared.halt.Halt.{Halt}
 use Rattle.opa_talk.specs.declared.halt.Halt.TheVariants as halt
-use Rattle.opa_talk.specs.Halt.{IsCause}
+use Rattle.opa_talk.specs.Halt.{IsCause, end_of}
 use Rattle.opa_talk.specs.Talk.{Converses, Halts, HaltsAt, HaltedAmong, LeftAt, Paused, MayLeave}
 use Rattle.opa_talk.specs.Transcript.{Prints, IsTranscript}
 use Rattle.opa_talk.proofs.EndLaws.{halts_memory}
+use Rattle.opa_talk.proofs.StatusLaws.{halts_end}
 use Rattle.opa_tree.specs.declared.rulebase.Rulebase.{Rulebase}
 use Rattle.opa_cases.specs.Caseload.{Held, caseload, Lacks, Stops, RepliesLine, RepliesNamed, at_first}
-use Rattle.opa_cases.specs.Serving.{SaysFront, SaysWhole, Talks, TalksAll, TalksPart, end_of}
+use Rattle.opa_cases.specs.Serving.{counts, SaysAll, SaysFront, SaysWhole, Talks, TalksAll, TalksPart}
 
 module _ (base : Rulebase) (old new : Outside) (s s' : Held) (is : s ≡ at_first base old.files) (files : new.files ≡ s'.files) where
   pub talks_all : {E : Type 0} (r : Result (Unit {0}) E) → OnOk r (Converses caseload s s' MOST old.left new.left old.written new.written) → OnOk r (TalksAll base old new)
@@ -67,10 +68,6 @@ fed_files base old new (Err e) all (y, (read, took, h), files) = files ∙ halts
 
 -- ---- the end
 
--- a count that rose later rose
-rose_later : (before mid now : ℕ) → before ≤ mid → Rose mid now → Rose before now
-rose_later before mid now less rose = search (arith, less, rose)
-
 module _ (base : Rulebase) (old new : Outside) (mid : ℕ) (less : old.takes ≤ mid) where
   whole : (y : Held) (read : List ℕ) → Paused caseload (at_first base old.files) y read old.written new.written → SaysWhole base old new read
   whole y read p = record { whole = p.whole; is_whole = p.is_whole; says = record { text = p.text; held = y; said = p.said; wrote = p.wrote } }
@@ -84,9 +81,6 @@ module _ (base : Rulebase) (old new : Outside) (mid : ℕ) (less : old.takes ≤
     | inl end ↦ (c.read, c.took, c.within, (end, record { text = c.text; held = y; said = c.said; wrote = c.wrote }))
     | inr over ↦ absurd (let no : false ≡ true = over.0 in cc no)
   ]
-  fed (Err halt.Input) all (y, (read, took, (few, p)), files) cause = (read, took, few, inl (cause, whole y read p))
-  fed (Err halt.Output) all (y, (read, took, (few, h)), files) cause = (read, took, few, (inl cause, front y read h))
-  fed (Err halt.Take) all (y, (read, took, (few, h)), files) cause = (read, took, few, inr (rose_later old.takes mid new.takes less cause, front y read h))
-  fed (Err halt.Keep) all (y, (read, took, (few, h)), files) cause = (read, took, few, (inr cause, front y read h))
-  fed (Err halt.Memory) all (y, (read, took, (few, h)), files) cause = (read, took, few, front y read h)
-  fed (Err halt.Limit) all (y, (read, took, (many, p)), files) cause = (read, took, many, whole y _ p)
+  fed (Err e) all (y, h, files) cause =
+      halts_end MOST old.left new.left (counts old) (counts new) (λ read. IsAtEnd new.left × SaysAll base old new read) (SaysWhole base old new) (SaysFront base old new)
+      caseload (MayLeave old.keeps new.keeps Stops Lacks) (at_first base old.files) y old.written new.written mid less (whole y) (front y) e h cause

@@ -1,6 +1,6 @@
 -- A caseload over what the name opens: what it reads, writes, keeps and answers.
-use Rattle.std.specs.Prelude.{ℕ, ◌≡◌, ◌⊎◌, ◌≤◌, ◌+◌, List, length, take, Option, IfSome, Result, Ok, Err}
-use Rattle.std.specs.Io.KnownBytes.{Consumes, Appends, IsAtEnd}
+use Rattle.std.specs.Prelude.{ℕ, ◌≡◌, List, Option, IfSome, Result, Ok, Err}
+use Rattle.std.specs.Io.KnownBytes.{Appends, IsAtEnd}
 use Rattle.opa_io.specs.Outside.{Files, Rose}
 use Rattle.opa_io.specs.declared.fault.Status.{Status}
 use Rattle.opa_io.specs.declared.fault.Status.TheVariants as status
@@ -9,7 +9,7 @@ use Rattle.opa_outside.specs.Outside.{MOST, Outside, IsUnused, IsSilent}
 use Rattle.opa_outside.specs.Telling.{IsTold}
 use Rattle.opa_rulebase.specs.Loading.{Opens}
 use Rattle.opa_talk.specs.declared.halt.Halt.{Halt}
-use Rattle.opa_talk.specs.declared.halt.Halt.TheVariants as halt
+use Rattle.opa_talk.specs.Ended.{Counts, Ends}
 use Rattle.opa_talk.specs.Lines.{input_lines, IsWhole}
 use Rattle.opa_talk.specs.Transcript.{IsTranscript}
 use Rattle.opa_talk.specs.Talk.{HaltedAmong, Converses, Halts, MayLeave}
@@ -19,6 +19,10 @@ use Rattle.opa_cases.specs.Caseload.{Held, caseload, Lacks, Stops, at_first}
 -- this is what the files open under the name, where they are told
 abbrev pub IsOpened : Option Files → List ℕ → Result Rulebase (List ℕ) → Type 0
 IsOpened told name opened = IfSome told (λ files. Opens files name opened)
+
+-- the counts of its faults
+abbrev pub counts : Outside → Counts
+counts x = record { takes = x.takes; keeps = x.keeps; reads = x.reads; writes = x.writes }
 
 module _ (base : Rulebase) (old new : Outside) where
   -- what may be held where the reply to a line halts
@@ -43,18 +47,9 @@ module _ (base : Rulebase) (old new : Outside) where
     pub is_whole : IsWhole whole bytes
     pub says : SaysAll whole
 
-  abbrev pub ReadsSome : (List ℕ → Type 0) → Type 0
-  ReadsSome P = (read : List ℕ) × Consumes old.left new.left read × (length read ≤ MOST) × P read
-
   -- What is known of a caseload that ended so.
   abbrev pub Talks : Status → Type 0
-  Talks status.Done = ReadsSome (λ read. IsAtEnd new.left × SaysAll read)
-  Talks status.Refused = ⊥
-  Talks status.Usage = ⊥
-  Talks status.ReadFault = ReadsSome (λ read. (Rose old.reads new.reads × SaysWhole read) ⊎ (Rose old.takes new.takes × SaysFront read))
-  Talks status.WriteFault = ReadsSome (λ read. (Rose old.writes new.writes ⊎ Rose old.keeps new.keeps) × SaysFront read)
-  Talks status.NoMemory = ReadsSome SaysFront
-  Talks status.InputLimit = (read : List ℕ) × Consumes old.left new.left read × (length read ≡ MOST + 1) × SaysWhole (take MOST read)
+  Talks = Ends MOST old.left new.left (counts old) (counts new) (λ read. IsAtEnd new.left × SaysAll read) SaysWhole SaysFront
 
 -- A caseload over what the name opens: the rulebase is accepted, and the lines of the input are carried out; or it is refused,
 -- which is printed; or nothing was loaded, for a fault of the shelf or for want of memory.
@@ -73,13 +68,3 @@ TalksAll base old new = (y : Held) × Converses caseload (at_first base old.file
 -- some of the input was read, and the talk halts there
 abbrev pub TalksPart : Rulebase → Outside → Outside → Halt → Type 0
 TalksPart base old new halt = (y : Held) × Halts caseload (MayLeave old.keeps new.keeps Stops Lacks) (at_first base old.files) y MOST old.left new.left old.written new.written halt × (new.files ≡ y.files)
-
--- how an input ends that was fed
-abbrev pub end_of : Result (Unit {0}) Halt → Status
-end_of (Ok u) = status.Done
-end_of (Err halt.Input) = status.ReadFault
-end_of (Err halt.Output) = status.WriteFault
-end_of (Err halt.Take) = status.ReadFault
-end_of (Err halt.Keep) = status.WriteFault
-end_of (Err halt.Memory) = status.NoMemory
-end_of (Err halt.Limit) = status.InputLimit

@@ -6,12 +6,13 @@ ghost use Rattle.opa_cases.specs.Caseload.{RepliesLine, RepliesUnnamed, RepliesN
 
 use crate::carrying::respond;
 use crate::caseload::Caseload;
-use crate::lines::{is_idle, text_of};
 use crate::naming::{behind_name, named};
 use crate::orders::read_order;
-use crate::refused::told;
+use crate::texts::told;
 use opa_io::{NoMemory, Steps, Txt};
 use opa_mean::Held;
+use opa_reply::text_of;
+use opa_script::is_idle;
 use std::alloc::Global;
 use std::sync::ledger::Ledger;
 

@@ -8,11 +8,11 @@ ghost use Rattle.opa_cases.specs.Holding.{open_of};
 ghost use Rattle.opa_cases.specs.Scripts.{Changes, Does};
 
 use crate::kept::Current;
-use crate::refused::{refused_change, refused_command};
 use opa_case::{ChangeCommand, Refusal};
 use opa_infer::Session;
 use opa_io::{NoMemory, Steps};
 use opa_listen::Listener;
+use opa_reply::{refused_change, refused_command};
 use opa_script::{CmdFault, Command};
 use opa_told::{goals_told, names_told, next_told, stats_told, value_told};
 use std::alloc::Global;

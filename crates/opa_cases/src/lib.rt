@@ -7,13 +7,12 @@ mod carrying;
 mod caseload;
 mod changes;
 mod kept;
-mod lines;
 mod naming;
 mod orders;
-mod refused;
 mod replying;
 mod serving;
 mod supposing;
+mod texts;
 mod turning;
 
 pub use calling::serve_cases;

@@ -5,9 +5,10 @@ ghost use Rattle.opa_words.specs.Fronts.{BeginsWithText};
 ghost use Rattle.opa_cases.specs.Caseload.{IsNamed, IsUnnamed, behind_name as text_behind, front_of as meant_front};
 ghost use Rattle.opa_cases.specs.Naming.{IsFront, IsNoFront, IsText, IsNoText, is_short as is_short_name};
 
-use crate::lines::{bytes_of, past_blanks, text_of};
 use opa_io::limits::{MOST_CASE_NAME, MOST_LINE};
 use opa_io::{NoMemory, Txt};
+use opa_reply::{bytes_of, text_of};
+use opa_script::past_blanks;
 use opa_talk::cut;
 use opa_words::{front_text, quoted};
 use std::alloc::Global;

@@ -5,10 +5,9 @@ ghost use Rattle.opa_script.specs.Lines.{is_idle as idle_text};
 ghost use Rattle.opa_cases.specs.Orders as meant;
 ghost use Rattle.opa_cases.specs.Orders.{IsOrder, IsOrderInRange, OrdersNothing, IsCut, IsNotCut};
 
-use crate::lines::is_idle;
 use opa_io::limits::MOST_LINE;
 use opa_model::Model;
-use opa_script::{CmdFault, Command, commands_are_in_range, is_well_formed, read_command};
+use opa_script::{CmdFault, Command, commands_are_in_range, is_idle, is_well_formed, read_command};
 use opa_words::{Pieces, Token, TokenKind, WordFault, tokens};
 use std::alloc::Global;
 

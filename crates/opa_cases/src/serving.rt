@@ -1,16 +1,16 @@
 // A rulebase is loaded, and the lines of the input are carried out over it.
-ghost use Rattle.std.specs.Prelude.{◌≡◌, IfErr, OnOk};
+ghost use Rattle.std.specs.Prelude.{IfErr, OnOk};
 ghost use Rattle.opa_model.specs.Models.{IsModel};
 ghost use Rattle.opa_outside.specs.Outside.{outside};
 ghost use Rattle.opa_talk.specs.Halt.{IsCause};
-ghost use Rattle.opa_cases.specs.Serving.{Ran, TalksAll, TalksPart, end_of as status_of};
+ghost use Rattle.opa_cases.specs.Serving.{Ran, TalksAll, TalksPart};
 
 use crate::caseload::Caseload;
 use opa_io::{Shelf, Sink, Source, Status, Steps};
 use opa_listen::Listener;
 use opa_outside::tell;
 use opa_rulebase::{LoadError, load_rulebase};
-use opa_talk::{Halt, converse};
+use opa_talk::{Halt, converse, end_of};
 use opa_tree::Rulebase;
 use std::alloc::Global;
 use std::sync::ledger::Ledger;
@@ -42,21 +42,6 @@ fn declares_a_model(base: &Rulebase)
     ensures { IsModel base.now.model }
 {
     let _count = base.model.entity_count();
-}
-
-/// How an input ends that was fed.
-fn end_of(fed: Result<(), Halt>) -> Status
-    ensures { result ≡ status_of fed }
-{
-    match fed {
-        Ok(()) => Status::Done,
-        Err(Halt::Input) => Status::ReadFault,
-        Err(Halt::Output) => Status::WriteFault,
-        Err(Halt::Take) => Status::ReadFault,
-        Err(Halt::Keep) => Status::WriteFault,
-        Err(Halt::Memory) => Status::NoMemory,
-        Err(Halt::Limit) => Status::InputLimit,
-    }
 }
 
 /// Loads a rulebase, and carries out the lines of the input over it.

@@ -5,7 +5,7 @@ ghost use Rattle.opa_cases.specs.Holding.{open_of, FitsRules, PileFits};
 ghost use Rattle.opa_cases.specs.Scripts.{Supposes, Undoes, kept_as, opened_as};
 
 use crate::kept::{Current, KeptCase};
-use crate::refused::told;
+use crate::texts::told;
 use opa_infer::Session;
 use opa_io::limits::MOST_SUPPOSITIONS;
 use opa_io::{NoMemory, Steps};

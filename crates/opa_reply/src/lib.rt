@@ -14,3 +14,5 @@ mod replying;
 
 pub use conversation::Conversation;
 pub use interview::Interview;
+pub use lines::{bytes_of, text_of};
+pub use refused::{refused_change, refused_command};

@@ -1,14 +1,11 @@
 // A line of the input, as it is read.
-ghost use denote.Ref.{Bor};
-ghost use Rattle.std.specs.Option.{option_map};
-ghost use Rattle.std.specs.Prelude.{◌≡◌, ℕ, List as Seq};
-ghost use Rattle.opa_script.specs.Replies.{slashed};
+ghost use Rattle.std.specs.Prelude.{◌≡◌};
 ghost use Rattle.std.specs.Str.Lines.{strip_carriage_return};
-ghost use Rattle.opa_script.specs.Lines as script;
 ghost use Rattle.opa_reply.specs.Interviews as meant_asked;
 ghost use Rattle.opa_reply.specs.Lines as meant;
 
 use opa_io::limits::MOST_LINE;
+use opa_script::{is_idle, slashed};
 
 /// Without the carriage return at the end.
 fn without_return(bytes: &[u8]) -> &[u8]
@@ -21,7 +18,7 @@ fn without_return(bytes: &[u8]) -> &[u8]
 }
 
 /// The bytes of a line: all but its line feed.
-fn bytes_of(line: &[u8]) -> &[u8]
+pub fn bytes_of(line: &[u8]) -> &[u8]
     ensures { result.now ≡ meant.bytes_of line.now }
 {
     match line {
@@ -31,37 +28,12 @@ fn bytes_of(line: &[u8]) -> &[u8]
 }
 
 /// The text of a line: its bytes, but for a carriage return before its line feed.
-pub(crate) fn text_of(line: &[u8]) -> &[u8]
+pub fn text_of(line: &[u8]) -> &[u8]
     ensures { result.now ≡ meant.text_of line.now }
 {
     match line {
         [front @ .., 10] => without_return(front),
         _ => line,
-    }
-}
-
-/// What follows the blanks at the front.
-fn past_blanks(text: &[u8]) -> &[u8]
-    ensures { result.now ≡ script.past_blanks text.now }
-{
-    let mut rest = text;
-    while let [first, later @ ..] = rest {
-        if *first == b' ' || *first == b'\t' {
-            rest = later;
-        } else {
-            return rest;
-        }
-    }
-    rest
-}
-
-/// Whether a text is blank or a comment.
-fn is_idle(text: &[u8]) -> bool
-    ensures { result ≡ script.is_idle text.now }
-{
-    match past_blanks(text) {
-        [] => true,
-        [first, ..] => *first == b'#',
     }
 }
 
@@ -72,21 +44,11 @@ pub(crate) fn is_too_long(line: &[u8]) -> bool
     bytes_of(line).len() > MOST_LINE && !is_idle(text_of(line))
 }
 
-/// What follows a slash that is the first character but blanks.
-fn behind_slash(text: &[u8]) -> Option<&[u8]>
-    ensures { option_map (λ (r : Bor (Seq ℕ)). r.now) result ≡ slashed text.now }
-{
-    match past_blanks(text) {
-        [] => None,
-        [first, rest @ ..] => if *first == b'/' { Some(rest) } else { None },
-    }
-}
-
 /// Whether a text is blank or a comment, also behind a slash.
 fn is_idle_reply(text: &[u8]) -> bool
     ensures { result ≡ meant_asked.is_idle_reply text.now }
 {
-    match behind_slash(text) {
+    match slashed(text) {
         Some(rest) => is_idle(rest),
         None => is_idle(text),
     }

@@ -17,7 +17,7 @@ pub(crate) fn refused(alloc: Global, what: &str, number: u8) -> Result<Vec<u8>, 
 }
 
 /// The refusal of a line that is no command; there is none for want of memory.
-pub(crate) fn refused_command(alloc: Global, fault: CmdFault) -> Result<Vec<u8>, NoMemory>
+pub fn refused_command(alloc: Global, fault: CmdFault) -> Result<Vec<u8>, NoMemory>
     ensures some { IfOk result (λ _. fault ≢ faults.NoMemory) }
     ensures text { IfOk result (λ t. t.items ≡ command_text fault) }
 {
@@ -30,7 +30,7 @@ pub(crate) fn refused_command(alloc: Global, fault: CmdFault) -> Result<Vec<u8>,
 }
 
 /// The refusal of a change.
-pub(crate) fn refused_change(alloc: Global, refusal: Refusal) -> Result<Vec<u8>, NoMemory>
+pub fn refused_change(alloc: Global, refusal: Refusal) -> Result<Vec<u8>, NoMemory>
     ensures { IfOk result (λ t. t.items ≡ change_text refusal) }
 {
     let text = refused(alloc, "change", refusal.number())?;

@@ -25,5 +25,6 @@ pub use laws::{
     commands_are_in_range, one_command, one_reply, refused_or_read, refused_or_replied,
     replies_are_in_range,
 };
+pub use lines::{is_idle, past_blanks};
 pub use reading::read_command;
-pub use replies::read_reply;
+pub use replies::{read_reply, slashed};

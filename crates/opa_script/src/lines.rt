@@ -13,7 +13,7 @@ use std::alloc::Global;
 use std::str;
 
 /// What follows the blanks at the front.
-pub(crate) fn past_blanks(line: &[u8]) -> &[u8]
+pub fn past_blanks(line: &[u8]) -> &[u8]
     ensures { result.now ≡ meant.past_blanks line.now }
 {
     let mut rest = line;
@@ -28,7 +28,7 @@ pub(crate) fn past_blanks(line: &[u8]) -> &[u8]
 }
 
 /// Whether the line is blank or a comment.
-pub(crate) fn is_idle(line: &[u8]) -> bool
+pub fn is_idle(line: &[u8]) -> bool
     ensures { result ≡ meant.is_idle line.now }
 {
     match past_blanks(line) {

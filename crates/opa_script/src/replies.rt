@@ -35,7 +35,8 @@ pub fn read_reply(
     }
 }
 
-fn slashed(line: &[u8]) -> Option<&[u8]>
+/// What follows a slash that is the first character of a line but blanks.
+pub fn slashed(line: &[u8]) -> Option<&[u8]>
     ensures { option_map (λ (r : Bor (Seq ℕ)). r.now) result ≡ slashed line.now }
 {
     after_slash(past_blanks(line))

@@ -2,5 +2,6 @@ pub mod EndLaws
 pub mod FeedLaws
 pub mod LinesLaws
 pub mod PointsLaws
-mod RoseLaws
+pub mod RoseLaws
+pub mod StatusLaws
 pub mod TranscriptLaws

@@ -9,7 +9,7 @@ use Rattle.opa_talk.specs.Talk.{MayLeave, LeftAt}
 use Rattle.opa_talk.specs.Points.{Point, Breaks, BreaksWithin, BreaksAt, BreaksPart}
 
 -- a count that rose later rose
-rose_later : (before mid now : ℕ) → before ≤ mid → Rose mid now → Rose before now
+pub rose_later : (before mid now : ℕ) → before ≤ mid → Rose mid now → Rose before now
 rose_later before mid now less rose = search (arith, less, rose)
 
 module _ {X : Type 0} (rule : Rule X) (Stops Lacks : X → List ℕ → X → Type 0) (before mid now : ℕ) (less : before ≤ mid) where

@@ -1,6 +1,8 @@
--- Why a talk halts before its end.
-use Rattle.std.specs.Prelude.{ℕ}
+-- Why a talk halts before its end, and with which status a program ends.
+use Rattle.std.specs.Prelude.{ℕ, Result, Ok, Err}
 use Rattle.opa_io.specs.Outside.{Rose}
+use Rattle.opa_io.specs.declared.fault.Status.{Status}
+use Rattle.opa_io.specs.declared.fault.Status.TheVariants as status
 use Rattle.opa_talk.specs.declared.halt.Halt.{Halt}
 use Rattle.opa_talk.specs.declared.halt.Halt.TheVariants as halt
 
@@ -30,3 +32,13 @@ IsCause take take' keep keep' output output' input input' halt.Take = Rose take 
 IsCause take take' keep keep' output output' input input' halt.Keep = Rose keep keep'
 IsCause take take' keep keep' output output' input input' halt.Memory = Unit {0}
 IsCause take take' keep keep' output output' input input' halt.Limit = Unit {0}
+
+-- the status of a program whose talk ended so, or halted
+abbrev pub end_of : Result (Unit {0}) Halt → Status
+end_of (Ok u) = status.Done
+end_of (Err halt.Input) = status.ReadFault
+end_of (Err halt.Output) = status.WriteFault
+end_of (Err halt.Take) = status.ReadFault
+end_of (Err halt.Keep) = status.WriteFault
+end_of (Err halt.Memory) = status.NoMemory
+end_of (Err halt.Limit) = status.InputLimit

@@ -1,4 +1,5 @@
 pub mod Halt
+pub mod Ended
 pub mod Lines
 pub mod Points
 pub mod Talk

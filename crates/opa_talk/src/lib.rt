@@ -5,10 +5,12 @@ mod feed;
 mod halt;
 mod line;
 mod replier;
+mod status;
 mod talk;
 
 pub use feed::{converse, cut_anywhere};
 pub use halt::Halt;
 pub use line::without_mark;
 pub use replier::{Prompt, Replier};
+pub use status::end_of;
 pub use talk::cut;

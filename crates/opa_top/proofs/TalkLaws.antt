@@ -1,20 +1,19 @@
 -- How a run ends, from what its parts ensure.
-use Rattle.std.proofs.Common.{◌≡◌, ◌≤◌, ◌+◌, inl, inr, ℕ, true, false, List, Result, Ok, Err, OnOk, IfErr, refl, sym, subst, arith, ◌∙◌}
+use Rattle.std.proofs.Common.{◌≡◌, ◌≤◌, ◌+◌, ◌⊎◌, inl, inr, ℕ, true, false, List, Result, Ok, Err, OnOk, IfErr, refl, sym, subst, arith, ◌∙◌}
 use Rattle.std.specs.Io.KnownBytes.{IsAtEnd}
-use Rattle.opa_io.specs.Outside.{Rose}
 use Rattle.opa_io.specs.declared.fault.Status.{Status}
 use Rattle.opa_io.specs.declared.fault.Status.TheVariants as status
 use Rattle.opa_infer.specs.Sessions.{first_slots}
-use Rattle.opa_model.specs.Models.{IsModel}
 use Rattle.opa_talk.specs.declared.halt.Halt.{Halt}
 use Rattle.opa_talk.specs.declared.halt.Halt.TheVariants as halt
-use Rattle.opa_talk.specs.Halt.{IsCause}
+use Rattle.opa_talk.specs.Halt.{IsCause, end_of}
 use Rattle.opa_talk.specs.Talk.{Converses, Halts, HaltedAmong, Paused, MayLeave}
 use Rattle.opa_talk.proofs.EndLaws.{halts_memory}
+use Rattle.opa_talk.proofs.StatusLaws.{halts_end}
 use Rattle.opa_tree.specs.declared.rulebase.Rulebase.{Rulebase}
 use Rattle.opa_reply.specs.Held.{Held}
 use Rattle.opa_top.specs.Checking.{IsTold}
-use Rattle.opa_top.specs.Running.{MOST, Manner, Outside, IsFirst, beginning, Leaves, SaysFront, SaysOver, SaysWhole, Talks, TalksAll, TalksPart, Runs, a_run, end_of}
+use Rattle.opa_top.specs.Running.{MOST, Manner, Outside, IsFirst, beginning, counts, Leaves, SaysAll, SaysFront, SaysOver, SaysWhole, Talks, TalksAll, TalksPart, Runs, a_run}
 
 module _ (way : Manner) (base : Rulebase) (old new : Outside) (first : ℕ) (few : IsFirst base old first) (s s' : Held) (is : s ≡ beginning base old first) (leaves : Leaves new s') where
   pub talks_all : {E : Type 0} (r : Result (Unit {0}) E) → OnOk r (Converses way.rule s s' MOST old.left new.left old.written new.written) → OnOk r (TalksAll way base old new)
@@ -51,10 +50,6 @@ talks_not way base old steps few = (
   record { files = refl; hearers = refl; steps = omega arith },
 )
 
--- a count that rose later rose
-rose_later : (before mid now : ℕ) → before ≤ mid → Rose mid now → Rose before now
-rose_later before mid now less rose = search (arith, less, rose)
-
 module _ (way : Manner) (base : Rulebase) (old new : Outside) (mid : ℕ) (less : old.takes ≤ mid) where
   module _ (first : ℕ) (some : IsFirst base old first) where
     whole : (y : Held) (read : List ℕ) → Paused way.rule (beginning base old first) y read old.written new.written → Leaves new y → SaysWhole way base old new read
@@ -69,12 +64,9 @@ module _ (way : Manner) (base : Rulebase) (old new : Outside) (mid : ℕ) (less 
     | inl end ↦ (c.read, c.took, c.within, inl (end, record { first = n; few = some; text = c.text; held = y; said = c.said; wrote = c.wrote; leaves = leaves }))
     | inr over ↦ (c.read, c.took, c.within, inr (record { first = n; few = some; text = c.text; held = y; over = over.0; said = over.1; wrote = c.wrote; leaves = leaves }))
   ]
-  fed (Err halt.Input) all (n, some, y, (read, took, (few, p)), leaves) cause = (read, took, few, inl (cause, whole n some y read p leaves))
-  fed (Err halt.Output) all (n, some, y, (read, took, (few, h)), leaves) cause = (read, took, few, (inl cause, front n some y read h leaves))
-  fed (Err halt.Take) all (n, some, y, (read, took, (few, h)), leaves) cause = (read, took, few, inr (rose_later old.takes mid new.takes less cause, front n some y read h leaves))
-  fed (Err halt.Keep) all (n, some, y, (read, took, (few, h)), leaves) cause = (read, took, few, (inr cause, front n some y read h leaves))
-  fed (Err halt.Memory) all (n, some, y, (read, took, (few, h)), leaves) cause = (read, took, few, front n some y read h leaves)
-  fed (Err halt.Limit) all (n, some, y, (read, took, (many, p)), leaves) cause = (read, took, many, whole n some y _ p leaves)
+  fed (Err e) all (n, some, y, h, leaves) cause =
+      halts_end MOST old.left new.left (counts old) (counts new) (λ read. (IsAtEnd new.left × SaysAll way base old new read) ⊎ SaysOver way base old new read) (SaysWhole way base old new) (SaysFront way base old new)
+      way.rule (MayLeave old.keeps new.keeps way.stops way.lacks) (beginning base old n) y old.written new.written mid less (λ read p. whole n some y read p leaves) (λ read p. front n some y read p leaves) e h cause
 
 -- ---- a run takes each line
 

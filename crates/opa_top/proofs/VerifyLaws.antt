@@ -1,14 +1,15 @@
 -- What the mode `verify` does, from what its parts ensure.
-use Rattle.std.proofs.Common.{◌≡◌, ◌≤◌, inl, inr, ℕ, List, Option, Some, None, length, sym, subst, arith}
+use Rattle.std.proofs.Common.{◌≡◌, ◌≤◌, inl, inr, ℕ, List, Option, Some, None, length, subst}
 use Rattle.opa_io.specs.Outside.{Files, IsFile, IsMissing, IsTooLong, Rose}
 use Rattle.opa_io.specs.declared.fault.Status.{Status}
 use Rattle.opa_io.specs.declared.fault.Status.TheVariants as status
 use Rattle.opa_io.proofs.Appended.{Appends-none}
+use Rattle.opa_talk.proofs.RoseLaws.{rose_later}
 use Rattle.opa_proof.specs.Telling.{Tells}
 use Rattle.opa_proof.specs.declared.verdict.Verdict.{Verdict}
 use Rattle.opa_tree.specs.declared.rulebase.Rulebase.{Rulebase}
 use Rattle.opa_top.specs.Checking.{IsTold}
-use Rattle.opa_top.specs.Verifying.{IsNoFile, JudgesFile, REPORT_MOST, Verifies, no_report, status_of}
+use Rattle.opa_top.specs.Verifying.{IsNoFile, JudgesFile, REPORT_MOST, no_report, status_of}
 
 no_file : (told : Option Files) (name : List ℕ) (before now : ℕ) → IsMissing told name before now → IsNoFile told name
 no_file None name before now h = tt
@@ -34,10 +35,6 @@ module _ (r : Rulebase) (files : Option Files) (name : List ℕ) (w : Option (Li
   file_not_held = JudgesFile.cannot_hold (Appends-none w)
 
 pub ruleset judging = (file_judged, file_missing, file_too_long, file_not_taken, file_not_held)
-
--- a count that rose later rose
-rose_later : (before mid now : ℕ) → before ≤ mid → Rose mid now → Rose before now
-rose_later before mid now less rose = search (arith, less, rose)
 
 pub judged_later : (r : Rulebase) (files : Option Files) (name : List ℕ) (w w' : Option (List ℕ)) (takes mid takes' writes writes' : ℕ) (s : Status) → takes ≤ mid → JudgesFile r files name w w' mid takes' writes writes' s
     → JudgesFile r files name w w' takes takes' writes writes' s

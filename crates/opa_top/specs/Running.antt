@@ -1,12 +1,12 @@
 -- A run, or an interview: an input over a rulebase. What it reads, writes, keeps, tells and answers.
-use Rattle.std.specs.Prelude.{ℕ, ◌≡◌, ◌⊎◌, ◌≤◌, ◌+◌, List, [], ◌++◌, length, take, Option, Result, Ok, Err}
-use Rattle.std.specs.Io.KnownBytes.{Consumes, Appends, IsAtEnd}
+use Rattle.std.specs.Prelude.{ℕ, ◌≡◌, ◌⊎◌, ◌≤◌, ◌+◌, List, [], ◌++◌, Option, Ok, Err}
+use Rattle.std.specs.Io.KnownBytes.{Appends, IsAtEnd}
 use Rattle.opa_io.specs.Outside.{Files, Rose}
 use Rattle.opa_io.specs.declared.fault.Status.{Status}
 use Rattle.opa_io.specs.declared.fault.Status.TheVariants as status
 use Rattle.opa_listen.specs.Hearing.{Hearer}
 use Rattle.opa_talk.specs.declared.halt.Halt.{Halt}
-use Rattle.opa_talk.specs.declared.halt.Halt.TheVariants as halt
+use Rattle.opa_talk.specs.Ended.{Counts, Ends}
 use Rattle.opa_talk.specs.Lines.{input_lines, IsWhole}
 use Rattle.opa_talk.specs.Transcript.{Rule, IsGoing, IsOver, IsTranscript}
 use Rattle.opa_talk.specs.Talk.{HaltedAmong, Converses, Halts, MayLeave}
@@ -48,6 +48,10 @@ outside files takes keeps left reads written writes shelf hearers input out step
   writes = writes out;
   steps = steps;
 }
+
+-- the counts of its faults
+abbrev pub counts : Outside → Counts
+counts x = record { takes = x.takes; keeps = x.keeps; reads = x.reads; writes = x.writes }
 
 -- How lines are answered: the rule, and what may be held where keeping a file failed, and where memory ran out.
 pub record Manner : Type 1 where
@@ -114,19 +118,9 @@ module _ (way : Manner) (base : Rulebase) (old new : Outside) where
     pub says : SaysAll whole
     pub going : IsGoing way.rule says.held
 
-  -- so many bytes were read at most
-  abbrev pub ReadsSome : (List ℕ → Type 0) → Type 0
-  ReadsSome P = (read : List ℕ) × Consumes old.left new.left read × (length read ≤ MOST) × P read
-
   -- What is known of a talk that ended so.
   abbrev pub Talks : Status → Type 0
-  Talks status.Done = ReadsSome (λ read. (IsAtEnd new.left × SaysAll read) ⊎ SaysOver read)
-  Talks status.Refused = ⊥
-  Talks status.Usage = ⊥
-  Talks status.ReadFault = ReadsSome (λ read. (Rose old.reads new.reads × SaysWhole read) ⊎ (Rose old.takes new.takes × SaysFront read))
-  Talks status.WriteFault = ReadsSome (λ read. (Rose old.writes new.writes ⊎ Rose old.keeps new.keeps) × SaysFront read)
-  Talks status.NoMemory = ReadsSome SaysFront
-  Talks status.InputLimit = (read : List ℕ) × Consumes old.left new.left read × (length read ≡ MOST + 1) × SaysWhole (take MOST read)
+  Talks = Ends MOST old.left new.left (counts old) (counts new) (λ read. (IsAtEnd new.left × SaysAll read) ⊎ SaysOver read) SaysWhole SaysFront
 
 -- nothing was read, nothing was kept, nobody was told, and no line was derived
 pub record IsUnused (old new : Outside) : Type 0 where
@@ -152,13 +146,3 @@ TalksAll way base old new = (first : ℕ) × IsFirst base old first × (y : Held
 -- some of the input was read, and the talk halts there
 abbrev pub TalksPart : Manner → Rulebase → Outside → Outside → Halt → Type 0
 TalksPart way base old new halt = (first : ℕ) × IsFirst base old first × (y : Held) × Halts way.rule (MayLeave old.keeps new.keeps way.stops way.lacks) (beginning base old first) y MOST old.left new.left old.written new.written halt × Leaves new y
-
--- how a run ends that was fed
-abbrev pub end_of : Result (Unit {0}) Halt → Status
-end_of (Ok u) = status.Done
-end_of (Err halt.Input) = status.ReadFault
-end_of (Err halt.Output) = status.WriteFault
-end_of (Err halt.Take) = status.ReadFault
-end_of (Err halt.Keep) = status.WriteFault
-end_of (Err halt.Memory) = status.NoMemory
-end_of (Err halt.Limit) = status.InputLimit

@@ -5,12 +5,12 @@ ghost use Rattle.opa_talk.specs.Halt.{IsCause};
 ghost use Rattle.opa_top.specs.Running.{outside, Runs, TalksAll, TalksPart, an_interview};
 
 use crate::check::tell;
-use crate::talk::{declares_a_model, end_of};
+use crate::talk::declares_a_model;
 use opa_io::{Shelf, Sink, Source, Status, Steps};
 use opa_listen::Listener;
 use opa_reply::Interview;
 use opa_rulebase::{LoadError, load_rulebase};
-use opa_talk::{Halt, converse};
+use opa_talk::{Halt, converse, end_of};
 use opa_tree::Rulebase;
 use std::alloc::Global;
 use std::sync::ledger::Ledger;

@@ -1,16 +1,16 @@
 // The mode `run`.
-ghost use Rattle.std.specs.Prelude.{◌≡◌, ◌<◌, ◌^◌, length, map, IfErr, OnOk};
+ghost use Rattle.std.specs.Prelude.{◌<◌, ◌^◌, length, map, IfErr, OnOk};
 ghost use Rattle.opa_listen.specs.Hearing.{hearer};
 ghost use Rattle.opa_model.specs.Models.{IsModel};
 ghost use Rattle.opa_talk.specs.Halt.{IsCause};
-ghost use Rattle.opa_top.specs.Running.{outside, Runs, TalksAll, TalksPart, a_run, end_of};
+ghost use Rattle.opa_top.specs.Running.{outside, Runs, TalksAll, TalksPart, a_run};
 
 use crate::check::tell;
 use opa_io::{Shelf, Sink, Source, Status, Steps};
 use opa_listen::Listener;
 use opa_reply::Conversation;
 use opa_rulebase::{LoadError, load_rulebase};
-use opa_talk::{Halt, converse};
+use opa_talk::{Halt, converse, end_of};
 use opa_tree::Rulebase;
 use std::alloc::Global;
 use std::sync::ledger::Ledger;
@@ -51,21 +51,6 @@ pub(crate) fn declares_a_model(base: &Rulebase)
     ensures { IsModel base.now.model }
 {
     let _count = base.model.entity_count();
-}
-
-/// How a run ends that was fed.
-pub(crate) fn end_of(fed: Result<(), Halt>) -> Status
-    ensures { result ≡ end_of fed }
-{
-    match fed {
-        Ok(()) => Status::Done,
-        Err(Halt::Input) => Status::ReadFault,
-        Err(Halt::Output) => Status::WriteFault,
-        Err(Halt::Take) => Status::ReadFault,
-        Err(Halt::Keep) => Status::WriteFault,
-        Err(Halt::Memory) => Status::NoMemory,
-        Err(Halt::Limit) => Status::InputLimit,
-    }
 }
 
 /// Loads a rulebase, and carries out the lines of the input over it.
