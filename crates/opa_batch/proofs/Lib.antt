@@ -1,6 +1,9 @@
 pub mod HeadLaws
 pub mod CellLaws
 pub mod RowLaws
+pub mod CutLaws
+pub mod WriterLaws
+pub mod EmptyLaws
 pub mod MakingLaws
 pub mod CountLaws
 pub mod ServeLaws
