@@ -94,6 +94,10 @@ pub record_counts : (r : Rulebase) (heads : List Head) (cells : List (List ℕ))
     → CountsAtMost (RecordReaches r heads cells) before now
 record_counts r heads cells c before now same empty x = (x.0, inr (same, subst (λ d. CellsReach r 1 d heads cells x.0) empty x.1), x.2)
 
+-- nothing was determined for a record
+pub not_determined : (r : Rulebase) (heads : List Head) (cells : List (List ℕ)) (before more : ℕ) → CountsAtMost (RecordReaches r heads cells) (before + more) before
+not_determined r heads cells before more = (0, inl refl, omega arith)
+
 -- the case of which nothing is known is determined anew
 pub emptied : (r : Rulebase) (c d : CaseView) (place before now : ℕ) → (place ≡ 0 → ⊥) → d ≡ no_case → now ≤ before + reached r c d → now ≤ before + due r place
 emptied r c d zero before now some e few = absurd (some refl)

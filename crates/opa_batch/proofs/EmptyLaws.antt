@@ -1,5 +1,5 @@
 -- A case of which nothing is answered and nothing listed is the empty one.
-use Rattle.std.proofs.Common.{◌≡◌, ℕ, Bool, List, [], sym, ap, ◌∙◌}
+use Rattle.std.proofs.Common.{◌≡◌, Bool, List, [], sym, ap, ◌∙◌}
 use Rattle.std.specs.FinMap.{empty, empty_of_len, len}
 use Rattle.opa_case.specs.Cases.{CaseView, no_case, stored}
 use Rattle.opa_case.specs.Fits.{Fits}

@@ -4,7 +4,9 @@ pub mod RowLaws
 pub mod CutLaws
 pub mod WriterLaws
 pub mod EmptyLaws
+pub mod SameLaws
 pub mod MakingLaws
+pub mod KeptLaws
 pub mod CountLaws
 pub mod ServeLaws
 pub mod StatusLaws

@@ -1,5 +1,5 @@
 // What an input gives over a rulebase is made.
-ghost use Rattle.std.specs.Prelude.{◌≡◌, ◌+◌, ◌<◌, ◌≤◌, ◌∷◌, ◌^◌, true, Some, IfOk, OnOk};
+ghost use Rattle.std.specs.Prelude.{◌≡◌, ◌+◌, ◌<◌, ◌≤◌, ◌∷◌, ◌^◌, true, length, Some, IfOk, OnOk};
 ghost use Rattle.csv.specs.Records.{fields_of};
 ghost use Rattle.opa_case.specs.Cases.{no_case};
 ghost use Rattle.opa_case.specs.Fits.{Fits};
@@ -11,6 +11,7 @@ ghost use Rattle.opa_batch.specs.Batches.{Gives, GivesOf, no_heading, written_ro
 ghost use Rattle.opa_batch.specs.Counting.{CountsAtMost, RecordReaches, RecordsReach, MayCount, due};
 ghost use Rattle.opa_batch.specs.Cutting.{HasLeft, IsAt, below};
 ghost use Rattle.opa_batch.specs.Gathered.{AddsRow, AddsRows};
+ghost use Rattle.opa_batch.specs.Known.{AreKept};
 ghost use Rattle.opa_batch.specs.Numbered.{HasRows};
 
 use crate::cells::take_record;
@@ -18,8 +19,10 @@ use crate::columns::heads_of;
 use crate::csv_rows::{add_row, no_rows, text_of};
 use crate::head::Head;
 use crate::heading::fill_heading;
+use crate::kept::{Kept, add_known, keep, none_kept};
 use crate::records::{cut_next, reader_of};
 use crate::rows::fill_row;
+use crate::same::slot_of;
 use csv::{ByteRecord, Reader, Writer};
 use opa_case::{Case, empty_fits};
 use opa_infer::Session;
@@ -89,26 +92,63 @@ fn forget_case<L: Ledger>(
     Ok(())
 }
 
-/// Adds the row of the record at a place, which takes the place of the record.
+/// Decides the record at a place, adds its row, which takes the place of the record, and keeps both.
+fn add_decided<L: Ledger>(
+    alloc: Global,
+    session: &mut Session,
+    heads: &[Head],
+    place: usize,
+    row: &mut ByteRecord,
+    kept: &mut Vec<Option<Kept>>,
+    slot: usize,
+    out: &mut Writer<Vec<u8>>,
+    steps: &mut Steps<L>,
+) -> Result<(), NoMemory>
+    requires first { place ≡ 0 → held_of session.old ≡ no_case }
+    requires few { place + 1 < 2 ^ 64 }
+    requires slot { slot < length kept.old.items }
+    ensures ok { OnOk result (AddsRow (λ v. Some v.items) out.old out.new (rules_of session.old) heads.now (place + 1) (fields_of row.old)) }
+    ensures base { rules_of session.new ≡ rules_of session.old }
+    ensures kept { OnOk result (AreKept (rules_of session.old) heads.now kept.old.items → AreKept (rules_of session.old) heads.now kept.new.items) }
+    ensures slots { OnOk result (length kept.new.items ≡ length kept.old.items) }
+    ensures counts { CountsAtMost (RecordReaches (rules_of session.old) heads.now (fields_of row.old)) (steps.old + due (rules_of session.old) place) steps.new }
+{
+    forget_case(alloc, session, place, steps)?;
+    let fault = take_record(alloc, session, heads, row, steps)?;
+    let cells = row.clone()?;
+    fill_row(alloc, session, place + 1, &fault, row)?;
+    add_row(out, row)?;
+    keep(kept, slot, cells, row)?;
+    Ok(())
+}
+
+/// Adds the row of the record at a place, as it is known, or as it is decided now.
 fn add_record<L: Ledger>(
     alloc: Global,
     session: &mut Session,
     heads: &[Head],
     place: usize,
     row: &mut ByteRecord,
+    kept: &mut Vec<Option<Kept>>,
     out: &mut Writer<Vec<u8>>,
     steps: &mut Steps<L>,
 ) -> Result<(), NoMemory>
     requires first { place ≡ 0 → held_of session.old ≡ no_case }
     requires few { place + 1 < 2 ^ 64 }
+    requires kept { AreKept (rules_of session.old) heads.now kept.old.items }
+    requires slots { length kept.old.items ≡ 4096 }
     ensures ok { OnOk result (AddsRow (λ v. Some v.items) out.old out.new (rules_of session.old) heads.now (place + 1) (fields_of row.old)) }
     ensures base { rules_of session.new ≡ rules_of session.old }
+    ensures kept { OnOk result (AreKept (rules_of session.old) heads.now kept.new.items) }
+    ensures slots { OnOk result (length kept.new.items ≡ 4096) }
     ensures counts { CountsAtMost (RecordReaches (rules_of session.old) heads.now (fields_of row.old)) (steps.old + due (rules_of session.old) place) steps.new }
 {
-    forget_case(alloc, session, place, steps)?;
-    let fault = take_record(alloc, session, heads, row, steps)?;
-    fill_row(alloc, session, place + 1, &fault, row)?;
-    add_row(out, row)?;
+    let slot = slot_of(row);
+    let found = add_known(kept.as_slice(), slot, place + 1, row, out)?;
+    if found {
+        return Ok(());
+    }
+    add_decided(alloc, session, heads, place, row, kept, slot, out, steps)?;
     Ok(())
 }
 
@@ -128,9 +168,10 @@ fn add_rows<L: Ledger>(
     ensures rows { OnOk result (AddsRows (λ v. Some v.items) out.old out.new (rules_of session.old) heads.now (below bytes.now)) }
     ensures counts { CountsAtMost (RecordsReach (rules_of session.old) heads.now (below bytes.now)) steps.old (steps.new + first_slots (rules_of session.old)) }
 {
+    let mut kept = none_kept(alloc)?;
     // An input has no more records below its heading than bytes.
     for place in 0..bytes.len() {
-        add_record(alloc, session, heads, place, row, out, steps)?;
+        add_record(alloc, session, heads, place, row, &mut kept, out, steps)?;
         let found = cut_next(reader, row)?;
         if !found {
             return Ok(());

@@ -1,5 +1,5 @@
 // The cells of a row.
-ghost use Rattle.std.specs.Prelude.{◌≡◌, ◌<◌, ◌++◌, ◌∷◌, [], true, length, Some, Ok, Err, IfOk};
+ghost use Rattle.std.specs.Prelude.{◌≡◌, ◌<◌, ◌++◌, ◌∷◌, [], true, drop, length, Some, Ok, Err, IfOk};
 ghost use Rattle.std.specs.Fmt.{decimal};
 ghost use Rattle.csv.specs.Records.{fields_of, partial_of};
 ghost use Rattle.opa_case.specs.Shapes.{attribute_or};
@@ -186,6 +186,24 @@ fn fault_row(
         add_cell(row, b"")?;
     }
     add_cell(row, fault.as_str().as_bytes())?;
+    Ok(())
+}
+
+/// A row with another number than the one that is known.
+pub(crate) fn fill_again(
+    row: &mut ByteRecord,
+    number: usize,
+    known: &ByteRecord,
+) -> Result<(), NoMemory>
+    ensures { IfOk result (λ _. fields_of row.new ≡ decimal number ∷ drop 1 (fields_of known.now)) }
+{
+    begin_numbered(row, number)?;
+    for place in 1..known.len() {
+        let Some(cell) = known.get(place) else {
+            return Ok(());
+        };
+        add_cell(row, cell)?;
+    }
     Ok(())
 }
 

@@ -1,13 +1,14 @@
-use Rattle.std.proofs.Common.{◌≡◌, ◌≤◌, ◌+◌, length, refl, ◌∙◌, subst, arith}
+use Rattle.std.proofs.Common.{◌≤◌, ◌+◌, length, refl, sym, ◌∙◌, subst, arith}
 use Rattle.std.specs.Prelude.{Some}
 use Rattle.csv.specs.Records.{fields_of}
 use Rattle.opa_tree.specs.declared.rulebase.Rulebase.{Rulebase}
-use Rattle.opa_infer.specs.Sessions.{rules_of}
+use Rattle.opa_infer.specs.Sessions.{first_slots, rules_of}
 use Rattle.opa_batch.specs.Counting.{CountsAtMost, RecordReaches, due}
 use Rattle.opa_batch.specs.Cutting.{below}
 use Rattle.opa_batch.specs.Gathered.{AddsRow}
-use Rattle.opa_batch.proofs.CountLaws.{records_begin, records_go_on, records_stop}
-use Rattle.opa_batch.proofs.CutLaws.{at_end, at_next, not_past}
+use Rattle.opa_batch.specs.Known.{AreKept}
+use Rattle.opa_batch.proofs.CountLaws.{records_begin, records_go_on, records_stop, started}
+use Rattle.opa_batch.proofs.CutLaws.{at_end, at_next, not_past, some_below}
 use Rattle.opa_batch.proofs.MakingLaws.{no_row_yet, row_on_top, rows_are_whole}
 use Rattle.opa_batch.proofs.making.add_rows.Goals as goal
 
@@ -16,6 +17,8 @@ loop-place-init g c = record {
   base = refl;
   first = λ _. c.requires.first;
   at = c.requires.at;
+  kept = c.in_ok-kept.ensures.none.of (rules_of c.args.session.now) c.args.heads.now;
+  slots = c.in_ok-kept.ensures.slots;
   rows = no_row_yet (λ v. Some v.items) c.args.out.now (rules_of c.args.session.now) c.args.heads.now (below c.args.bytes.now);
   counts = records_begin (rules_of c.args.session.now) c.args.heads.now (below c.args.bytes.now) c.args.steps.now;
 }
@@ -30,6 +33,8 @@ loop-place-preserved g c =
       base = c.in_ok-add_record.ensures.base ∙ c.loop-place.invariant.base;
       first = λ e. absurd (omega (arith, e));
       at = at_next c.args.bytes.now c.loop-place.reader c.cut_next.new.reader (fields_of c.cut_next.new.row) (place + 1) c.loop-place.invariant.at.has_left c.in_ok-found.found c.if-not-found.false c.in_ok-found.ensures;
+      kept = subst (λ (b : Rulebase). AreKept b c.args.heads.now c.add_record.new.kept.items) (sym c.in_ok-add_record.ensures.base) c.in_ok-add_record.ensures.kept;
+      slots = c.in_ok-add_record.ensures.slots;
       rows = row_on_top (λ v. Some v.items) c.args.out.now r c.args.heads.now records place fields c.loop-place.out c.add_record.new.out c.loop-place.invariant.at.here c.loop-place.invariant.rows
           (subst (λ (b : Rulebase). AddsRow (λ v. Some v.items) c.loop-place.out c.add_record.new.out b c.args.heads.now (place + 1) fields) c.loop-place.invariant.base c.in_ok-add_record.ensures.ok);
       counts = records_go_on r c.args.heads.now records c.args.steps.now place c.loop-place.steps c.loop-place.invariant.counts fields c.add_record.new.steps c.loop-place.invariant.at.here
@@ -82,3 +87,9 @@ pub returns-clause-counts : goal.returns-clause-counts
 returns-clause-counts g c =
     let past : length c.args.bytes.now ≤ c.loop-place.place = c.loop-place-test.false in
     absurd (not_past c.args.bytes.now c.loop-place.place (fields_of c.loop-place.row) c.loop-place.reader c.loop-place.invariant.at past)
+
+pub returns-in_err-kept-clause-counts : goal.returns-in_err-kept-clause-counts
+returns-in_err-kept-clause-counts g c =
+    let r = rules_of c.args.session.now in
+    let some = some_below c.args.bytes.now (fields_of c.args.row.now) c.args.reader.now c.requires.at in
+    started r c.args.heads.now (below c.args.bytes.now) c.args.steps.now (c.args.steps.now + first_slots r) some (omega arith)
