@@ -1,6 +1,6 @@
 -- Rows of records that were decided before.
 use Rattle.std.proofs.Common.{◌≡◌, ◌<◌, ℕ, List, [], ◌∷◌, ◌++◌, length, drop, get_or, set, refl, sym, ap, ◌∙◌, subst}
-use Rattle.std.specs.Prelude.{Option, None, Some, Result, Ok, Err, IfSome, Bool, true, false}
+use Rattle.std.specs.Prelude.{Option, Result, Ok, Err, Bool, true, false}
 use Rattle.std.specs.Fmt.{decimal}
 use Rattle.std.proofs.lemmas.List.Elements.{All-get_or, All-nil, All-push, All-set}
 use Rattle.csv.specs.Records.{Row, fields_of}
@@ -14,28 +14,27 @@ use Rattle.opa_batch.specs.Gathered.{AddsRow, AddsText}
 use Rattle.opa_batch.specs.Known.{AddsKnown, AreKept, AreNone, IsKnown, IsRowOf, Keeps}
 use Rattle.opa_batch.specs.Rows.{IsRecord, IsRow, row_of}
 
-abbrev HasRow : Rulebase → List Head → Option Kept → Type 0
-HasRow r heads o = IfSome o (λ k. IsRowOf r heads (fields_of k.cells) (fields_of k.row))
+abbrev HasRow : Rulebase → List Head → Kept → Type 0
+HasRow r heads k = k.is_full ≡ true → IsRowOf r heads (fields_of k.cells) (fields_of k.row)
 
 -- ---- slots
 
-pub no_slot : (kept : List (Option Kept)) → kept ≡ [] → AreNone kept
+pub no_slot : (kept : List Kept) → kept ≡ [] → AreNone kept
 no_slot kept e = record { of = λ r heads. subst (AreKept r heads) (sym e) (All-nil (HasRow r heads)) }
 
-pub one_slot : (kept new : List (Option Kept)) → new ≡ kept ++ None ∷ [] → AreNone kept → AreNone new
-one_slot kept new e none = record { of = λ r heads. subst (AreKept r heads) (sym e) (All-push (HasRow r heads) kept None (none.of r heads) tt) }
+pub one_slot : (kept new : List Kept) (k : Kept) → new ≡ kept ++ k ∷ [] → k.is_full ≡ false → AreNone kept → AreNone new
+one_slot kept new k e empty none = record { of = λ r heads. subst (AreKept r heads) (sym e) (All-push (HasRow r heads) kept k (none.of r heads) (λ full. absurd (let q : false ≡ true = sym empty ∙ full in cc q))) }
 
-pub known_at : (kept : List (Option Kept)) (slot : ℕ) (o : Option Kept) (k : Kept) (fields : List (List ℕ)) → slot < length kept → o ≡ get_or kept slot o → o ≡ Some k → fields_of k.cells ≡ fields → IsKnown kept fields k.row
-known_at kept slot o k fields lt is some same = record {
+pub known_at : (kept : List Kept) (slot : ℕ) (k : Kept) (fields : List (List ℕ)) → slot < length kept → k ≡ get_or kept slot k → k.is_full ≡ true → fields_of k.cells ≡ fields → IsKnown kept fields k.row
+known_at kept slot k fields lt is full same = record {
   of = λ r heads are.
-      let here : HasRow r heads (get_or kept slot o) = All-get_or (HasRow r heads) kept slot o lt are in
-      let its : HasRow r heads (Some k) = subst (HasRow r heads) (sym is ∙ some) here in
-      subst (λ fs. IsRowOf r heads fs (fields_of k.row)) same its;
+      let here : HasRow r heads k = subst (HasRow r heads) (sym is) (All-get_or (HasRow r heads) kept slot k lt are) in
+      subst (λ fs. IsRowOf r heads fs (fields_of k.row)) same (here full);
 }
 
-pub keeps_one : (old : List (Option Kept)) (slot : ℕ) (k : Kept) (fields row : List (List ℕ)) → fields ≡ fields_of k.cells → row ≡ fields_of k.row → Keeps old (set old slot (Some k)) fields row
+pub keeps_one : (old : List Kept) (slot : ℕ) (k : Kept) (fields row : List (List ℕ)) → fields_of k.cells ≡ fields → fields_of k.row ≡ row → Keeps old (set old slot k) fields row
 keeps_one old slot k fields row a b = record {
-  of = λ r heads are h. All-set (HasRow r heads) old slot (Some k) (subst (λ fs. IsRowOf r heads fs (fields_of k.row)) a (subst (IsRowOf r heads fields) b h)) are;
+  of = λ r heads are h. All-set (HasRow r heads) old slot k (λ _. subst (λ fs. IsRowOf r heads fs (fields_of k.row)) (sym a) (subst (IsRowOf r heads fields) (sym b) h)) are;
 }
 
 -- ---- rows
@@ -48,7 +47,7 @@ module _ (r : Rulebase) (heads : List Head) (n : ℕ) (fields : List (List ℕ))
   again : (known : List (List ℕ)) → IsRowOf r heads fields known → IsRow r heads n fields (decimal n ∷ drop 1 known)
   again known h = let (x, is, e) = h.is_row in (x, is, ap (λ k. decimal n ∷ drop 1 k) e ∙ renumbered h.number x)
 
-  pub row_again : {W : Type 0} (contents : W → Option (List ℕ)) (kept : List (Option Kept)) (old new : Writer W) (known : Row) (cells : List (List ℕ)) → IsKnown kept fields known → cells ≡ decimal n ∷ drop 1 (fields_of known)
+  pub row_again : {W : Type 0} (contents : W → Option (List ℕ)) (kept : List Kept) (old new : Writer W) (known : Row) (cells : List (List ℕ)) → IsKnown kept fields known → cells ≡ decimal n ∷ drop 1 (fields_of known)
       → AddsText contents old new (written_row cells) → AreKept r heads kept → AddsRow contents old new r heads n fields
   row_again contents kept old new known cells is e adds are =
       record { row = written_row cells; writes = record { cells = cells; is_row = subst (IsRow r heads n fields) (sym e) (again (fields_of known) (is.of r heads are)); whole = refl }; adds = adds }
@@ -58,7 +57,7 @@ row_of_record r r1 r2 heads n fields cells x e f is row = record { number = n; i
 
 -- ---- whether a record was known
 
-module _ {W : Type 0} (contents : W → Option (List ℕ)) (kept : List (Option Kept)) (old new : Writer W) (row row' : Row) (n : ℕ) where
+module _ {W : Type 0} (contents : W → Option (List ℕ)) (kept : List Kept) (old new : Writer W) (row row' : Row) (n : ℕ) where
   pub was_known : (found : Bool) → found ≡ true → AddsKnown contents kept found old new row row' n → (r : Rulebase) (heads : List Head) → AreKept r heads kept → AddsRow contents old new r heads n (fields_of row)
   was_known true e h = h
   was_known false e h = absurd (cc e)

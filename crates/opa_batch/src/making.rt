@@ -19,9 +19,8 @@ use crate::columns::heads_of;
 use crate::csv_rows::{add_row, no_rows, text_of};
 use crate::head::Head;
 use crate::heading::fill_heading;
-use crate::kept::{Kept, add_known, keep, none_kept};
+use crate::kept::{Kept, add_kept, add_known, none_kept};
 use crate::records::{cut_next, reader_of};
-use crate::rows::fill_row;
 use crate::same::slot_of;
 use csv::{ByteRecord, Reader, Writer};
 use opa_case::{Case, empty_fits};
@@ -92,14 +91,14 @@ fn forget_case<L: Ledger>(
     Ok(())
 }
 
-/// Decides the record at a place, adds its row, which takes the place of the record, and keeps both.
+/// Decides the record at a place, keeps it with its row, and adds the row.
 fn add_decided<L: Ledger>(
     alloc: Global,
     session: &mut Session,
     heads: &[Head],
     place: usize,
     row: &mut ByteRecord,
-    kept: &mut Vec<Option<Kept>>,
+    kept: &mut Vec<Kept>,
     slot: usize,
     out: &mut Writer<Vec<u8>>,
     steps: &mut Steps<L>,
@@ -115,10 +114,7 @@ fn add_decided<L: Ledger>(
 {
     forget_case(alloc, session, place, steps)?;
     let fault = take_record(alloc, session, heads, row, steps)?;
-    let cells = row.clone()?;
-    fill_row(alloc, session, place + 1, &fault, row)?;
-    add_row(out, row)?;
-    keep(kept, slot, cells, row)?;
+    add_kept(alloc, session, place + 1, &fault, row, kept, slot, out)?;
     Ok(())
 }
 
@@ -129,7 +125,7 @@ fn add_record<L: Ledger>(
     heads: &[Head],
     place: usize,
     row: &mut ByteRecord,
-    kept: &mut Vec<Option<Kept>>,
+    kept: &mut Vec<Kept>,
     out: &mut Writer<Vec<u8>>,
     steps: &mut Steps<L>,
 ) -> Result<(), NoMemory>
