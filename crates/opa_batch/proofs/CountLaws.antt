@@ -1,7 +1,6 @@
 -- How many lines of conclusions are counted, from a change to a whole input.
-use Rattle.std.proofs.Common.{◌≡◌, ◌≤◌, ◌<◌, ◌+◌, ◌==◌, ℕ, zero, suc, Bool, true, false, List, [], ◌∷◌, length, drop, get_or, is_some, not, filter, inl, inr, refl, sym, ap, ◌∙◌, subst, add-one, arith}
+use Rattle.std.proofs.Common.{◌≡◌, ◌≤◌, ◌<◌, ◌+◌, ◌==◌, ℕ, zero, suc, Bool, true, false, List, [], ◌∷◌, length, drop, is_some, not, filter, inl, inr, refl, sym, ap, ◌∙◌, subst, add-one, arith}
 use Rattle.std.specs.Prelude.{Option, None, Some, Result, Ok, Err}
-use Rattle.std.proofs.lemmas.List.{drop_all}
 use Rattle.std.proofs.lemmas.List.Filters.{length-filter_both}
 use Rattle.csv.specs.Records.{field_at}
 use Rattle.opa_case.specs.Cases.{CaseView, no_case}
@@ -19,7 +18,6 @@ use Rattle.opa_batch.specs.declared.head.Head.{Head}
 use Rattle.opa_batch.specs.Counting.{CountsAtMost, ChangeReaches, LineReaches, CellReaches, CellsReach, RecordReaches, RecordsReach, MayCount, due}
 use Rattle.opa_batch.specs.Numbered.{left_by, CountsCells, CountsRecords}
 use Rattle.opa_batch.specs.Rows.{change_in, stepped, line_of, IsCell}
-use Rattle.opa_batch.proofs.CellLaws.{item_at}
 use Rattle.opa_batch.proofs.HeadLaws.{here, past}
 
 filtered : {A : Type 0} (p : A → Bool) (xs : List A) → length (filter p xs) ≤ length xs
@@ -96,6 +94,10 @@ pub record_counts : (r : Rulebase) (heads : List Head) (cells : List (List ℕ))
     → CountsAtMost (RecordReaches r heads cells) before now
 record_counts r heads cells c before now same empty x = (x.0, inr (same, subst (λ d. CellsReach r 1 d heads cells x.0) empty x.1), x.2)
 
+-- nothing was determined for a record
+pub not_determined : (r : Rulebase) (heads : List Head) (cells : List (List ℕ)) (before more : ℕ) → CountsAtMost (RecordReaches r heads cells) (before + more) before
+not_determined r heads cells before more = (0, inl refl, omega arith)
+
 -- the case of which nothing is known is determined anew
 pub emptied : (r : Rulebase) (c d : CaseView) (place before now : ℕ) → (place ≡ 0 → ⊥) → d ≡ no_case → now ≤ before + reached r c d → now ≤ before + due r place
 emptied r c d zero before now some e few = absurd (some refl)
@@ -123,21 +125,18 @@ due_of_some : (r : Rulebase) (n : ℕ) → 0 < n → due r n ≡ first_slots r
 due_of_some r zero some = absurd (omega (arith, some))
 due_of_some r (suc n) some = refl
 
-due_grows : (r : Rulebase) (a b : ℕ) → a ≤ b → due r a ≤ due r b
-due_grows r zero b le = omega arith
-due_grows r (suc a) zero le = absurd (omega (arith, le))
-due_grows r (suc a) (suc b) le = omega arith
-
 module _ (r : Rulebase) (heads : List Head) (records : List (List (List ℕ))) (before : ℕ) where
   pub records_begin : CountsRecords r heads records 0 before before
   records_begin = record { counted = 0; few = omega arith; leads = λ rest h. let e : rest ≡ 0 + rest = omega arith in subst (λ n. RecordsReach r heads records n) e h }
 
   module _ (place now : ℕ) (way : CountsRecords r heads records place before now) where
-    pub records_are_done : (many : ℕ) → many ≤ place → length records ≤ place → CountsAtMost (RecordsReach r heads records) before (now + due r many)
-    records_are_done many le past =
-        (way.counted + 0, way.leads 0 (subst (λ rs. RecordsReach r heads rs 0) (sym (drop_all place records past)) refl), omega (arith, way.few, due_grows r many place le))
+    -- some records were determined
+    pub records_reach : 0 < place → CountsAtMost (RecordsReach r heads records) before (now + first_slots r)
+    records_reach some =
+        let rest = some_reach r heads (drop place records) in
+        (way.counted + rest.0, way.leads rest.0 rest.1, omega (arith, way.few, due_of_some r place some))
 
-    module _ (fields : List (List ℕ)) (now' : ℕ) (lt : place < length records) (is : fields ≡ get_or records place fields) (x : CountsAtMost (RecordReaches r heads fields) (now + due r place) now') where
+    module _ (fields : List (List ℕ)) (now' : ℕ) (there : drop place records ≡ fields ∷ drop (place + 1) records) (x : CountsAtMost (RecordReaches r heads fields) (now + due r place) now') where
       pub records_go_on : CountsRecords r heads records (place + 1) before now'
       records_go_on =
           let next : due r (place + 1) ≡ first_slots r = ap (due r) (add-one place) in
@@ -147,22 +146,20 @@ module _ (r : Rulebase) (heads : List Head) (records : List (List (List ℕ))) (
             leads = λ rest k.
                 let same : way.counted + ((first_slots r + x.0) + rest) ≡ (way.counted + (first_slots r + x.0)) + rest = omega arith in
                 subst (RecordsReach r heads records) same
-                (way.leads ((first_slots r + x.0) + rest) (subst (λ rs. RecordsReach r heads rs ((first_slots r + x.0) + rest)) (sym (item_at records place fields lt is)) (x.0, rest, x.1, k, refl)));
+                (way.leads ((first_slots r + x.0) + rest) (subst (λ rs. RecordsReach r heads rs ((first_slots r + x.0) + rest)) (sym there) (x.0, rest, x.1, k, refl)));
           }
 
-      pub records_stop : (many : ℕ) → 0 < many → CountsAtMost (RecordsReach r heads records) before (now' + due r many)
-      records_stop many some =
-          let on = records_go_on in
-          let rest = some_reach r heads (drop (place + 1) records) in
-          let next : due r (place + 1) ≡ first_slots r = ap (due r) (add-one place) in
-          (on.counted + rest.0, on.leads rest.0 rest.1, omega (arith, on.few, next, due_of_some r many some))
+module _ (r : Rulebase) (heads : List Head) (records : List (List (List ℕ))) (before place now : ℕ) (way : CountsRecords r heads records place before now) where
+  pub records_stop : (fields : List (List ℕ)) (now' : ℕ) → drop place records ≡ fields ∷ drop (place + 1) records → CountsAtMost (RecordReaches r heads fields) (now + due r place) now'
+      → CountsAtMost (RecordsReach r heads records) before (now' + first_slots r)
+  records_stop fields now' there x =
+      let some : 0 < place + 1 = omega arith in
+      records_reach r heads records before (place + 1) now' (records_go_on r heads records before place now way fields now' there x) some
 
 -- the records were determined over a session of their own
-pub determined_counts : (r r' : Rulebase) (heads : List Head) (records : List (List (List ℕ))) (many before at now : ℕ) → r' ≡ r → 0 < many → at ≤ before + first_slots r
-    → CountsAtMost (RecordsReach r' heads records) at (now + due r' many) → CountsAtMost (RecordsReach r heads records) before now
-determined_counts r r' heads records many before at now e some few x =
-    let same : due r' many ≡ first_slots r = due_of_some r' many some ∙ ap first_slots e in
-    (x.0, subst (λ b. RecordsReach b heads records x.0) e x.1, omega (arith, few, x.2, same))
+pub determined_counts : (r r' : Rulebase) (heads : List Head) (records : List (List (List ℕ))) (before at now : ℕ) → r' ≡ r → at ≤ before + first_slots r
+    → CountsAtMost (RecordsReach r' heads records) at (now + first_slots r') → CountsAtMost (RecordsReach r heads records) before now
+determined_counts r r' heads records before at now e few x = (x.0, subst (λ b. RecordsReach b heads records x.0) e x.1, omega (arith, few, x.2, ap first_slots e))
 
 -- ---- an input
 

@@ -1,7 +1,12 @@
 pub mod HeadLaws
 pub mod CellLaws
 pub mod RowLaws
+pub mod CutLaws
+pub mod WriterLaws
+pub mod EmptyLaws
+pub mod SameLaws
 pub mod MakingLaws
+pub mod KeptLaws
 pub mod CountLaws
 pub mod ServeLaws
 pub mod StatusLaws

@@ -1,7 +1,7 @@
 -- The rows of records, one after another, and what an input gives.
-use Rattle.std.proofs.Common.{◌≡◌, ◌<◌, ◌≤◌, ◌+◌, ℕ, List, [], ◌∷◌, ◌++◌, length, drop, get_or, inl, inr, refl, sym, ap, ◌∙◌, subst, append_assoc, append-nil, arith}
-use Rattle.std.specs.Prelude.{Result}
-use Rattle.std.proofs.lemmas.List.{drop_all}
+use Rattle.std.proofs.Common.{◌≡◌, ◌+◌, ℕ, List, [], ◌∷◌, ◌++◌, drop, inl, inr, refl, sym, ap, ◌∙◌, subst, append_assoc, append-nil}
+use Rattle.std.specs.Prelude.{Option, Result}
+use Rattle.csv.specs.declared.writer.Writer.{Writer}
 use Rattle.opa_io.specs.declared.fault.Status.TheVariants as status
 use Rattle.opa_case.specs.Cases.{CaseView}
 use Rattle.opa_tree.specs.declared.rulebase.Rulebase.{Rulebase}
@@ -10,7 +10,7 @@ use Rattle.opa_batch.specs.Heads.{AreHeads, IsFirstRefusal}
 use Rattle.opa_batch.specs.Rows.{IsRecord, row_of}
 use Rattle.opa_batch.specs.Batches.{AreRows, GivesOf, heading, written_row}
 use Rattle.opa_batch.specs.Numbered.{AreAdded, HasRows, WritesRow}
-use Rattle.opa_batch.proofs.CellLaws.{item_at}
+use Rattle.opa_batch.specs.Gathered.{AddsRow, AddsRows, AddsRowsTo, AddsText, HoldsText}
 
 -- the row of a record, as it is written
 pub row_written : (r r1 r2 : Rulebase) (heads : List Head) (n : ℕ) (fields cells : List (List ℕ)) (x : Result CaseView (List ℕ)) (text : List ℕ) → r1 ≡ r → r2 ≡ r1
@@ -23,31 +23,58 @@ module _ (r : Rulebase) (heads : List Head) (records : List (List (List ℕ))) (
   none_added = record { adds = λ more h. record { rows = more; are_rows = h; whole = refl } }
 
   module _ (place : ℕ) (fields : List (List ℕ)) (text new row : List ℕ) where
-    there : place < length records → fields ≡ get_or records place fields → drop place records ≡ fields ∷ drop (place + 1) records
-    there lt is = item_at records place fields lt is
-
-    pub one_added : place < length records → fields ≡ get_or records place fields → WritesRow r heads (place + 1) fields row → new ≡ text ++ row → AreAdded r heads records first place text → AreAdded r heads records first (place + 1) new
-    one_added lt is written grown added = record {
+    pub one_added : drop place records ≡ fields ∷ drop (place + 1) records → WritesRow r heads (place + 1) fields row → new ≡ text ++ row → AreAdded r heads records first place text → AreAdded r heads records first (place + 1) new
+    one_added there written grown added = record {
       adds = λ more h.
           let all : HasRows r heads records first (text ++ (row ++ more)) =
-          added.adds (row ++ more) (subst (λ rs. AreRows r heads (place + 1) rs (row ++ more)) (sym (there lt is)) (written.cells, written.is_row, (more, h, ap (λ t. t ++ more) written.whole))) in
+          added.adds (row ++ more) (subst (λ rs. AreRows r heads (place + 1) rs (row ++ more)) (sym there) (written.cells, written.is_row, (more, h, ap (λ t. t ++ more) written.whole))) in
           record { rows = all.rows; are_rows = all.are_rows; whole = ap (λ t. t ++ more) grown ∙ append_assoc text row more ∙ all.whole };
     }
 
-  pub all_added : (place : ℕ) (text : List ℕ) → length records ≤ place → AreAdded r heads records first place text → HasRows r heads records first text
-  all_added place text le added =
-      let all : HasRows r heads records first (text ++ []) = added.adds [] (subst (λ rs. AreRows r heads (place + 1) rs []) (sym (drop_all place records le)) refl) in
+  pub all_added : (place : ℕ) (text : List ℕ) → drop place records ≡ [] → AreAdded r heads records first place text → HasRows r heads records first text
+  all_added place text none added =
+      let all : HasRows r heads records first (text ++ []) = added.adds [] (subst (λ rs. AreRows r heads (place + 1) rs []) (sym none) refl) in
       record { rows = all.rows; are_rows = all.are_rows; whole = sym (append-nil text) ∙ all.whole }
 
-  pub no_records : length records ≡ 0 → HasRows r heads records first first
-  no_records e = all_added 0 first (omega (arith, e)) none_added
+-- ---- rows are gathered
 
-pub rows_over : (r r' : Rulebase) (heads : List Head) (records : List (List (List ℕ))) (before text : List ℕ) → r' ≡ r → HasRows r' heads records before text → HasRows r heads records before text
-rows_over r r' heads records before text e h = record { rows = h.rows; are_rows = subst (λ b. AreRows b heads 1 records h.rows) e h.are_rows; whole = h.whole }
+module _ {W : Type 0} (contents : W → Option (List ℕ)) where
+  pub row_is_added : (old new : Writer W) (r r1 r2 : Rulebase) (heads : List Head) (n : ℕ) (fields cells : List (List ℕ)) (x : Result CaseView (List ℕ)) → r1 ≡ r → r2 ≡ r1
+      → IsRecord r1 heads fields x → cells ≡ row_of r2 n x → AddsText contents old new (written_row cells) → AddsRow contents old new r heads n fields
+  row_is_added old new r r1 r2 heads n fields cells x e f is row adds =
+      record { row = written_row cells; writes = row_written r r1 r2 heads n fields cells x (written_row cells) e f is row refl; adds = adds }
 
-pub rows_behind : (r : Rulebase) (heads : List Head) (records : List (List (List ℕ))) (row : List (List ℕ)) (before text : List ℕ) → row ≡ heading r → before ≡ written_row row
-    → HasRows r heads records before text → HasRows r heads records (written_row (heading r)) text
-rows_behind r heads records row before text e f h = record { rows = h.rows; are_rows = h.are_rows; whole = h.whole ∙ ap (λ t. t ++ h.rows) (f ∙ ap written_row e) }
+  module _ (old : Writer W) (r : Rulebase) (heads : List Head) (records : List (List (List ℕ))) where
+    pub no_row_yet : AddsRowsTo contents old old r heads records 0
+    no_row_yet = record { so_far = λ first h. (first, h, none_added r heads records first) }
+
+    pub row_on_top : (place : ℕ) (fields : List (List ℕ)) (now new : Writer W) → drop place records ≡ fields ∷ drop (place + 1) records → AddsRowsTo contents old now r heads records place
+        → AddsRow contents now new r heads (place + 1) fields → AddsRowsTo contents old new r heads records (place + 1)
+    row_on_top place fields now new there before added = record {
+      so_far = λ first h.
+          let (text, holds, are) = before.so_far first h in
+          (text ++ added.row, added.adds.adds text holds, one_added r heads records first place fields text (text ++ added.row) added.row there added.writes refl are);
+    }
+
+    pub rows_are_whole : (place : ℕ) (new : Writer W) → drop place records ≡ [] → AddsRowsTo contents old new r heads records place → AddsRows contents old new r heads records
+    rows_are_whole place new none before = record {
+      all = λ first h. let (text, holds, are) = before.so_far first h in (text, holds, all_added r heads records first place text none are);
+    }
+
+    pub without_rows : records ≡ [] → AddsRows contents old old r heads records
+    without_rows e = rows_are_whole 0 old e no_row_yet
+
+  pub rows_of_base : (old new : Writer W) (r r' : Rulebase) (heads : List Head) (records : List (List (List ℕ))) → r' ≡ r → AddsRows contents old new r' heads records → AddsRows contents old new r heads records
+  rows_of_base old new r r' heads records e h = subst (λ b. AddsRows contents old new b heads records) e h
+
+  -- behind a heading
+  pub rows_follow : (none headed new : Writer W) (r : Rulebase) (heads : List Head) (records : List (List (List ℕ))) (row : List (List ℕ)) (text : List ℕ) → HoldsText contents none []
+      → row ≡ heading r → AddsText contents none headed (written_row row) → AddsRows contents headed new r heads records → ((all : List ℕ) → HoldsText contents new all → text ≡ all)
+      → HasRows r heads records (written_row (heading r)) text
+  rows_follow none headed new r heads records row text empty is first rows told =
+      let begun : HoldsText contents headed (written_row row) = first.adds [] empty in
+      let (all, holds, has) = rows.all (written_row row) begun in
+      subst (λ t. HasRows r heads records (written_row (heading r)) t) (sym (told all holds)) (subst (λ cells. HasRows r heads records (written_row cells) all) is has)
 
 -- ---- what is given
 

@@ -1,6 +1,9 @@
 pub mod Heads
 pub mod Columns
 pub mod Numbered
+pub mod Cutting
+pub mod Gathered
+pub mod Known
 pub mod Rows
 pub mod Batches
 pub mod Serving

@@ -1,22 +1,36 @@
-// A row as it is written.
-ghost use Rattle.std.specs.Prelude.{◌≡◌, IfOk};
+// Rows are gathered as they are written.
+ghost use Rattle.std.specs.Prelude.{◌≡◌, [], ℕ, List, Some, IfOk, OnOk};
 ghost use Rattle.csv.specs.Records.{fields_of};
 ghost use Rattle.opa_batch.specs.Batches as meant;
+ghost use Rattle.opa_batch.specs.Gathered.{AddsText, HoldsText};
 
 use csv::{ByteRecord, Writer};
 use opa_io::NoMemory;
 use std::alloc::Global;
 
-/// The text of a row. Over bytes in memory `csv` fails for want of memory alone.
-pub(crate) fn written_row(alloc: Global, row: &ByteRecord) -> Result<Vec<u8>, NoMemory>
-    ensures { IfOk result (λ t. t.items ≡ meant.written_row (fields_of row.now)) }
+/// A writer into memory that holds no row.
+pub(crate) fn no_rows(alloc: Global) -> Writer<Vec<u8>>
+    ensures { HoldsText (λ v. Some v.items) result [] }
 {
-    let mut writer = Writer::from_writer(Vec::new(alloc));
-    match writer.write_byte_record(row) {
+    Writer::from_writer(Vec::new(alloc))
+}
+
+/// Adds the text of a row. Into memory `csv` fails for want of memory alone.
+pub(crate) fn add_row(rows: &mut Writer<Vec<u8>>, row: &ByteRecord) -> Result<(), NoMemory>
+    ensures { OnOk result (AddsText (λ v. Some v.items) rows.old rows.new (meant.written_row (fields_of row.now))) }
+{
+    let Ok(()) = rows.write_byte_record(row) else {
+        return Err(NoMemory);
+    };
+    Ok(())
+}
+
+/// The text that a writer holds.
+pub(crate) fn text_of(rows: Writer<Vec<u8>>) -> Result<Vec<u8>, NoMemory>
+    ensures { IfOk result (λ v. (text : List ℕ) → HoldsText (λ w. Some w.items) rows text → v.items ≡ text) }
+{
+    match rows.into_inner() {
+        Ok(text) => Ok(text),
         Err(_) => Err(NoMemory),
-        Ok(()) => match writer.into_inner() {
-            Err(_) => Err(NoMemory),
-            Ok(text) => Ok(text),
-        },
     }
 }

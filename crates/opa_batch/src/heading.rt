@@ -4,11 +4,10 @@ ghost use Rattle.csv.specs.Records.{fields_of};
 ghost use Rattle.opa_batch.specs.Batches as meant;
 ghost use Rattle.opa_batch.specs.Numbered.{IsGoalCell};
 
-use crate::rows::{add_cell, row_with};
+use crate::rows::{add_cell, begin_row};
 use csv::ByteRecord;
 use opa_io::{NoMemory, Txt};
 use opa_tree::Rulebase;
-use std::alloc::Global;
 
 /// The phrase of the goal with a number.
 fn goal_phrase(base: &Rulebase, goal: u32) -> &Txt
@@ -22,14 +21,14 @@ fn goal_phrase(base: &Rulebase, goal: u32) -> &Txt
 }
 
 /// The heading: the number of a row, each goal, and the fault.
-pub(crate) fn heading(alloc: Global, base: &Rulebase) -> Result<ByteRecord, NoMemory>
-    ensures { IfOk result (λ row. fields_of row ≡ meant.heading base.now) }
+pub(crate) fn fill_heading(base: &Rulebase, row: &mut ByteRecord) -> Result<(), NoMemory>
+    ensures { IfOk result (λ _. fields_of row.new ≡ meant.heading base.now) }
 {
-    let mut row = row_with(alloc, b"row")?;
+    begin_row(row, b"row")?;
     let count = base.model.goal_count();
     for goal in 0..count {
-        add_cell(&mut row, goal_phrase(base, goal).as_str().as_bytes())?;
+        add_cell(row, goal_phrase(base, goal).as_str().as_bytes())?;
     }
-    add_cell(&mut row, b"fault")?;
-    Ok(row)
+    add_cell(row, b"fault")?;
+    Ok(())
 }

@@ -9,10 +9,12 @@ mod csv_rows;
 mod faults;
 mod head;
 mod heading;
+mod kept;
 mod lines;
 mod making;
 mod records;
 mod rows;
+mod same;
 mod serving;
 
 pub use calling::batch;

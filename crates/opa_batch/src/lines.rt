@@ -23,8 +23,13 @@ fn word_of(sort: Sort) -> &'static str
 pub(crate) fn line_of(alloc: Global, head: &Head, cell: &[u8]) -> Result<Vec<u8>, NoMemory>
     ensures { IfOk result (λ l. l.items ≡ meant.line_of head.now cell.now) }
 {
-    let mut line = word_of(head.sort).as_bytes().to_vec(alloc)?;
-    line.extend_from_slice(head.text.as_slice())?;
+    let word = word_of(head.sort).as_bytes();
+    let text = head.text.as_slice();
+    // Room for the whole line, in one request.
+    let room = text.len().saturating_add(cell.len()).saturating_add(10);
+    let mut line = Vec::with_capacity(alloc, room)?;
+    line.extend_from_slice(word)?;
+    line.extend_from_slice(text)?;
     line.extend_from_slice(b" = ")?;
     line.extend_from_slice(cell)?;
     Ok(line)

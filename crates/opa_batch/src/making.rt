@@ -1,24 +1,28 @@
 // What an input gives over a rulebase is made.
-ghost use Rattle.std.specs.Prelude.{◌≡◌, ◌+◌, ◌<◌, ◌≤◌, ◌∷◌, ◌^◌, length, map, IfOk};
+ghost use Rattle.std.specs.Prelude.{◌≡◌, ◌+◌, ◌<◌, ◌≤◌, ◌∷◌, ◌^◌, true, length, Some, IfOk, OnOk};
 ghost use Rattle.csv.specs.Records.{fields_of};
 ghost use Rattle.opa_case.specs.Cases.{no_case};
 ghost use Rattle.opa_case.specs.Fits.{Fits};
 ghost use Rattle.opa_case.specs.Shapes.{shape_of};
-ghost use Rattle.opa_infer.specs.Sessions.{rules_of, held_of};
+ghost use Rattle.opa_infer.specs.Sessions.{rules_of, held_of, first_slots};
 ghost use Rattle.opa_io.specs.declared.fault.Status.TheVariants as statuses;
 ghost use Rattle.opa_table.specs.Records.{table_records};
 ghost use Rattle.opa_batch.specs.Batches.{Gives, GivesOf, no_heading, written_row as written_row_of, heading as heading_of};
 ghost use Rattle.opa_batch.specs.Counting.{CountsAtMost, RecordReaches, RecordsReach, MayCount, due};
-ghost use Rattle.opa_batch.specs.Numbered.{HasRows, WritesRow};
+ghost use Rattle.opa_batch.specs.Cutting.{HasLeft, IsAt, below};
+ghost use Rattle.opa_batch.specs.Gathered.{AddsRow, AddsRows};
+ghost use Rattle.opa_batch.specs.Known.{AreKept};
+ghost use Rattle.opa_batch.specs.Numbered.{HasRows};
 
 use crate::cells::take_record;
 use crate::columns::heads_of;
-use crate::csv_rows::written_row;
+use crate::csv_rows::{add_row, no_rows, text_of};
 use crate::head::Head;
-use crate::heading::heading;
-use crate::records::records_of;
-use crate::rows::row_of;
-use csv::ByteRecord;
+use crate::heading::fill_heading;
+use crate::kept::{Kept, add_kept, add_known, none_kept};
+use crate::records::{cut_next, reader_of};
+use crate::same::slot_of;
+use csv::{ByteRecord, Reader, Writer};
 use opa_case::{Case, empty_fits};
 use opa_infer::Session;
 use opa_io::{NoMemory, Status, Steps};
@@ -46,6 +50,23 @@ fn empty_case(alloc: Global, base: &Rulebase) -> Case
     Case::new(alloc)
 }
 
+/// Whether nothing is known: the case that is held fits, so that this is the case where nothing is answered and nothing listed.
+fn is_empty(session: &Session) -> bool
+    ensures { result ≡ true → held_of session.now ≡ no_case }
+{
+    empty_fits();
+    let case = session.case();
+    let answers = case.answers();
+    let lists = case.lists();
+    if 0 < answers {
+        return false;
+    }
+    if 0 < lists {
+        return false;
+    }
+    true
+}
+
 /// Nothing is known of the next record; of the first one nothing is known yet.
 fn forget_case<L: Ledger>(
     alloc: Global,
@@ -61,50 +82,96 @@ fn forget_case<L: Ledger>(
     if place == 0 {
         return Ok(());
     }
+    if is_empty(session) {
+        return Ok(());
+    }
     let case = empty_case(alloc, session.base());
     let mut nobody: Vec<Box<dyn Listener>> = Vec::new(alloc);
     session.replace_case(alloc, case, &mut nobody, steps)?;
     Ok(())
 }
 
-/// The row of the record at a place, as it is written.
-fn record_row<L: Ledger>(
+/// Decides the record at a place, keeps it with its row, and adds the row.
+fn add_decided<L: Ledger>(
     alloc: Global,
     session: &mut Session,
     heads: &[Head],
     place: usize,
-    row: &ByteRecord,
+    row: &mut ByteRecord,
+    kept: &mut Vec<Kept>,
+    slot: usize,
+    out: &mut Writer<Vec<u8>>,
     steps: &mut Steps<L>,
-) -> Result<Vec<u8>, NoMemory>
+) -> Result<(), NoMemory>
     requires first { place ≡ 0 → held_of session.old ≡ no_case }
     requires few { place + 1 < 2 ^ 64 }
-    ensures ok { IfOk result (λ t. WritesRow (rules_of session.old) heads.now (place + 1) (fields_of row.now) t.items) }
+    requires slot { slot < length kept.old.items }
+    ensures ok { OnOk result (AddsRow (λ v. Some v.items) out.old out.new (rules_of session.old) heads.now (place + 1) (fields_of row.old)) }
     ensures base { rules_of session.new ≡ rules_of session.old }
-    ensures counts { CountsAtMost (RecordReaches (rules_of session.old) heads.now (fields_of row.now)) (steps.old + due (rules_of session.old) place) steps.new }
+    ensures kept { OnOk result (AreKept (rules_of session.old) heads.now kept.old.items → AreKept (rules_of session.old) heads.now kept.new.items) }
+    ensures slots { OnOk result (length kept.new.items ≡ length kept.old.items) }
+    ensures counts { CountsAtMost (RecordReaches (rules_of session.old) heads.now (fields_of row.old)) (steps.old + due (rules_of session.old) place) steps.new }
 {
     forget_case(alloc, session, place, steps)?;
     let fault = take_record(alloc, session, heads, row, steps)?;
-    let cells = row_of(alloc, session, place + 1, &fault)?;
-    let text = written_row(alloc, &cells)?;
-    Ok(text)
+    add_kept(alloc, session, place + 1, &fault, row, kept, slot, out)?;
+    Ok(())
 }
 
-/// Adds the rows of records to a text.
+/// Adds the row of the record at a place, as it is known, or as it is decided now.
+fn add_record<L: Ledger>(
+    alloc: Global,
+    session: &mut Session,
+    heads: &[Head],
+    place: usize,
+    row: &mut ByteRecord,
+    kept: &mut Vec<Kept>,
+    out: &mut Writer<Vec<u8>>,
+    steps: &mut Steps<L>,
+) -> Result<(), NoMemory>
+    requires first { place ≡ 0 → held_of session.old ≡ no_case }
+    requires few { place + 1 < 2 ^ 64 }
+    requires kept { AreKept (rules_of session.old) heads.now kept.old.items }
+    requires slots { length kept.old.items ≡ 4096 }
+    ensures ok { OnOk result (AddsRow (λ v. Some v.items) out.old out.new (rules_of session.old) heads.now (place + 1) (fields_of row.old)) }
+    ensures base { rules_of session.new ≡ rules_of session.old }
+    ensures kept { OnOk result (AreKept (rules_of session.old) heads.now kept.new.items) }
+    ensures slots { OnOk result (length kept.new.items ≡ 4096) }
+    ensures counts { CountsAtMost (RecordReaches (rules_of session.old) heads.now (fields_of row.old)) (steps.old + due (rules_of session.old) place) steps.new }
+{
+    let slot = slot_of(row);
+    let found = add_known(kept.as_slice(), slot, place + 1, row, out)?;
+    if found {
+        return Ok(());
+    }
+    add_decided(alloc, session, heads, place, row, kept, slot, out, steps)?;
+    Ok(())
+}
+
+/// Adds the row of the record that was cut, and of each one behind it as it is cut.
 fn add_rows<L: Ledger>(
     alloc: Global,
     session: &mut Session,
     heads: &[Head],
-    records: &[ByteRecord],
-    text: &mut Vec<u8>,
+    bytes: &[u8],
+    reader: &mut Reader<&[u8]>,
+    row: &mut ByteRecord,
+    out: &mut Writer<Vec<u8>>,
     steps: &mut Steps<L>,
 ) -> Result<(), NoMemory>
     requires first { held_of session.old ≡ no_case }
-    ensures rows { IfOk result (λ _. HasRows (rules_of session.old) heads.now (map fields_of records.now) text.old.items text.new.items) }
-    ensures counts { CountsAtMost (RecordsReach (rules_of session.old) heads.now (map fields_of records.now)) steps.old (steps.new + due (rules_of session.old) (length records.now)) }
+    requires at { IsAt bytes.now 0 (fields_of row.old) reader.old }
+    ensures rows { OnOk result (AddsRows (λ v. Some v.items) out.old out.new (rules_of session.old) heads.now (below bytes.now)) }
+    ensures counts { CountsAtMost (RecordsReach (rules_of session.old) heads.now (below bytes.now)) steps.old (steps.new + first_slots (rules_of session.old)) }
 {
-    for place in 0..records.len() {
-        let row = record_row(alloc, session, heads, place, &records[place], steps)?;
-        text.extend_from_slice(&row)?;
+    let mut kept = none_kept(alloc)?;
+    // An input has no more records below its heading than bytes.
+    for place in 0..bytes.len() {
+        add_record(alloc, session, heads, place, row, &mut kept, out, steps)?;
+        let found = cut_next(reader, row)?;
+        if !found {
+            return Ok(());
+        }
     }
     Ok(())
 }
@@ -112,74 +179,86 @@ fn add_rows<L: Ledger>(
 /// Lets a session go.
 fn let_go(_session: Session) {}
 
-/// Adds the rows of records to a text, over a session of their own.
+/// Adds the rows of the records from the first one on, which was cut, over a session of their own.
 fn determined<L: Ledger>(
     alloc: Global,
     base: Rulebase,
     heads: &[Head],
-    records: &[ByteRecord],
-    text: &mut Vec<u8>,
+    bytes: &[u8],
+    reader: &mut Reader<&[u8]>,
+    row: &mut ByteRecord,
+    out: &mut Writer<Vec<u8>>,
     steps: &mut Steps<L>,
 ) -> Result<(), NoMemory>
-    requires some { 0 < length records.now }
-    ensures rows { IfOk result (λ _. HasRows base heads.now (map fields_of records.now) text.old.items text.new.items) }
-    ensures counts { CountsAtMost (RecordsReach base heads.now (map fields_of records.now)) steps.old steps.new }
+    requires at { IsAt bytes.now 0 (fields_of row.old) reader.old }
+    ensures rows { OnOk result (AddsRows (λ v. Some v.items) out.old out.new base heads.now (below bytes.now)) }
+    ensures counts { CountsAtMost (RecordsReach base heads.now (below bytes.now)) steps.old steps.new }
 {
     let mut session = Session::start(alloc, base, steps)?;
-    let added = add_rows(alloc, &mut session, heads, records, text, steps);
+    let added = add_rows(alloc, &mut session, heads, bytes, reader, row, out, steps);
     let_go(session);
     added
 }
 
-/// The rows of records behind a heading; without a record nothing is determined.
+/// Adds the rows of the records below the heading; without a record nothing is determined.
 fn with_rows<L: Ledger>(
     alloc: Global,
     base: Rulebase,
     heads: &[Head],
-    records: &[ByteRecord],
-    text: Vec<u8>,
+    bytes: &[u8],
+    reader: &mut Reader<&[u8]>,
+    row: &mut ByteRecord,
+    out: &mut Writer<Vec<u8>>,
     steps: &mut Steps<L>,
-) -> Result<Vec<u8>, NoMemory>
-    ensures rows { IfOk result (λ t. HasRows base heads.now (map fields_of records.now) text.items t.items) }
-    ensures counts { CountsAtMost (RecordsReach base heads.now (map fields_of records.now)) steps.old steps.new }
+) -> Result<(), NoMemory>
+    requires left { HasLeft reader.old (below bytes.now) }
+    ensures rows { OnOk result (AddsRows (λ v. Some v.items) out.old out.new base heads.now (below bytes.now)) }
+    ensures counts { CountsAtMost (RecordsReach base heads.now (below bytes.now)) steps.old steps.new }
 {
-    let mut whole = text;
-    if records.is_empty() {
-        return Ok(whole);
+    let found = cut_next(reader, row)?;
+    if !found {
+        return Ok(());
     }
-    determined(alloc, base, heads, records, &mut whole, steps)?;
-    Ok(whole)
+    determined(alloc, base, heads, bytes, reader, row, out, steps)?;
+    Ok(())
 }
 
-/// The heading and the rows of records below heads.
+/// The heading and the rows of the records below heads.
 fn decided<L: Ledger>(
     alloc: Global,
     base: Rulebase,
     heads: &[Head],
-    records: &[ByteRecord],
+    bytes: &[u8],
+    reader: &mut Reader<&[u8]>,
+    row: &mut ByteRecord,
     steps: &mut Steps<L>,
 ) -> Result<Vec<u8>, NoMemory>
-    ensures rows { IfOk result (λ t. HasRows base heads.now (map fields_of records.now) (written_row_of (heading_of base)) t.items) }
-    ensures counts { CountsAtMost (RecordsReach base heads.now (map fields_of records.now)) steps.old steps.new }
+    requires left { HasLeft reader.old (below bytes.now) }
+    ensures rows { IfOk result (λ t. HasRows base heads.now (below bytes.now) (written_row_of (heading_of base)) t.items) }
+    ensures counts { CountsAtMost (RecordsReach base heads.now (below bytes.now)) steps.old steps.new }
 {
-    let row = heading(alloc, &base)?;
-    let text = written_row(alloc, &row)?;
-    let whole = with_rows(alloc, base, heads, records, text, steps)?;
-    Ok(whole)
+    let mut out = no_rows(alloc);
+    fill_heading(&base, row)?;
+    add_row(&mut out, row)?;
+    with_rows(alloc, base, heads, bytes, reader, row, &mut out, steps)?;
+    let text = text_of(out)?;
+    Ok(text)
 }
 
-/// What the heading of an input and its further records give.
+/// What the heading of an input, which was cut, and the records below it give.
 fn headed<L: Ledger>(
     alloc: Global,
     base: Rulebase,
-    first: &ByteRecord,
-    records: &[ByteRecord],
+    bytes: &[u8],
+    reader: &mut Reader<&[u8]>,
+    row: &mut ByteRecord,
     steps: &mut Steps<L>,
 ) -> Result<Made, NoMemory>
-    ensures gives { IfOk result (λ m. GivesOf base (fields_of first.now ∷ map fields_of records.now) m.good m.text.items) }
-    ensures counts { MayCount base (fields_of first.now ∷ map fields_of records.now) steps.old steps.new }
+    requires left { HasLeft reader.old (below bytes.now) }
+    ensures gives { IfOk result (λ m. GivesOf base (fields_of row.old ∷ below bytes.now) m.good m.text.items) }
+    ensures counts { MayCount base (fields_of row.old ∷ below bytes.now) steps.old steps.new }
 {
-    let columns = heads_of(alloc, &base.model, first)?;
+    let columns = heads_of(alloc, &base.model, row)?;
     match columns {
         Err(text) => {
             let text = text.as_str().as_bytes().to_vec(alloc)?;
@@ -189,7 +268,7 @@ fn headed<L: Ledger>(
             })
         }
         Ok(heads) => {
-            let text = decided(alloc, base, heads.as_slice(), records, steps)?;
+            let text = decided(alloc, base, heads.as_slice(), bytes, reader, row, steps)?;
             Ok(Made {
                 good: Status::Done,
                 text,
@@ -210,26 +289,26 @@ fn without_heading(alloc: Global) -> Result<Made, NoMemory>
     })
 }
 
-/// What records give.
+/// What the records of an input give, of which none was cut yet.
 fn given<L: Ledger>(
     alloc: Global,
     base: Rulebase,
-    records: &[ByteRecord],
+    bytes: &[u8],
+    reader: &mut Reader<&[u8]>,
     steps: &mut Steps<L>,
 ) -> Result<Made, NoMemory>
-    ensures gives { IfOk result (λ m. GivesOf base (map fields_of records.now) m.good m.text.items) }
-    ensures counts { MayCount base (map fields_of records.now) steps.old steps.new }
+    requires left { HasLeft reader.old (table_records bytes.now) }
+    ensures gives { IfOk result (λ m. Gives base bytes.now m.good m.text.items) }
+    ensures counts { MayCount base (table_records bytes.now) steps.old steps.new }
 {
-    match records {
-        [] => {
-            let made = without_heading(alloc)?;
-            Ok(made)
-        }
-        [first, rest @ ..] => {
-            let made = headed(alloc, base, first, rest, steps)?;
-            Ok(made)
-        }
+    let mut row = ByteRecord::new(alloc);
+    let found = cut_next(reader, &mut row)?;
+    if !found {
+        let made = without_heading(alloc)?;
+        return Ok(made);
     }
+    let made = headed(alloc, base, bytes, reader, &mut row, steps)?;
+    Ok(made)
 }
 
 /// What an input gives.
@@ -242,7 +321,7 @@ pub(crate) fn make<L: Ledger>(
     ensures gives { IfOk result (λ m. Gives base bytes.now m.good m.text.items) }
     ensures counts { MayCount base (table_records bytes.now) steps.old steps.new }
 {
-    let records = records_of(alloc, bytes)?;
-    let made = given(alloc, base, records.as_slice(), steps)?;
+    let mut reader = reader_of(alloc, bytes);
+    let made = given(alloc, base, bytes, &mut reader, steps)?;
     Ok(made)
 }

@@ -1,40 +1,13 @@
-// The bytes of an input are cut into records.
-ghost use Rattle.std.specs.Prelude.{◌≡◌, IfOk, map};
-ghost use Rattle.csv.specs.Reading.{AreRecords, default_config, strip_bom};
+// The bytes of an input are cut into records, one after another.
+ghost use Rattle.std.specs.Prelude.{◌≡◌, IfOk};
 ghost use Rattle.csv.specs.Records.{fields_of};
-ghost use Rattle.csv.specs.declared.parser.State.TheVariants as state;
 ghost use Rattle.opa_layout.specs.Lines.{without_mark as without_mark_of};
 ghost use Rattle.opa_table.specs.Records.{csv_records, table_records};
+ghost use Rattle.opa_batch.specs.Cutting.{CutsOne, HasLeft};
 
-use csv::{ByteRecord, Error, ReaderBuilder};
+use csv::{ByteRecord, Reader, ReaderBuilder};
 use opa_io::NoMemory;
 use std::alloc::Global;
-
-fn all_records(alloc: Global, bytes: &[u8]) -> Result<Vec<ByteRecord>, Error>
-    ensures { IfOk result (λ v. AreRecords default_config state.StartRecord (strip_bom bytes.now) (map fields_of v.items)) }
-{
-    let reader = ReaderBuilder::new()
-        .has_headers(false)
-        .flexible(true)
-        .from_reader(alloc, bytes);
-    let mut records = Vec::new(alloc);
-    for row in reader.into_byte_records() {
-        if records.push(row?).is_err() {
-            return Err(Error::out_of_memory());
-        }
-    }
-    Ok(records)
-}
-
-/// The records of these bytes. Over bytes in memory `csv` fails for want of memory alone.
-fn csv_records_of(alloc: Global, bytes: &[u8]) -> Result<Vec<ByteRecord>, NoMemory>
-    ensures { IfOk result (λ v. map fields_of v.items ≡ csv_records bytes.now) }
-{
-    match all_records(alloc, bytes) {
-        Ok(records) => Ok(records),
-        Err(_) => Err(NoMemory),
-    }
-}
 
 /// Without the byte order mark at the start.
 fn without_mark(bytes: &[u8]) -> &[u8]
@@ -46,9 +19,29 @@ fn without_mark(bytes: &[u8]) -> &[u8]
     }
 }
 
-/// The records of an input.
-pub(crate) fn records_of(alloc: Global, bytes: &[u8]) -> Result<Vec<ByteRecord>, NoMemory>
-    ensures { IfOk result (λ v. map fields_of v.items ≡ table_records bytes.now) }
+/// The reader of these bytes.
+fn plain_reader(alloc: Global, bytes: &[u8]) -> Reader<&[u8]>
+    ensures { HasLeft result (csv_records bytes.now) }
 {
-    csv_records_of(alloc, without_mark(bytes))
+    ReaderBuilder::new()
+        .has_headers(false)
+        .flexible(true)
+        .from_reader(alloc, bytes)
+}
+
+/// The reader of an input, of which nothing is cut yet.
+pub(crate) fn reader_of(alloc: Global, bytes: &[u8]) -> Reader<&[u8]>
+    ensures { HasLeft result (table_records bytes.now) }
+{
+    plain_reader(alloc, without_mark(bytes))
+}
+
+/// Cuts the next record, and answers whether there was one. Over bytes in memory `csv` fails for want of memory alone.
+pub(crate) fn cut_next(reader: &mut Reader<&[u8]>, row: &mut ByteRecord) -> Result<bool, NoMemory>
+    ensures { IfOk result (λ found. CutsOne found (fields_of row.new) reader.old reader.new) }
+{
+    let Ok(found) = reader.read_byte_record(row) else {
+        return Err(NoMemory);
+    };
+    Ok(found)
 }

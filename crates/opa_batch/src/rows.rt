@@ -1,5 +1,5 @@
 // The cells of a row.
-ghost use Rattle.std.specs.Prelude.{◌≡◌, ◌<◌, ◌++◌, ◌∷◌, [], true, length, Some, Ok, Err, IfOk};
+ghost use Rattle.std.specs.Prelude.{◌≡◌, ◌<◌, ◌++◌, ◌∷◌, [], true, drop, length, Some, Ok, Err, IfOk};
 ghost use Rattle.std.specs.Fmt.{decimal};
 ghost use Rattle.csv.specs.Records.{fields_of, partial_of};
 ghost use Rattle.opa_case.specs.Shapes.{attribute_or};
@@ -16,6 +16,7 @@ ghost use Rattle.opa_batch.specs.Rows as meant;
 ghost use Rattle.opa_batch.specs.Numbered.{IsGoalCell, left_by};
 
 use csv::ByteRecord;
+use itoa::Buffer;
 use opa_case::InstanceId;
 use opa_io::{NoMemory, Txt};
 use opa_kinds::values_have_kinds;
@@ -129,77 +130,101 @@ pub(crate) fn add_cell(row: &mut ByteRecord, cell: &[u8]) -> Result<(), NoMemory
     Ok(())
 }
 
-/// A row with one cell.
-pub(crate) fn row_with(alloc: Global, cell: &[u8]) -> Result<ByteRecord, NoMemory>
-    ensures cells { IfOk result (λ row. fields_of row ≡ cell.now ∷ []) }
-    ensures whole { IfOk result (λ row. partial_of row ≡ []) }
+/// A row with one cell, in the place of the one before.
+pub(crate) fn begin_row(row: &mut ByteRecord, cell: &[u8]) -> Result<(), NoMemory>
+    ensures cells { IfOk result (λ _. fields_of row.new ≡ cell.now ∷ []) }
+    ensures whole { IfOk result (λ _. partial_of row.new ≡ []) }
 {
-    let mut row = ByteRecord::new(alloc);
-    add_cell(&mut row, cell)?;
-    Ok(row)
+    row.clear();
+    add_cell(row, cell)?;
+    Ok(())
 }
 
 /// A row that begins with a number.
-fn numbered(alloc: Global, number: usize) -> Result<ByteRecord, NoMemory>
-    ensures cells { IfOk result (λ row. fields_of row ≡ decimal number ∷ []) }
-    ensures whole { IfOk result (λ row. partial_of row ≡ []) }
+fn begin_numbered(row: &mut ByteRecord, number: usize) -> Result<(), NoMemory>
+    ensures cells { IfOk result (λ _. fields_of row.new ≡ decimal number ∷ []) }
+    ensures whole { IfOk result (λ _. partial_of row.new ≡ []) }
 {
-    let text = format!(in alloc; "{number}")?;
-    let row = row_with(alloc, text.as_bytes())?;
-    Ok(row)
+    let mut buffer = Buffer::new();
+    begin_row(row, buffer.format(number).as_bytes())?;
+    Ok(())
 }
 
 /// The row of a record whose case is held.
-fn goals_row<H: Held>(alloc: Global, held: &H, number: usize) -> Result<ByteRecord, NoMemory>
-    ensures { IfOk result (λ row. fields_of row ≡ meant.row_of (H.rules held.now) number (Ok (H.held held.now))) }
+fn goals_row<H: Held>(
+    alloc: Global,
+    held: &H,
+    number: usize,
+    row: &mut ByteRecord,
+) -> Result<(), NoMemory>
+    ensures { IfOk result (λ _. fields_of row.new ≡ meant.row_of (H.rules held.now) number (Ok (H.held held.now))) }
 {
     let inst = InstanceId::global(alloc)?;
-    let mut row = numbered(alloc, number)?;
+    begin_numbered(row, number)?;
     let count = held.base().model.goal_count();
     for goal in 0..count {
         let cell = goal_cell(alloc, held, goal, &inst)?;
-        add_cell(&mut row, cell.as_str().as_bytes())?;
+        add_cell(row, cell.as_str().as_bytes())?;
     }
-    add_cell(&mut row, b"")?;
-    Ok(row)
+    add_cell(row, b"")?;
+    Ok(())
 }
 
 /// The row of a record with a fault.
 fn fault_row(
-    alloc: Global,
     base: &Rulebase,
     number: usize,
     fault: &Txt,
-) -> Result<ByteRecord, NoMemory>
-    ensures { IfOk result (λ row. fields_of row ≡ meant.row_of base.now number (Err fault.now)) }
+    row: &mut ByteRecord,
+) -> Result<(), NoMemory>
+    ensures { IfOk result (λ _. fields_of row.new ≡ meant.row_of base.now number (Err fault.now)) }
 {
-    let mut row = numbered(alloc, number)?;
+    begin_numbered(row, number)?;
     let count = base.model.goal_count();
     for goal in 0..count {
         let _goal = goal;
-        add_cell(&mut row, b"")?;
+        add_cell(row, b"")?;
     }
-    add_cell(&mut row, fault.as_str().as_bytes())?;
-    Ok(row)
+    add_cell(row, fault.as_str().as_bytes())?;
+    Ok(())
+}
+
+/// A row with another number than the one that is known.
+pub(crate) fn fill_again(
+    row: &mut ByteRecord,
+    number: usize,
+    known: &ByteRecord,
+) -> Result<(), NoMemory>
+    ensures { IfOk result (λ _. fields_of row.new ≡ decimal number ∷ drop 1 (fields_of known.now)) }
+{
+    begin_numbered(row, number)?;
+    for place in 1..known.len() {
+        let Some(cell) = known.get(place) else {
+            return Ok(());
+        };
+        add_cell(row, cell)?;
+    }
+    Ok(())
 }
 
 /// The row of a record: of the case that is held, or of its fault.
-pub(crate) fn row_of<H: Held>(
+pub(crate) fn fill_row<H: Held>(
     alloc: Global,
     held: &H,
     number: usize,
     fault: &Option<Txt>,
-) -> Result<ByteRecord, NoMemory>
-    ensures { IfOk result (λ row. fields_of row ≡ meant.row_of (H.rules held.now) number (left_by fault.now (H.held held.now))) }
+    row: &mut ByteRecord,
+) -> Result<(), NoMemory>
+    ensures { IfOk result (λ _. fields_of row.new ≡ meant.row_of (H.rules held.now) number (left_by fault.now (H.held held.now))) }
 {
     match fault {
         None => {
-            let row = goals_row(alloc, held, number)?;
-            Ok(row)
+            goals_row(alloc, held, number, row)?;
+            Ok(())
         }
         Some(fault) => {
-            let row = fault_row(alloc, held.base(), number, fault)?;
-            Ok(row)
+            fault_row(held.base(), number, fault, row)?;
+            Ok(())
         }
     }
 }

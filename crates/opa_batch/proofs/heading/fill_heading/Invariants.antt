@@ -3,7 +3,7 @@ use Rattle.std.specs.Prelude.{codes}
 use Rattle.csv.specs.Records.{fields_of, partial_of}
 use Rattle.opa_batch.specs.Batches.{goal_phrase}
 use Rattle.opa_batch.specs.Numbered.{AreUpTo}
-use Rattle.opa_batch.proofs.heading.heading.Given as goal
+use Rattle.opa_batch.proofs.heading.fill_heading.Given as goal
 
 -- the phrases of the goals before
 abbrev pub invariant-loop-goal : goal.invariant-loop-goal

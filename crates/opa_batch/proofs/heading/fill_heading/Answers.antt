@@ -3,7 +3,7 @@ use Rattle.std.specs.Prelude.{codes}
 use Rattle.csv.specs.Records.{fields_of}
 use Rattle.opa_batch.specs.Batches.{goal_phrase}
 use Rattle.opa_batch.proofs.RowLaws.{next_goal}
-use Rattle.opa_batch.proofs.heading.heading.Goals as goal
+use Rattle.opa_batch.proofs.heading.fill_heading.Goals as goal
 
 pub loop-goal-preserved : goal.loop-goal-preserved
 loop-goal-preserved c =
