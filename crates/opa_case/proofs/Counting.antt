@@ -1,15 +1,17 @@
 -- Counts of answers and of slots against their limits.
-use Rattle.std.specs.Prelude.{◌≡◌, ◌≤◌, ◌<◌, ◌+◌, ◌-◌, ℕ, zero, suc, nat_lt, nat_le, Bool, true, false, cond, List, is_some, refl}
+use Rattle.std.specs.Prelude.{◌≡◌, ◌≤◌, ◌<◌, ◌+◌, ◌-◌, ◌==◌, ℕ, zero, suc, nat_lt, nat_le, Bool, true, false, cond, List, [], ◌∷◌, length, map, filter, is_some, refl}
 use Rattle.std.specs.FinMap.{FinMap, get, insert, remove, len, len-insert, len-remove}
 use Rattle.std.proofs.Common.{arith, tests, rules, ap, sym, subst, ◌∙◌}
 use Rattle.std.proofs.lemmas.Bool.{lt-ltb}
 use Rattle.opa_cells.specs.declared.instance.InstanceId.{InstanceId}
+use Rattle.opa_cells.specs.Instances.{global}
 use Rattle.opa_cells.specs.Keys.{cell_cmp}
 use Rattle.opa_cells.proofs.Orders.{cell_total}
 use Rattle.opa_case.specs.Cases.{Answer}
 use Rattle.opa_case.specs.Shapes.{Shape}
-use Rattle.opa_case.specs.Live.{Population}
-use Rattle.opa_case.specs.Steps.{slots_of, slots_upto}
+use Rattle.opa_case.specs.Live.{Population, members}
+use Rattle.opa_case.specs.Steps.{has_rule, slots_of, slots_upto}
+use Rattle.opa_model.specs.declared.ids.AttrId.{AttrId}
 
 one_over : (n : ℕ) → nat_le 100000 n ≡ nat_lt 100000 (n + 1)
 one_over n = search (tests, arith, rules)
@@ -57,3 +59,30 @@ module _ (s : Shape) (ruled : List Bool) (live : Population) where
       let rise = slots_rise (count - (n + 1)) (n + 1) count (omega (arith, lt)) in
       let step = slots_next n in
       sym (lt-ltb 2000000 (slots_upto s ruled live count) (omega (arith, rise, step, total, is, few, over)))
+
+-- ---- no entity has more instances than are live, and the global one
+
+few_named : (e : ℕ) (live : Population) → length (map (λ p. p.0) (filter (λ p. p.0.entity.0 == e) live)) ≤ length live
+few_named e [] = omega arith
+few_named e (x ∷ xs) =
+    let rest = few_named e xs in
+    elim (x.0.entity.0 == e) as (λ b. length (map (λ p. p.0) (cond b (x ∷ filter (λ p. p.0.entity.0 == e) xs) (filter (λ p. p.0.entity.0 == e) xs))) ≤ suc (length xs)) [
+      | true ↦ omega (arith, rest)
+      | false ↦ omega (arith, rest)
+    ]
+
+few_members : (e : ℕ) (live : Population) → length (members e live) ≤ length live + 1
+few_members e live =
+    let named = few_named e live in
+    elim (e == 0) as (λ b. length (cond b (global ∷ []) (map (λ p. p.0) (filter (λ p. p.0.entity.0 == e) live))) ≤ length live + 1) [
+      | true ↦ omega arith
+      | false ↦ omega (arith, named)
+    ]
+
+pub slots_few : (s : Shape) (ruled : List Bool) (live : Population) (a : AttrId) → slots_of s ruled live a ≤ length live + 1
+slots_few s ruled live a =
+    let most = few_members (s.attribute a).entity.0 live in
+    elim (has_rule ruled a) as (λ b. cond b (length (members (s.attribute a).entity.0 live)) 0 ≤ length live + 1) [
+      | true ↦ most
+      | false ↦ omega arith
+    ]

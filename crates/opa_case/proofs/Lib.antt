@@ -14,6 +14,7 @@ pub mod Answering
 pub mod Referring
 pub mod Lined
 pub mod Among
+pub mod AnswerFaults
 pub mod Stepping
 pub mod Losing
 pub mod Replacing
@@ -39,3 +40,4 @@ pub mod Populated
 pub mod Peopled
 pub mod Moving
 pub mod Refusing
+pub mod Overlaid

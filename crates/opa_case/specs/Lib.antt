@@ -10,7 +10,9 @@ pub mod Listed
 pub mod Live
 pub mod Lost
 pub mod Order
+pub mod Overlays
 pub mod Refusals
+pub mod Relists
 pub mod Samples
 pub mod Shapes
 pub mod Steps

@@ -7,9 +7,9 @@ ghost use Rattle.opa_case.specs.Cases.{Answer};
 ghost use Rattle.opa_case.specs.Shapes.{shape_of};
 ghost use Rattle.opa_case.specs.Steps as step;
 
-use crate::case::Case;
 use crate::change::Refusal;
 use crate::declared::{attribute_of, has_rule};
+use crate::standing::Standing;
 use opa_cells::InstanceId;
 use opa_date::DAYS;
 use opa_io::limits::{MOST_ANSWERS, MOST_POINTS};
@@ -18,8 +18,8 @@ use opa_model::{AttrId, Attribute, Kind, Model, Ruled};
 use opa_value::Value;
 
 /// Why the answer can't be set.
-pub(crate) fn answer_fault(
-    case: &Case,
+pub fn answer_fault<S: Standing>(
+    case: &S,
     model: &Model,
     ruled: &Ruled,
     attr: AttrId,
@@ -27,7 +27,8 @@ pub(crate) fn answer_fault(
     line: &Line<Value>,
 ) -> Option<Refusal>
     requires { HasAttribute model.now attr }
-    ensures value { result ≡ step.answer_fault (shape_of model.now) ruled.now case.now attr inst.now line.now }
+    ensures value { result ≡
+        step.answer_fault (shape_of model.now) ruled.now (S.case case.now) attr inst.now line.now }
     ensures form { IsModel model.now }
 {
     let attribute = attribute_of(model, attr);
@@ -50,15 +51,15 @@ pub(crate) fn answer_fault(
 }
 
 /// Whether nothing can be answered of the attribute at the instance.
-pub(crate) fn is_unanswerable(
-    case: &Case,
+pub(crate) fn is_unanswerable<S: Standing>(
+    case: &S,
     model: &Model,
     ruled: &Ruled,
     attr: AttrId,
     inst: &InstanceId,
 ) -> bool
     requires { HasAttribute model.now attr }
-    ensures { result ≡ step.is_unanswerable (shape_of model.now) ruled.now case.now attr inst.now }
+    ensures { result ≡ step.is_unanswerable (shape_of model.now) ruled.now (S.case case.now) attr inst.now }
 {
     has_rule(ruled, attr)
         || !case.live(inst)
@@ -66,7 +67,7 @@ pub(crate) fn is_unanswerable(
 }
 
 /// Whether the answer says nothing on any day.
-pub(crate) fn is_unknown_answer(line: &Line<Value>) -> bool
+pub fn is_unknown_answer(line: &Line<Value>) -> bool
     ensures { result ≡ step.is_unknown_answer line.now }
 {
     line.segments().iter().all(|pair| is_unknown(&pair.1))
@@ -150,8 +151,8 @@ fn unit(decimals: u8) -> u64
 }
 
 /// Whether there would be too many answers with this one.
-fn is_over(case: &Case, attr: AttrId, inst: &InstanceId, line: &Line<Value>) -> bool
-    ensures { result ≡ nat_lt 100000 (map.len (step.with_answer case.now attr inst.now line.now).answers) }
+fn is_over<S: Standing>(case: &S, attr: AttrId, inst: &InstanceId, line: &Line<Value>) -> bool
+    ensures { result ≡ nat_lt 100000 (map.len (step.with_answer (S.case case.now) attr inst.now line.now).answers) }
 {
     if is_unknown_answer(line) {
         is_over_without(case, attr, inst)
@@ -161,8 +162,8 @@ fn is_over(case: &Case, attr: AttrId, inst: &InstanceId, line: &Line<Value>) -> 
 }
 
 /// Whether there are too many answers but for this one.
-fn is_over_without(case: &Case, attr: AttrId, inst: &InstanceId) -> bool
-    ensures { result ≡ nat_lt 100000 (map.len (map.remove case.now.answers (attr.0, inst.now))) }
+fn is_over_without<S: Standing>(case: &S, attr: AttrId, inst: &InstanceId) -> bool
+    ensures { result ≡ nat_lt 100000 (map.len (map.remove (S.case case.now).answers (attr.0, inst.now))) }
 {
     if case.is_answered(attr, inst) {
         MOST_ANSWERS + 1 < case.answers()
@@ -172,8 +173,8 @@ fn is_over_without(case: &Case, attr: AttrId, inst: &InstanceId) -> bool
 }
 
 /// Whether there would be too many answers if one stood here.
-fn is_over_with(case: &Case, attr: AttrId, inst: &InstanceId) -> bool
-    ensures { (line : Answer) → result ≡ nat_lt 100000 (map.len (map.insert case.now.answers (attr.0, inst.now) line)) }
+fn is_over_with<S: Standing>(case: &S, attr: AttrId, inst: &InstanceId) -> bool
+    ensures { (line : Answer) → result ≡ nat_lt 100000 (map.len (map.insert (S.case case.now).answers (attr.0, inst.now) line)) }
 {
     if case.is_answered(attr, inst) {
         MOST_ANSWERS < case.answers()

@@ -149,14 +149,18 @@ impl Case {
 }
 
 impl Case {
-    /// Whether an instance stands in another container than this one.
-    pub(crate) fn stands_elsewhere(&self, container: &InstanceId, inst: &InstanceId) -> bool
-        ensures { result ≡ step.stands_elsewhere self.now.live container.now inst.now }
+    /// The list of a relation that isn't declared with `every`.
+    pub(crate) fn stored_of(&self, rel: RelId, inst: &InstanceId) -> Option<&List<Txt>>
+        ensures { option_copied result ≡ map.get self.now.lists (rel.0, inst.now) }
     {
-        match self.container_of(inst) {
-            Some(found) => !found.equals(container),
-            None => false,
-        }
+        self.lists.get(rel.0, inst)
+    }
+
+    /// The list of a relation that is declared with `every`.
+    pub(crate) fn every_of(&self, rel: RelId, inst: &InstanceId) -> Option<&List<Txt>>
+        ensures { option_copied result ≡ map.get self.now.every (rel.0, inst.now) }
+    {
+        self.every.get(rel.0, inst)
     }
 
     pub(crate) fn is_answered(&self, attr: AttrId, inst: &InstanceId) -> bool

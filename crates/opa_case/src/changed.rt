@@ -71,7 +71,7 @@ fn is_less(known: u64, before: bool, then: bool, count: u64) -> bool
 }
 
 /// Whether two keys are one.
-fn is_at(rel: RelId, inst: &InstanceId, own_rel: RelId, own_inst: &InstanceId) -> bool
+pub(crate) fn is_at(rel: RelId, inst: &InstanceId, own_rel: RelId, own_inst: &InstanceId) -> bool
     ensures { result ≡ eq_by_cmp cell_cmp (rel.0, inst.now) (own_rel.0, own_inst.now) }
 {
     rel.0 == own_rel.0 && own_inst.is(inst.entity.0, &inst.name)

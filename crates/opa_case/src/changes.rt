@@ -220,7 +220,7 @@ impl Case {
     }
 
     /// What goes without the list.
-    fn turn_without(
+    pub(crate) fn turn_without(
         &self,
         model: &Model,
         ruled: &Ruled,
@@ -247,7 +247,7 @@ impl Case {
     }
 
     /// The `every` lists with the list, where they change.
-    fn every_with<'a>(
+    pub(crate) fn every_with<'a>(
         &'a self,
         model: &Model,
         ruled: &Ruled,
@@ -275,7 +275,7 @@ impl Case {
     }
 
     /// The `every` lists without the list, where they change.
-    fn every_without<'a>(
+    pub(crate) fn every_without<'a>(
         &'a self,
         model: &Model,
         ruled: &Ruled,

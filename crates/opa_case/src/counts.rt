@@ -8,6 +8,33 @@ use opa_io::NoMemory;
 use std::alloc::Global;
 use std::collections::BTreeMap;
 
+/// How many instances are live, of each entity and of all.
+pub trait Counted {
+    ghost counts: { Self → Population → Type 0 };
+
+    /// How many there are of an entity.
+    fn of(&self, entity: u32) -> u64
+        ensures { (live : Population) → counts self.now live → result ≡ length (members entity live) };
+
+    /// How many there are, without the global one.
+    fn total(&self) -> u64
+        ensures { (live : Population) → counts self.now live → result ≡ length live };
+}
+
+impl Counted for Counts {
+    ghost use Rattle.opa_case.specs.Homes.{AreCounts};
+
+    ghost counts = { AreCounts };
+
+    fn of(&self, entity: u32) -> u64 {
+        Counts::of(self, entity)
+    }
+
+    fn total(&self) -> u64 {
+        Counts::total(self)
+    }
+}
+
 /// How many instances there are of each entity but the global one, and of all.
 #[derive(Drop)]
 pub(crate) struct Counts {

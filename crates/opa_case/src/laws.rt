@@ -1,5 +1,6 @@
 // What holds of changes.
 ghost use Rattle.opa_case.specs.Laws as law;
+ghost use Rattle.opa_case.specs.Relists as relists;
 
 /// What a model declares has the form of a shape.
 pub fn models_are_shapes()
@@ -59,4 +60,9 @@ pub fn forget_takes()
 /// No change that isn't refused moves an instance that stays.
 pub fn step_keeps_containers()
     ensures { law.StepKeepsContainers }
+{}
+
+/// A change of a list leaves the answers of what stays.
+pub fn relisted_answers()
+    ensures { relists.RelistedAnswers }
 {}

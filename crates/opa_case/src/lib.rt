@@ -22,18 +22,27 @@ mod living;
 mod names;
 mod question;
 mod refused;
+mod relist;
+mod relisted;
+mod relisted_looks;
 mod slots;
+mod standing;
 mod turn;
 mod whole_walk;
 
-pub use answer_faults::has_kind;
+pub use answer_faults::{answer_fault, has_kind, is_unknown_answer};
 pub use case::Case;
 pub use change::{ChangeCommand, Refusal};
+pub use counts::Counted;
 pub use instances::{instances_of, live_instances};
 pub use laws::{
-    empty_fits, forget_loses, forget_takes, live_by_lists, models_are_shapes, set_replaces,
-    step_fits, step_is_clean, step_is_whole, step_keeps_containers, withdraw_loses,
+    empty_fits, forget_loses, forget_takes, live_by_lists, models_are_shapes, relisted_answers,
+    set_replaces, step_fits, step_is_clean, step_is_whole, step_keeps_containers, withdraw_loses,
     withdraw_undoes,
 };
+pub use list_faults::list_fault;
 pub use opa_cells::InstanceId;
 pub use question::Question;
+pub use relisted::Relisted;
+pub use slots::is_full;
+pub use standing::Standing;

@@ -8,9 +8,9 @@ ghost use Rattle.opa_case.specs.Shapes.{shape_of};
 ghost use Rattle.opa_case.specs.Cases.{CaseView, are_names, is_empty};
 ghost use Rattle.opa_case.specs.Steps as step;
 
-use crate::case::Case;
 use crate::change::Refusal;
 use crate::declared::bond_of;
+use crate::standing::Standing;
 use opa_cells::InstanceId;
 use opa_io::limits::MOST_INSTANCE_NAME;
 use opa_io::{NoMemory, Txt};
@@ -19,15 +19,16 @@ use std::alloc::Global;
 use std::collections::BTreeMap;
 
 /// Why the list can't be set, but for the numbers of what it makes live.
-pub(crate) fn list_fault(
+pub fn list_fault<S: Standing>(
     alloc: Global,
-    case: &Case,
+    case: &S,
     model: &Model,
     rel: RelId,
     inst: &InstanceId,
     names: &[Txt],
 ) -> Result<Option<Refusal>, NoMemory>
-    ensures { IfOk result (λ fault. fault ≡ step.list_fault (shape_of model.now) case.now rel inst.now names.now) }
+    ensures { IfOk result (λ fault. fault ≡
+        step.list_fault (shape_of model.now) (S.case case.now) rel inst.now names.now) }
 {
     if is_misplaced(case, model, rel, inst) {
         return Ok(Some(Refusal::Name));
@@ -48,8 +49,13 @@ pub(crate) fn list_fault(
 }
 
 /// Whether nothing can be said of the relation at the instance.
-pub(crate) fn is_misplaced(case: &Case, model: &Model, rel: RelId, inst: &InstanceId) -> bool
-    ensures { result ≡ step.is_misplaced (shape_of model.now) case.now rel inst.now }
+pub(crate) fn is_misplaced<S: Standing>(
+    case: &S,
+    model: &Model,
+    rel: RelId,
+    inst: &InstanceId,
+) -> bool
+    ensures { result ≡ step.is_misplaced (shape_of model.now) (S.case case.now) rel inst.now }
 {
     let bond = bond_of(model, rel.0);
     bond.every || !case.live(inst) || !(inst.entity.0 == bond.source)
@@ -106,15 +112,15 @@ fn is_one_long(names: &[Txt]) -> bool
         .any(|name| MOST_INSTANCE_NAME < name.as_str().len())
 }
 
-fn cant_name_one(
+fn cant_name_one<S: Standing>(
     alloc: Global,
-    case: &Case,
+    case: &S,
     model: &Model,
     rel: RelId,
     inst: &InstanceId,
     names: &[Txt],
 ) -> Result<bool, NoMemory>
-    ensures { IfOk result (λ cant. cant ≡ list_any (step.cant_name (shape_of model.now) case.now rel inst.now) names.now) }
+    ensures { IfOk result (λ cant. cant ≡ list_any (step.cant_name (shape_of model.now) (S.case case.now) rel inst.now) names.now) }
 {
     for name in names {
         if cant_name(alloc, case, model, rel, inst, name)? {
@@ -124,15 +130,15 @@ fn cant_name_one(
     Ok(false)
 }
 
-fn cant_name(
+fn cant_name<S: Standing>(
     alloc: Global,
-    case: &Case,
+    case: &S,
     model: &Model,
     rel: RelId,
     inst: &InstanceId,
     name: &Txt,
 ) -> Result<bool, NoMemory>
-    ensures { IfOk result (λ cant. cant ≡ step.cant_name (shape_of model.now) case.now rel inst.now name.now) }
+    ensures { IfOk result (λ cant. cant ≡ step.cant_name (shape_of model.now) (S.case case.now) rel inst.now name.now) }
 {
     let bond = bond_of(model, rel.0);
     let named = InstanceId {
@@ -143,12 +149,22 @@ fn cant_name(
 }
 
 /// Whether an instance can't stand in a list: it stands in another container, or isn't live where lists refer.
-fn is_taken(case: &Case, contains: bool, inst: &InstanceId, named: &InstanceId) -> bool
-    ensures { result ≡ cond contains (step.stands_elsewhere case.now.live inst.now named.now) (not (is_live case.now.live named.now)) }
+fn is_taken<S: Standing>(case: &S, contains: bool, inst: &InstanceId, named: &InstanceId) -> bool
+    ensures { result ≡ cond contains (step.stands_elsewhere (S.case case.now).live inst.now named.now) (not (is_live (S.case case.now).live named.now)) }
 {
     if contains {
-        case.stands_elsewhere(inst, named)
+        stands_elsewhere(case, inst, named)
     } else {
         !case.live(named)
+    }
+}
+
+/// Whether an instance stands in another container than this one.
+fn stands_elsewhere<S: Standing>(case: &S, container: &InstanceId, inst: &InstanceId) -> bool
+    ensures { result ≡ step.stands_elsewhere (S.case case.now).live container.now inst.now }
+{
+    match case.container_of(inst) {
+        Some(found) => !found.equals(container),
+        None => false,
     }
 }

@@ -1,25 +1,53 @@
 // How many instances and slots are live.
-ghost use Rattle.std.specs.Prelude.{◌≡◌, ◌<◌, nat_lt};
+ghost use Rattle.std.specs.Prelude.{◌≡◌, ◌≤◌, nat_lt};
 ghost use Rattle.opa_case.specs.Shapes.{shape_of};
-ghost use Rattle.opa_case.specs.Homes.{AreCounts};
 ghost use Rattle.opa_case.specs.Live.{Population};
 ghost use Rattle.opa_case.specs.Steps as step;
 ghost use Rattle.opa_model.specs.Models.{HasAttribute};
 
-use crate::counts::Counts;
+use crate::case::Case;
+use crate::counts::Counted;
 use crate::declared::{attribute_of, has_rule};
 use opa_io::limits::{MOST_INSTANCES, MOST_SLOTS};
 use opa_model::{AttrId, Model, Ruled};
 
+impl Case {
+    /// How many slots there are. It takes no memory.
+    pub fn slots(&self, model: &Model, ruled: &Ruled) -> u64
+        ensures { result ≡ step.slots (shape_of model.now) ruled.now self.now.live }
+    {
+        let count = model.attribute_count();
+        let mut total = 0;
+        let mut number = 0;
+        while number < count {
+            total += self.slots_of(model, ruled, AttrId(number));
+            number += 1;
+        }
+        total
+    }
+
+    /// How many live instances have this attribute, if it has a rule.
+    fn slots_of(&self, model: &Model, ruled: &Ruled, attr: AttrId) -> u64
+        requires { HasAttribute model.now attr }
+        ensures value { result ≡ step.slots_of (shape_of model.now) ruled.now self.now.live attr }
+        ensures few { result ≤ 20001 }
+    {
+        // The number of the live instances shows that they are few.
+        let _instances = self.instances();
+        slots_of(model, ruled, &self.living.counts, attr)
+    }
+}
+
 /// Whether too many instances or slots are live.
-pub(crate) fn is_full(model: &Model, ruled: &Ruled, counts: &Counts) -> bool
-    ensures { (live : Population) → AreCounts counts.now live → result ≡ step.is_full (shape_of model.now) ruled.now live }
+pub fn is_full<C: Counted>(model: &Model, ruled: &Ruled, counts: &C) -> bool
+    ensures { (live : Population) → C.counts counts.now live →
+        result ≡ step.is_full (shape_of model.now) ruled.now live }
 {
     MOST_INSTANCES < counts.total() || has_many_slots(model, ruled, counts)
 }
 
-fn has_many_slots(model: &Model, ruled: &Ruled, counts: &Counts) -> bool
-    ensures { (live : Population) → AreCounts counts.now live → result ≡ nat_lt 2000000 (step.slots (shape_of model.now) ruled.now live) }
+fn has_many_slots<C: Counted>(model: &Model, ruled: &Ruled, counts: &C) -> bool
+    ensures { (live : Population) → C.counts counts.now live → result ≡ nat_lt 2000000 (step.slots (shape_of model.now) ruled.now live) }
 {
     let count = model.attribute_count();
     let mut total = 0;
@@ -36,9 +64,9 @@ fn has_many_slots(model: &Model, ruled: &Ruled, counts: &Counts) -> bool
 }
 
 /// How many live instances have this attribute, if it has a rule.
-fn slots_of(model: &Model, ruled: &Ruled, counts: &Counts, attr: AttrId) -> u64
+fn slots_of<C: Counted>(model: &Model, ruled: &Ruled, counts: &C, attr: AttrId) -> u64
     requires { HasAttribute model.now attr }
-    ensures { (live : Population) → AreCounts counts.now live → result ≡ step.slots_of (shape_of model.now) ruled.now live attr }
+    ensures { (live : Population) → C.counts counts.now live → result ≡ step.slots_of (shape_of model.now) ruled.now live attr }
 {
     if has_rule(ruled, attr) {
         counts.of(attribute_of(model, attr).entity.0)

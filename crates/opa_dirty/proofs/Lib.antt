@@ -18,3 +18,4 @@ pub mod Completed
 pub mod Once
 pub mod Beginning
 pub mod Lowering
+pub mod ListsBegin

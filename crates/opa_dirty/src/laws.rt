@@ -1,4 +1,5 @@
 // Which slots a change reaches: those that are fresh, and the readers of what differs.
+ghost use Rattle.opa_dirty.specs.ByLists as by;
 ghost use Rattle.opa_dirty.specs.Dirty as law;
 ghost use Rattle.opa_dirty.specs.Settling as settling;
 
@@ -60,4 +61,24 @@ pub fn laid_are_current()
 /// The same where the same instances are live, so that nothing has to be taken out.
 pub fn laid_stay_current()
     ensures { settling.LaidStayCurrent }
+{}
+
+/// Where lists change, the slots of what comes wait at first, and the readers before of each list that differs.
+pub fn lists_begin()
+    ensures { by.ListsBegin }
+{}
+
+/// By the readers before a change it can be settled.
+pub fn held_can_tell()
+    ensures { by.HeldCanTell }
+{}
+
+/// Where lists change, the readers of what comes and of what read a list that differs are found anew; all others stay.
+pub fn readers_then()
+    ensures { by.ReadersThen }
+{}
+
+/// By the readers after a change it can be settled.
+pub fn new_can_tell()
+    ensures { by.NewCanTell }
 {}

@@ -6,9 +6,9 @@ mod readers;
 mod slot;
 
 pub use laws::{
-    answers_differ, dirty_by_new_reads, dirty_by_old_reads, fresh_or_reads, laid_are_current,
-    laid_stay_current, new_is_dirty, nothing_is_fresh, readers_stay, reads_are_lower, reads_stay,
-    settled_stays,
+    answers_differ, dirty_by_new_reads, dirty_by_old_reads, fresh_or_reads, held_can_tell,
+    laid_are_current, laid_stay_current, lists_begin, new_can_tell, new_is_dirty, nothing_is_fresh,
+    readers_stay, readers_then, reads_are_lower, reads_stay, settled_stays,
 };
 pub use readers::Readers;
 pub use slot::Slot;

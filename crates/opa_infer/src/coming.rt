@@ -8,7 +8,9 @@ ghost use Rattle.opa_mean.specs.Rulebases.{IsOf};
 ghost use Rattle.opa_model.specs.Models.{HasAttribute, HasRelation};
 ghost use Rattle.opa_infer.specs.Coming.{MayCome, case_by};
 
-use opa_case::{Case, ChangeCommand, InstanceId, Refusal, models_are_shapes, step_fits};
+use opa_case::{
+    Case, ChangeCommand, InstanceId, Refusal, is_unknown_answer, models_are_shapes, step_fits,
+};
 use opa_io::{List, Txt};
 use opa_line::Line;
 use opa_model::{AttrId, RelId};
@@ -68,19 +70,6 @@ fn answer(
     } else {
         Ok(Coming::Line(attr, inst, Some(line)))
     }
-}
-
-/// Whether the answer says nothing on any day.
-fn is_unknown_answer(line: &Line<Value>) -> bool
-    ensures { result ≡ step.is_unknown_answer line.now }
-{
-    line.segments().iter().all(|pair| is_unknown(&pair.1))
-}
-
-fn is_unknown(value: &Value) -> bool
-    ensures { result ≡ step.is_unknown value.now }
-{
-    matches!(value, Value::Unknown)
 }
 
 fn withdrawal(

@@ -2,6 +2,8 @@
 ghost use Rattle.std.specs.Prelude.{◌≡◌, ◌<◌, ◌↔◌, true, is_some, length, IfSome};
 ghost use Rattle.opa_date.specs.declared.TheConstants.{DAYS};
 ghost use Rattle.opa_line.specs.Lines.{StandsFor};
+ghost use Rattle.opa_mean.specs.Changes.{slots as slots_of_case};
+ghost use Rattle.opa_mean.specs.Given.{base_of, facts_of};
 ghost use Rattle.opa_mean.specs.Rulebases.{IsOf, value_at};
 ghost use Rattle.opa_mean.specs.Slots as slots;
 ghost use Rattle.opa_infer.specs.Sessions.{rules_of, held_of, reached_of};
@@ -15,7 +17,7 @@ use crate::told::told_line;
 use opa_case::{Case, ChangeCommand, InstanceId};
 use opa_goals::{Frees, GoalState, goal_state};
 use opa_line::Line;
-use opa_mean::{Held, has_place};
+use opa_mean::{Held, has_place, slots_counted};
 use opa_model::AttrId;
 use opa_tree::Rulebase;
 use opa_value::Value;
@@ -62,6 +64,15 @@ impl Session {
         ensures { result ≡ reached_of self.now }
     {
         self.dirty
+    }
+
+    /// How many slots there are: live instances, each with an attribute of its entity that has a rule. It takes no memory.
+    pub fn slots(&self) -> u64
+        ensures { result ≡ length (slots_of_case (base_of (rules_of self.now)) (facts_of (held_of self.now))) }
+    {
+        slots_counted();
+        let base = self.base();
+        self.case().slots(&base.model, &base.ruled)
     }
 
     /// The state of the goal with a number. What is settled has the same value on every day in every completion of the case.

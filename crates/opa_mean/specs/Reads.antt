@@ -13,6 +13,7 @@ use Rattle.opa_tree.specs.declared.expr.Expr.TheOpen.{Expr-F, Row-F, Const, Attr
 use Rattle.opa_tree.specs.declared.expr.Expr.TheFolds.{fold-Expr}
 use Rattle.opa_tree.specs.declared.rules.Rule.{Rule}
 use Rattle.opa_tree.specs.Rules.{rule_of}
+use Rattle.opa_mean.specs.Looks.{Look}
 use Rattle.opa_mean.specs.Mean.{Base, Facts}
 use Rattle.opa_mean.specs.Places.{owner_of, place}
 
@@ -73,3 +74,7 @@ rule_reads (Some rule) f = f rule.expr
 -- what the rule of an attribute can look at for an instance
 abbrev pub reads_of : Base → Facts → AttrId → InstanceId → List Question
 reads_of b c a i = rule_reads (rule_of b.rules a) (λ e. reads b.shape c.members c.container e (i ∷ []))
+
+-- the same where lists and containers are looked up
+abbrev pub reads_over : Base → Look → AttrId → InstanceId → List Question
+reads_over b l a i = rule_reads (rule_of b.rules a) (λ e. reads b.shape l.members l.container e (i ∷ []))

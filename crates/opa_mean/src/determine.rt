@@ -18,7 +18,7 @@ ghost use Rattle.opa_tree.specs.Ranks.{rank_at};
 
 use crate::Look;
 use crate::plain::rule_line;
-use crate::questions::look_at;
+use crate::questions::reads_over;
 use opa_case::{Case, InstanceId, Question};
 use opa_cells::Cells;
 use opa_date::DAYS;
@@ -124,7 +124,7 @@ fn determine(
     if base.rules.of(attr).is_none() {
         return answer_line(alloc, case, attr, inst);
     }
-    let asked = look_at(alloc, base, case, attr, inst)?;
+    let asked = reads_over(alloc, base, case, attr, inst)?;
     let lines = determine_all(alloc, base, case, asked.as_slice(), below - 1)?;
     concluded_line(alloc, base, case, attr, inst, &lines)
 }

@@ -33,7 +33,7 @@ pub use look::Look;
 pub use operations::{op_of_one, op_of_two};
 pub use places::{place_in, place_of};
 pub use plain::{Derive, Plain};
-pub use questions::{alone, reads};
+pub use questions::{alone, reads, reads_over};
 pub use slot_laws::{
     changes_are, cone_lies, held_is_fresh, instances_once, line_is_one, nothing_changes,
     nothing_is_dirty, owned_are_members, sameness_is_exact, slots_are_live, slots_counted,

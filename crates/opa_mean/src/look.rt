@@ -6,7 +6,7 @@ ghost use Rattle.opa_mean.specs.Given.{line_value};
 ghost use Rattle.opa_mean.specs.Looks.{Look as Looks};
 
 use crate::calendar_day::CalendarDay;
-use opa_case::{Case, InstanceId};
+use opa_case::{Case, InstanceId, Relisted};
 use opa_io::{List, NoMemory, Txt};
 use opa_line::Line;
 use opa_model::{AttrId, RelId};
@@ -33,6 +33,27 @@ impl Look for Case {
     ghost use Rattle.opa_mean.specs.Mean.{look_of};
 
     ghost looks = { λ c. look_of (facts_of c) (facts_of c).answer };
+
+    fn line(&self, attr: AttrId, inst: &InstanceId) -> Option<&Line<Value>> {
+        self.answer_of(attr, inst)
+    }
+
+    fn members(&self, rel: RelId, inst: &InstanceId) -> Option<&List<Txt>> {
+        self.list_of(rel, inst)
+    }
+
+    fn container(&self, inst: &InstanceId) -> Option<&InstanceId> {
+        self.container_of(inst)
+    }
+}
+
+/// A case with one list that is set or forgotten, and not written yet.
+impl<'a> Look for Relisted<'a> {
+    ghost use Rattle.opa_case.specs.Overlays.{relisted_case};
+    ghost use Rattle.opa_mean.specs.Given.{facts_of};
+    ghost use Rattle.opa_mean.specs.Mean.{look_of};
+
+    ghost looks = { λ c. look_of (facts_of (relisted_case c)) (facts_of (relisted_case c)).answer };
 
     fn line(&self, attr: AttrId, inst: &InstanceId) -> Option<&Line<Value>> {
         self.answer_of(attr, inst)

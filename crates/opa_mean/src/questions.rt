@@ -5,9 +5,10 @@ ghost use Rattle.opa_case.specs.Fits.{Fits};
 ghost use Rattle.opa_case.specs.Shapes.{shape_of};
 ghost use Rattle.opa_mean.specs.Given.{base_of, facts_of};
 ghost use Rattle.opa_mean.specs.Places.{owner_of};
-ghost use Rattle.opa_mean.specs.Reads.{reads_of};
+ghost use Rattle.opa_mean.specs.Reads.{reads_of, reads_over as looked_at};
 ghost use Rattle.opa_tree.specs.Rules.{rule_of};
 
+use crate::look::Look;
 use crate::read::gather;
 use opa_case::{Case, InstanceId, Question};
 use opa_io::{List, NoMemory};
@@ -30,18 +31,18 @@ pub fn reads(
     requires fits { Fits (shape_of base.now.model) base.now.ruled case.now }
     ensures { IfOk result (λ found. found ≡ reads_of (base_of base.now) (facts_of case.now) attr inst.now) }
 {
-    look_at(alloc, base, case, attr, inst)
+    reads_over(alloc, base, case, attr, inst)
 }
 
-/// The same of any attribute and instance: nothing where there is no rule.
-pub(crate) fn look_at(
+/// The same of any attribute and instance where lists and containers are looked up: nothing where there is no rule.
+pub fn reads_over<K: Look>(
     alloc: Global,
     base: &Rulebase,
-    case: &Case,
+    look: &K,
     attr: AttrId,
     inst: &InstanceId,
 ) -> Result<List<Question>, NoMemory>
-    ensures { IfOk result (λ found. found ≡ reads_of (base_of base.now) (facts_of case.now) attr inst.now) }
+    ensures { IfOk result (λ found. found ≡ looked_at (base_of base.now) (K.looks look.now) attr inst.now) }
 {
     let mut found = List::new(alloc);
     if let Some(rule) = base.rules.of(attr) {
@@ -49,7 +50,7 @@ pub(crate) fn look_at(
         gather(
             alloc,
             &base.model,
-            case,
+            look,
             &mut found,
             &rule.expr,
             enclosing.as_slice(),

@@ -2,7 +2,7 @@
 use Rattle.std.proofs.Common.{◌≡◌, ◌≤◌, ◌+◌, ◌-◌, ℕ, Bool, true, false, cond, List, length, arith, refl, sym, ap, ◌∙◌}
 use Rattle.std.specs.Prelude.{Some, None, is_some, nat_lt, not, ◌||◌}
 use Rattle.std.specs.List.{list_all}
-use Rattle.std.specs.FinMap.{empty, insert, remove, len, get-empty, len-empty, len-insert, len-remove}
+use Rattle.std.specs.FinMap.{empty, get, insert, remove, len, get-empty, len-empty, len-insert, len-remove}
 use Rattle.opa_model.specs.declared.ids.AttrId.{AttrId}
 use Rattle.opa_cells.specs.declared.instance.InstanceId.{InstanceId}
 use Rattle.opa_cells.specs.Keys.{cell_cmp}
@@ -13,6 +13,12 @@ use Rattle.opa_case.specs.Live.{Population}
 use Rattle.opa_case.specs.Cases.{Answer}
 use Rattle.opa_case.specs.Steps.{is_unanswerable, is_unknown_answer, has_kind, in_bounds, answer_fault, with_answer}
 use Rattle.opa_saved.specs.Loading.{living}
+
+pub none_answered : (k : ℕ × InstanceId) → false ≡ is_some (get (empty {X = Answer} {R = cell_cmp}) k)
+none_answered k = sym (ap is_some (get-empty cell_cmp k))
+
+pub no_answers : 0 ≡ len (empty {X = Answer} {R = cell_cmp})
+no_answers = sym (len-empty cell_cmp Answer)
 
 few : (n : ℕ) → n ≤ 1 → nat_lt 100000 n ≡ false
 few n h = grind (arith, h)

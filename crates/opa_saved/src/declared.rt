@@ -3,10 +3,9 @@ ghost use Rattle.std.specs.Prelude.{◌≡◌, IfSome};
 ghost use Rattle.opa_model.specs.Lookups.{attribute_named, relation_named};
 ghost use Rattle.opa_model.specs.Models.{HasAttribute, HasRelation};
 ghost use Rattle.opa_case.specs.Shapes.{attribute_or, relation_or};
-ghost use Rattle.opa_case.specs.Steps.{has_rule};
 
 use opa_io::Txt;
-use opa_model::{AttrId, Attribute, Model, RelId, Relation, Ruled};
+use opa_model::{AttrId, Attribute, Model, RelId, Relation};
 
 pub(crate) fn attribute_of(model: &Model, attr: AttrId) -> &Attribute
     requires { HasAttribute model.now attr }
@@ -36,13 +35,4 @@ pub(crate) fn find_relation(model: &Model, phrase: &Txt) -> Option<RelId>
     ensures declared { IfSome result (HasRelation model.now) }
 {
     model.find_relation(phrase.as_str())
-}
-
-pub(crate) fn has_rule(ruled: &Ruled, attr: AttrId) -> bool
-    ensures { result ≡ has_rule ruled.now attr }
-{
-    match ruled.as_slice().get(attr.0 as usize) {
-        Some(has_one) => *has_one,
-        None => false,
-    }
 }

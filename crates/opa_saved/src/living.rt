@@ -1,13 +1,14 @@
 // Who is live, and where.
-ghost use Rattle.std.specs.Prelude.{◌≡◌, cond, ◌+◌, ◌==◌, ℕ, List, Option, None, Some, length, filter, IfOk, OnOk};
-ghost use Rattle.std.specs.Option.{option_copied, option_or};
+ghost use Rattle.std.specs.Prelude.{◌≡◌, cond, ◌==◌, None, Some, length, filter, IfOk, OnOk};
+ghost use Rattle.std.specs.Option.{option_or};
 ghost use Rattle.opa_cells.specs.declared.instance.InstanceId.{InstanceId as InstanceView};
-ghost use Rattle.opa_cells.specs.Instances.{is_same, global, named};
-ghost use Rattle.opa_case.specs.Live.{is_live, container_of, members};
-ghost use Rattle.opa_case.specs.Steps.{stands_elsewhere};
+ghost use Rattle.opa_cells.specs.Instances.{is_same};
+ghost use Rattle.opa_case.specs.Live.{container_of, members};
 
+use opa_case::{Counted, Standing};
 use opa_cells::InstanceId;
-use opa_io::{NoMemory, Txt};
+use opa_io::NoMemory;
+use opa_model::AttrId;
 use std::alloc::Global;
 use std::collections::BTreeMap;
 use std::marker::Model;
@@ -50,36 +51,13 @@ impl Living {
         Ok(Living { order, homes })
     }
 
-    pub(crate) fn container_of(&self, inst: &InstanceId) -> Option<&InstanceId>
-        ensures { option_copied result ≡ container_of self.now inst.now }
-    {
-        self.homes.get(inst)
-    }
-
-    pub(crate) fn is_live(&self, inst: &InstanceId) -> bool
-        ensures { result ≡ is_live self.now inst.now }
-    {
-        inst.is_global() || self.container_of(inst).is_some()
-    }
-
-    /// Whether the instance stands in another container than this one.
-    pub(crate) fn stands_elsewhere(&self, container: &InstanceId, inst: &InstanceId) -> bool
-        ensures { result ≡ stands_elsewhere self.now container.now inst.now }
-    {
-        match self.container_of(inst) {
-            Some(found) => !found.equals(container),
-            None => false,
-        }
-    }
-
-    pub(crate) fn len(&self) -> usize
+    fn len(&self) -> u64
         ensures { result ≡ length self.now }
     {
-        self.order.len()
+        self.order.len() as u64
     }
 
-    /// How many instances of an entity are live.
-    pub(crate) fn count(&self, entity: u32) -> u64
+    fn count(&self, entity: u32) -> u64
         ensures { result ≡ length (members entity self.now) }
     {
         if entity == 0 {
@@ -87,6 +65,43 @@ impl Living {
         } else {
             count_in(&self.order, entity)
         }
+    }
+}
+
+/// A case where these are live, and nothing is answered.
+impl Standing for Living {
+    ghost use Rattle.opa_saved.specs.Loading.{living};
+
+    ghost case = { living };
+
+    fn live(&self, inst: &InstanceId) -> bool {
+        inst.is_global() || self.container_of(inst).is_some()
+    }
+
+    fn container_of(&self, inst: &InstanceId) -> Option<&InstanceId> {
+        self.homes.get(inst)
+    }
+
+    fn is_answered(&self, _attr: AttrId, _inst: &InstanceId) -> bool {
+        false
+    }
+
+    fn answers(&self) -> u64 {
+        0
+    }
+}
+
+impl Counted for Living {
+    ghost use Rattle.std.specs.Prelude.{◌≡◌};
+
+    ghost counts = { λ l live. l ≡ live };
+
+    fn of(&self, entity: u32) -> u64 {
+        self.count(entity)
+    }
+
+    fn total(&self) -> u64 {
+        self.len()
     }
 }
 

@@ -8,11 +8,11 @@ ghost use Rattle.opa_saved.specs.Building.{with_answers, AreAnswerable};
 ghost use Rattle.opa_saved.specs.Loading as meant;
 ghost use Rattle.opa_saved.specs.declared.fault.LoadFault.TheVariants as faults;
 
-use crate::answer_refusals::{answer_instance, is_unknown_answer};
+use crate::answer_refusals::answer_instance;
 use crate::declared::find_attribute;
 use crate::entries::AnswerEntry;
 use crate::fault::LoadFault;
-use opa_case::{Case, Refusal};
+use opa_case::{Case, Refusal, is_unknown_answer};
 use opa_model::{Model, Ruled};
 use std::alloc::Global;
 

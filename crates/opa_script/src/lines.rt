@@ -8,6 +8,7 @@ ghost use Rattle.opa_script.specs.Lines as meant;
 ghost use Rattle.opa_script.specs.Lines.{IsText, IsNoText, IsNotCut};
 
 use crate::CmdFault;
+use opa_io::limits::MOST_LINE;
 use opa_words::{Token, WordFault, tokens};
 use std::alloc::Global;
 use std::str;
@@ -42,7 +43,7 @@ pub(crate) fn text_of(line: &[u8]) -> Result<&str, CmdFault>
     ensures text { IfOk result (λ t. IsText line.now t.now) }
     ensures fault { IfErr result (IsNoText line.now) }
 {
-    if line.len() > 65_536 {
+    if line.len() > MOST_LINE {
         return Err(CmdFault::NotACommand);
     }
     match str::from_utf8(line) {

@@ -14,6 +14,7 @@ use crate::short::are_short;
 use crate::{CmdFault, Command};
 use opa_case::{ChangeCommand, Question};
 use opa_io::NoMemory;
+use opa_io::limits::MOST_LINE;
 use opa_model::Model;
 use opa_text::{line_of, names_of};
 use opa_words::Pieces;
@@ -64,7 +65,7 @@ fn slash_command(
     if is_idle(rest) {
         return Ok(Command::Nothing);
     }
-    if line.len() > 65_536 {
+    if line.len() > MOST_LINE {
         return Err(CmdFault::NotACommand);
     }
     read_command(alloc, model, rest)

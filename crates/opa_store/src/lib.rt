@@ -5,9 +5,11 @@ mod differ;
 mod entry;
 mod gone;
 mod next;
+mod relisted;
 mod store;
 
 pub use differ::lines_differ;
 pub use next::{Answered, Next};
+pub use opa_case::Relisted;
 pub use opa_dirty::Slot;
 pub use store::Store;

@@ -2,4 +2,3 @@ pub mod Days
 pub mod Goals
 pub mod Questions
 pub mod ReportLaws
-pub mod Slots

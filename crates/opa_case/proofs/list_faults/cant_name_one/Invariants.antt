@@ -5,4 +5,4 @@ use Rattle.opa_case.specs.Steps.{cant_name}
 use Rattle.opa_case.proofs.list_faults.cant_name_one.Given as goal
 
 abbrev pub invariant-loop-name : goal.invariant-loop-name
-invariant-loop-name l = list_any (cant_name (shape_of l.model) l.case l.rel l.inst) (take l.name-index l.names) ≡ false
+invariant-loop-name g l = list_any (cant_name (shape_of l.model) (g.S.Standing.case l.case) l.rel l.inst) (take l.name-index l.names) ≡ false
