@@ -1,19 +1,22 @@
--- Items have phrases that are phrases, and sentences that are made of Words and Numbers.
-use Rattle.std.proofs.Common.{◌≡◌, ◌+◌, ℕ, Bool, true, false, not, cond, ◌&&◌, List, [], ◌∷◌, ◌++◌, length, take, drop, position, Option, Some, None, All, refl, subst, arith}
+-- Items have phrases that are phrases and texts, and sentences that are made of Words and Numbers.
+use Rattle.std.proofs.Common.{◌≡◌, ◌+◌, ℕ, Bool, true, false, not, cond, ◌&&◌, List, [], ◌∷◌, ◌++◌, length, take, drop, map, position, Option, Some, None, All, refl, subst, arith}
 use Rattle.std.specs.Prelude.{◌==◌, codes, if◌then◌else◌}
 use Rattle.std.specs.List.{list_all}
 use Rattle.std.specs.Option.{option_and_then}
+use Rattle.std.specs.Str.{IsUtf8}
 use Rattle.std.proofs.lemmas.Bool.{and_parts, and_from, not-true}
 use Rattle.std.proofs.lemmas.Option.{cond_some}
 use Rattle.std.proofs.lemmas.List.{length-map}
-use Rattle.std.proofs.lemmas.List.Elements.{All-tail, All-take, All-drop, All-append}
+use Rattle.std.proofs.lemmas.List.Elements.{All-head, All-tail, All-take, All-drop, All-append}
+use Rattle.std.proofs.lemmas.Str.{IsUtf8-nil, IsUtf8-append, IsUtf8-between}
 use Rattle.opa_model.specs.declared.things.Verb.{Verb}
 use Rattle.opa_words.specs.declared.kinds.Token.{Token}
 use Rattle.opa_words.specs.declared.kinds.TokenKind.{TokenKind}
 use Rattle.opa_words.specs.declared.kinds.TokenKind.TheVariants as kind
-use Rattle.opa_words.specs.Places.{IsWithin, IsOfKind}
-use Rattle.opa_words.specs.Reserved.{are_phrase, begins_well, ends_badly, is_phrase_kind, is_word_kind, phrase_text}
+use Rattle.opa_words.specs.Places.{IsWithin, IsOfKind, token_text}
+use Rattle.opa_words.specs.Reserved.{are_phrase, begins_well, ends_badly, is_phrase_kind, is_word_kind, joined, phrase_text}
 use Rattle.opa_words.specs.Pieces.{piece, pieces}
+use Rattle.opa_words.proofs.Ascii.{ascii_utf8}
 use Rattle.opa_decl.specs.declared.cut.CutBlock.{CutBlock}
 use Rattle.opa_decl.specs.declared.cut.CutLine.{CutLine}
 use Rattle.opa_decl.specs.declared.items.Bounds.{Bounds}
@@ -48,11 +51,15 @@ SaysWell (sort.Currency b) = Unit {0}
 SaysWell sort.Words = Unit {0}
 SaysWell sort.Date = Unit {0}
 
+-- a phrase, in UTF-8
+abbrev pub IsPhraseText : List ℕ → Type 0
+IsPhraseText text = IsPhrase text × IsUtf8 text
+
 abbrev pub IsPhrased : Item → Type 0
 IsPhrased (item.Verb v) = IsSaidFully v.verb.negative
-IsPhrased (item.Entity e) = IsPhrase e.inside.text
-IsPhrased (item.Attribute a) = IsPhrase a.phrase.text × SaysWell a.sort
-IsPhrased (item.Relation r) = IsPhrase r.phrase.text
+IsPhrased (item.Entity e) = IsPhraseText e.inside.text
+IsPhrased (item.Attribute a) = IsPhraseText a.phrase.text × SaysWell a.sort
+IsPhrased (item.Relation r) = IsPhraseText r.phrase.text
 IsPhrased (item.Goal g) = Unit {0}
 IsPhrased (item.Screen s) = Unit {0}
 IsPhrased (item.File f) = Unit {0}
@@ -83,9 +90,22 @@ module _ (bytes : List ℕ) where
 
   -- ---- phrases and words
 
-  phrase_of : (ts : List Token) (text : List ℕ) → AreOf bytes ts → phrase bytes ts ≡ Some text → IsPhrase text
+  token_is_text : (t : Token) (ts : List Token) → AreOf bytes (t ∷ ts) → IsUtf8 (token_text bytes t)
+  token_is_text t ts are = let w = All-head (IsWithin bytes) t ts are.within in IsUtf8-between bytes t.start t.end are.utf8 w.order w.from w.to
+
+  joined_text : (ts : List Token) → AreOf bytes ts → IsUtf8 (joined (map (token_text bytes) ts))
+  joined_text [] are = IsUtf8-nil
+  joined_text (t ∷ []) are = token_is_text t [] are
+  joined_text (t ∷ u ∷ ts) are =
+      let more = joined_text (u ∷ ts) (rest_of t (u ∷ ts) are) in
+      IsUtf8-append (token_text bytes t) (32 ∷ joined (map (token_text bytes) (u ∷ ts))) (token_is_text t (u ∷ ts) are) (IsUtf8-append (32 ∷ []) (joined (map (token_text bytes) (u ∷ ts))) (ascii_utf8 (32 ∷ []) refl) more)
+
+  phrased : (ts : List Token) → AreOf bytes ts → are_phrase bytes ts ≡ true → IsPhraseText (phrase_text bytes ts)
+  phrased ts are h = (phrase_again bytes ts are h, joined_text ts are)
+
+  phrase_of : (ts : List Token) (text : List ℕ) → AreOf bytes ts → phrase bytes ts ≡ Some text → IsPhraseText text
   unfolding phrase
-  phrase_of ts text are h = let p = cond_some (are_phrase bytes ts) (phrase_text bytes ts) text h in subst IsPhrase p.1 (phrase_again bytes ts are p.0)
+  phrase_of ts text are h = let p = cond_some (are_phrase bytes ts) (phrase_text bytes ts) text h in subst IsPhraseText p.1 (phrased ts are p.0)
 
   said_of : (ts : List Token) → AreOf bytes ts → list_all (λ t. is_phrase_kind t.kind) ts ≡ true → IsSaid (phrase_text bytes ts)
   said_of ts are h = record { pieces = pieces bytes ts; spoken = spoken_tokens bytes ts are h; text_is = phrase_joined bytes ts }
@@ -130,9 +150,9 @@ module _ (bytes : List ℕ) where
   -- ---- lines
 
   abbrev IsBoolSaid : List ℕ × Said → Type 0
-  IsBoolSaid x = IsPhrase x.0 × (IsSaidFully x.1.subject × IsSaid x.1.rest)
+  IsBoolSaid x = IsPhraseText x.0 × (IsSaidFully x.1.subject × IsSaid x.1.rest)
 
-  said_if : (subject rest : List Token) (whole pos : List ℕ) → AreOf bytes subject → AreOf bytes rest → IsPhrase whole → list_all (λ t. is_phrase_kind t.kind) subject ≡ true → list_all (λ t. is_phrase_kind t.kind) rest ≡ true
+  said_if : (subject rest : List Token) (whole pos : List ℕ) → AreOf bytes subject → AreOf bytes rest → IsPhraseText whole → list_all (λ t. is_phrase_kind t.kind) subject ≡ true → list_all (λ t. is_phrase_kind t.kind) rest ≡ true
       → (b : Bool) → (length subject == 0) ≡ b → (x : List ℕ × Said) → cond b None (Some (whole, record { subject = phrase_text bytes subject; positive = pos; rest = phrase_text bytes rest })) ≡ Some x → IsBoolSaid x
   said_if subject rest whole pos s r is a b true e x k = absurd (cc k)
   said_if subject rest whole pos s r is a b false e x k = subst IsBoolSaid (same_value k) (is, (fully_of subject s a e, said_of rest r b))
@@ -156,7 +176,7 @@ module _ (bytes : List ℕ) where
       said_by_of subject.0 positive.0 positive.1 s.0 p.0 p.1))
 
   abbrev IsNumberPhrased : List ℕ × Bounds → Type 0
-  IsNumberPhrased x = IsPhrase x.0
+  IsNumberPhrased x = IsPhraseText x.0
 
   abbrev with_bounds : ℕ → List Token → List ℕ → Option (List ℕ × Bounds)
   with_bounds most ts text = option_and_then (λ (found : Limits). Some (text, bounds_of most found)) (limits bytes 3 most no_limits ts)
@@ -173,11 +193,11 @@ module _ (bytes : List ℕ) where
   number_of most ts are x = go (are_phrase bytes ts) refl
     where
       go : (b : Bool) → are_phrase bytes ts ≡ b → cond b (Some (phrase_text bytes ts, bounds_of most no_limits)) (option_and_then (λ (parts : List Token × List Token). option_and_then (with_bounds most parts.1) (phrase bytes parts.0)) (split_at bytes (codes ":") ts)) ≡ Some x → IsNumberPhrased x
-      go true e = given IsNumberPhrased (phrase_text bytes ts, bounds_of most no_limits) x (phrase_again bytes ts are e)
+      go true e = given IsNumberPhrased (phrase_text bytes ts, bounds_of most no_limits) x (phrased ts are e)
       go false e = bounded_of most ts are x
 
   abbrev IsRelated : RelationLine → Type 0
-  IsRelated r = IsPhrase r.phrase.text
+  IsRelated r = IsPhraseText r.phrase.text
 
   reference_of : (at : Place) (of_global : Bool) (ts : List Token) → AreOf bytes ts → (x : RelationLine) → reference_line bytes at of_global ts ≡ Some x → IsRelated x
   unfolding reference_line
@@ -198,7 +218,7 @@ module _ (bytes : List ℕ) where
       given_if IsRelated of_global (make text entity) x (phrase_of parts.0 text (split_of (codes ":") ts parts are split).0 is))))
 
   abbrev IsInside : Option Name × Name → Type 0
-  IsInside x = IsPhrase x.1.text
+  IsInside x = IsPhraseText x.1.text
 
   inside_of : (at : Place) (ts : List Token) → AreOf bytes ts → (x : Option Name × Name) → inside_line bytes at ts ≡ Some x → IsInside x
   unfolding inside_line
@@ -283,7 +303,7 @@ verb_phrased : (line : CutLine) (v : Verb) → IsCutLine line → headed_verb li
 unfolding headed_verb
 verb_phrased line v cut h = let ts = bound (verb_line line.text) (behind_head line) v h in verb_of line.text ts.0 (behind_tokens line ts.0 cut ts.1) v ts.2
 
-inside_phrased : (file : ℕ) (line : CutLine) (x : Option Name × Name) → IsCutLine line → inside_in file line ≡ Some x → IsPhrase x.1.text
+inside_phrased : (file : ℕ) (line : CutLine) (x : Option Name × Name) → IsCutLine line → inside_in file line ≡ Some x → IsPhraseText x.1.text
 unfolding inside_in
 inside_phrased file line x cut h = let ts = bound (inside_line line.text (place_in file line)) (inner line) x h in inside_of line.text (place_in file line) ts.0 (inner_tokens line ts.0 cut ts.1) x ts.2
 

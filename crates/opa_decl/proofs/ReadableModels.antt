@@ -2,15 +2,17 @@
 use Rattle.std.proofs.Common.{◌≡◌, ◌≢◌, ◌∙◌, ℕ, suc, zero, List, [], ◌∷◌, ◌++◌, Option, Some, None, slice_get, All, AllPairs, refl, sym, ap, subst, append-nil, arith}
 use Rattle.std.specs.Prelude.{flat_map}
 use Rattle.std.specs.Option.{option_map}
+use Rattle.std.specs.Str.{IsUtf8}
 use Rattle.std.proofs.lemmas.List.Concat.{flat_map-append}
 use Rattle.std.proofs.lemmas.List.Elements.{All-nil, All-cons, All-head, All-tail, All-map, All-weaker}
 use Rattle.opa_model.specs.declared.lists.Lists.{Lists}
 use Rattle.opa_model.specs.declared.things.Attribute.{Attribute}
 use Rattle.opa_model.specs.declared.things.Relation.{Relation}
 use Rattle.opa_model.specs.declared.things.Verb.{Verb}
-use Rattle.opa_model.specs.Lookups.{relation_phrases}
+use Rattle.opa_model.specs.Lookups.{attribute_phrases, relation_phrases}
 use Rattle.opa_verbs.specs.declared.sentence.Form.TheVariants.{Negative}
 use Rattle.opa_verbs.specs.Forms.{spoken, beside}
+use Rattle.opa_layout.specs.declared.block.Block.{Block}
 use Rattle.opa_decl.specs.declared.cut.CutBlock.{CutBlock}
 use Rattle.opa_decl.specs.declared.items.Item.{Item}
 use Rattle.opa_decl.specs.declared.items.Item.TheVariants as item
@@ -19,7 +21,7 @@ use Rattle.opa_decl.specs.declared.items.Sort.{Sort}
 use Rattle.opa_decl.specs.declared.items.Sort.TheVariants as sort
 use Rattle.opa_decl.specs.declared.numbered.Numbered.{Numbered}
 use Rattle.opa_decl.specs.Cutting.{HaveTokens}
-use Rattle.opa_decl.specs.Declarations.{model_of, item_faults, items_of, faults_of, syntax_faults}
+use Rattle.opa_decl.specs.Declarations.{Declares, model_of, item_faults, items_of, faults_of, syntax_faults}
 use Rattle.opa_decl.specs.Lists.{lists_of, sentence_in, attribute_by, attribute_in, relation_by, relation_in}
 use Rattle.opa_decl.specs.Names.{Tables, tables_of, texts, place, sentence, attribute_name, verb_in, denied, negative}
 use Rattle.opa_decl.specs.Numbering.{numbered, no_counts}
@@ -28,7 +30,7 @@ use Rattle.opa_decl.proofs.FormLaws.{denied_by, relation_texts, forms_differ, re
 use Rattle.opa_decl.proofs.MadeLists.{made, attributes, relations, AreFaultless, without_fault, all_numbered}
 use Rattle.opa_decl.proofs.NumberedLaws.{no_parts, all_flat, flat_map-same, whatever_number}
 use Rattle.opa_decl.proofs.Occurrences.{occurs, occurs-append, occurs-parts, differ_once}
-use Rattle.opa_decl.proofs.PhrasedItems.{IsPhrased, SaysWell, items_phrased}
+use Rattle.opa_decl.proofs.PhrasedItems.{IsPhrased, IsPhraseText, SaysWell, items_phrased}
 use Rattle.opa_decl.proofs.PhraseTexts.{IsSaidFully, worded_said, said_beside, fully_beside}
 
 -- what stands at a place is one of all
@@ -53,23 +55,23 @@ module _ (t : Tables) (items : List Item) where
 
   -- ---- phrases
 
-  attribute_phrased : (n : Numbered) (i : Item) → IsPhrased i → All (λ a. IsPhrase a.phrase) (attribute_by t n i)
-  attribute_phrased n (item.Verb v) h = All-nil (λ (a : Attribute). IsPhrase a.phrase)
-  attribute_phrased n (item.Entity e) h = All-nil (λ (a : Attribute). IsPhrase a.phrase)
-  attribute_phrased n (item.Attribute a) h = All-cons (λ (a : Attribute). IsPhrase a.phrase) _ [] h.0 (All-nil (λ (a : Attribute). IsPhrase a.phrase))
-  attribute_phrased n (item.Relation r) h = All-nil (λ (a : Attribute). IsPhrase a.phrase)
-  attribute_phrased n (item.Goal g) h = All-nil (λ (a : Attribute). IsPhrase a.phrase)
-  attribute_phrased n (item.Screen s) h = All-nil (λ (a : Attribute). IsPhrase a.phrase)
-  attribute_phrased n (item.File f) h = All-nil (λ (a : Attribute). IsPhrase a.phrase)
+  attribute_phrased : (n : Numbered) (i : Item) → IsPhrased i → All (λ a. IsPhraseText a.phrase) (attribute_by t n i)
+  attribute_phrased n (item.Verb v) h = All-nil (λ (a : Attribute). IsPhraseText a.phrase)
+  attribute_phrased n (item.Entity e) h = All-nil (λ (a : Attribute). IsPhraseText a.phrase)
+  attribute_phrased n (item.Attribute a) h = All-cons (λ (a : Attribute). IsPhraseText a.phrase) _ [] h.0 (All-nil (λ (a : Attribute). IsPhraseText a.phrase))
+  attribute_phrased n (item.Relation r) h = All-nil (λ (a : Attribute). IsPhraseText a.phrase)
+  attribute_phrased n (item.Goal g) h = All-nil (λ (a : Attribute). IsPhraseText a.phrase)
+  attribute_phrased n (item.Screen s) h = All-nil (λ (a : Attribute). IsPhraseText a.phrase)
+  attribute_phrased n (item.File f) h = All-nil (λ (a : Attribute). IsPhraseText a.phrase)
 
-  relation_phrased : (n : Numbered) (i : Item) → IsPhrased i → All (λ r. IsPhrase r.phrase) (relation_by t n i)
-  relation_phrased n (item.Verb v) h = All-nil (λ (r : Relation). IsPhrase r.phrase)
-  relation_phrased n (item.Entity e) h = All-cons (λ (r : Relation). IsPhrase r.phrase) _ [] h (All-nil (λ (r : Relation). IsPhrase r.phrase))
-  relation_phrased n (item.Attribute a) h = All-nil (λ (r : Relation). IsPhrase r.phrase)
-  relation_phrased n (item.Relation r) h = All-cons (λ (r : Relation). IsPhrase r.phrase) _ [] h (All-nil (λ (r : Relation). IsPhrase r.phrase))
-  relation_phrased n (item.Goal g) h = All-nil (λ (r : Relation). IsPhrase r.phrase)
-  relation_phrased n (item.Screen s) h = All-nil (λ (r : Relation). IsPhrase r.phrase)
-  relation_phrased n (item.File f) h = All-nil (λ (r : Relation). IsPhrase r.phrase)
+  relation_phrased : (n : Numbered) (i : Item) → IsPhrased i → All (λ r. IsPhraseText r.phrase) (relation_by t n i)
+  relation_phrased n (item.Verb v) h = All-nil (λ (r : Relation). IsPhraseText r.phrase)
+  relation_phrased n (item.Entity e) h = All-cons (λ (r : Relation). IsPhraseText r.phrase) _ [] h (All-nil (λ (r : Relation). IsPhraseText r.phrase))
+  relation_phrased n (item.Attribute a) h = All-nil (λ (r : Relation). IsPhraseText r.phrase)
+  relation_phrased n (item.Relation r) h = All-cons (λ (r : Relation). IsPhraseText r.phrase) _ [] h (All-nil (λ (r : Relation). IsPhraseText r.phrase))
+  relation_phrased n (item.Goal g) h = All-nil (λ (r : Relation). IsPhraseText r.phrase)
+  relation_phrased n (item.Screen s) h = All-nil (λ (r : Relation). IsPhraseText r.phrase)
+  relation_phrased n (item.File f) h = All-nil (λ (r : Relation). IsPhraseText r.phrase)
 
   -- ---- negative forms
 
@@ -142,15 +144,23 @@ module _ (t : Tables) (items : List Item) where
       let related : occurs u (relation_phrases m) ≡ occurs u (relation_texts t items) = ap (occurs u) (relations_texts t items) in
       omega (arith, forms_differ t items ok u, operands, related, occurs-append u (operand_phrases m) (relation_phrases m), occurs-parts (λ (i : Item). texts (attribute_name i)) (λ (i : Item). texts (denied_by t items i)) u items))
 
+  -- the phrases of attributes, and those of relations
+  pub made_phrases : All IsPhrased items → All IsPhraseText (attribute_phrases m) × All IsPhraseText (relation_phrases m)
+  made_phrases h =
+      let phrased : All (λ (n : Numbered). IsPhrased n.item) ns = all_numbered IsPhrased no_counts items h in (
+        All-map IsPhraseText (λ (a : Attribute). a.phrase) (attributes t items)
+            (all_flat (λ (a : Attribute). IsPhraseText a.phrase) (attribute_in t) ns (All-weaker (λ (n : Numbered). IsPhrased n.item) (λ (n : Numbered). All (λ (a : Attribute). IsPhraseText a.phrase) (attribute_in t n)) (λ n k. attribute_phrased n n.item k) ns phrased)),
+        All-map IsPhraseText (λ (r : Relation). r.phrase) (relations t items)
+            (all_flat (λ (r : Relation). IsPhraseText r.phrase) (relation_in t) ns (All-weaker (λ (n : Numbered). IsPhrased n.item) (λ (n : Numbered). All (λ (r : Relation). IsPhraseText r.phrase) (relation_in t n)) (λ n k. relation_phrased n n.item k) ns phrased)),
+      )
+
   pub made_readable : AreFaultless t items → All IsPhrased items → IsReadable m
   made_readable ok h =
       let phrased : All (λ (n : Numbered). IsPhrased n.item) ns = all_numbered IsPhrased no_counts items h in
       let said : All (λ (v : Verb). IsSaidFully v.negative) verbs = all_flat (λ (v : Verb). IsSaidFully v.negative) verb_in items (All-weaker IsPhrased (λ (i : Item). All (λ (v : Verb). IsSaidFully v.negative) (verb_in i)) verb_worded items h) in
       record {
-        attributes = All-map IsPhrase (λ (a : Attribute). a.phrase) (attributes t items)
-            (all_flat (λ (a : Attribute). IsPhrase a.phrase) (attribute_in t) ns (All-weaker (λ (n : Numbered). IsPhrased n.item) (λ (n : Numbered). All (λ (a : Attribute). IsPhrase a.phrase) (attribute_in t n)) (λ n k. attribute_phrased n n.item k) ns phrased));
-        relations = All-map IsPhrase (λ (r : Relation). r.phrase) (relations t items)
-            (all_flat (λ (r : Relation). IsPhrase r.phrase) (relation_in t) ns (All-weaker (λ (n : Numbered). IsPhrased n.item) (λ (n : Numbered). All (λ (r : Relation). IsPhrase r.phrase) (relation_in t n)) (λ n k. relation_phrased n n.item k) ns phrased));
+        attributes = All-weaker IsPhraseText IsPhrase (λ text is. is.0) (attribute_phrases m) (made_phrases h).0;
+        relations = All-weaker IsPhraseText IsPhrase (λ text is. is.0) (relation_phrases m) (made_phrases h).1;
         denied = all_flat IsWorded (denials m) (attributes t items)
             (all_flat IsDenied (attribute_in t) ns (All-weaker (λ (n : Numbered). IsPhrased n.item) (λ (n : Numbered). All IsDenied (attribute_in t n)) (λ n k. denied_here n n.item said k) ns phrased));
         others = All-nil IsPhrase;
@@ -166,3 +176,18 @@ pub readable_by : (blocks : List CutBlock) (items : List Item) (l : Lists) → A
 readable_by blocks items l cut none is made_is =
     let none_of : item_faults items ≡ [] = ap item_faults is ∙ (no_parts (flat_map syntax_faults blocks) (item_faults (items_of blocks)) none).1 in
     subst IsReadable (sym made_is) (readable_model items none_of (subst (λ (is : List Item). All IsPhrased is) (sym is) (items_phrased blocks cut)))
+
+abbrev AreTexts : Lists → Type 0
+AreTexts m = All IsUtf8 (attribute_phrases m) × All IsUtf8 (relation_phrases m)
+
+are_texts : (items : List Item) → All IsPhrased items → AreTexts (model_of items)
+unfolding model_of lists_of
+are_texts items phrased =
+    let both = made_phrases (tables_of items) items phrased in (
+      All-weaker IsPhraseText IsUtf8 (λ text is. is.1) (attribute_phrases (model_of items)) both.0,
+      All-weaker IsPhraseText IsUtf8 (λ text is. is.1) (relation_phrases (model_of items)) both.1,
+    )
+
+-- the phrases of attributes, and those of relations, that blocks declare are UTF-8
+pub declared_texts : (blocks : List Block) (m : Lists) → Declares blocks m → AreTexts m
+declared_texts blocks m h = subst AreTexts (sym h.model_is) (are_texts (items_of h.read) (items_phrased h.read h.cut.tokens))

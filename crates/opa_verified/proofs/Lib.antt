@@ -1,6 +1,5 @@
 pub mod CleanCases
 pub mod CleanCommands
-pub mod DeclaredPhrases
 pub mod FewItems
 pub mod FineRules
 pub mod JsonStrings

@@ -25,7 +25,7 @@ use Rattle.opa_rulebase.specs.Loading as loading
 use Rattle.opa_rulebase.specs.Loading.{IsAccepted, Opens, table_files}
 use Rattle.opa_proof.specs.Fine.{AreFine, constants, IsPrintableBase}
 use Rattle.opa_verified.specs.Laws.{OpenedIsModel, OpenedIsPrintable}
-use Rattle.opa_verified.proofs.DeclaredPhrases.{declared_texts}
+use Rattle.opa_decl.proofs.ReadableModels.{declared_texts}
 use Rattle.opa_verified.proofs.FewItems.{declared_model}
 use Rattle.opa_verified.proofs.FineRules.{rule_fine}
 use Rattle.opa_verified.proofs.PrintedPlaces.{HasLine, file_quoted, rules_lined}
