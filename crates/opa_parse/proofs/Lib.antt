@@ -8,6 +8,7 @@ pub mod BlockLaws
 pub mod NameLaws
 pub mod RuleLaws
 pub mod MemberLaws
+pub mod CallLines
 pub mod LineForms
 pub mod GroupForms
 pub mod Handing
