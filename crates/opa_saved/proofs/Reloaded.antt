@@ -38,7 +38,8 @@ use Rattle.opa_saved.specs.Saved.{attr, rel, list_data, line_data, names_data, a
 use Rattle.opa_saved.proofs.BackValues.{line_back, names_back, name_back}
 use Rattle.opa_saved.proofs.Distinct.{among, Distinct, AreApart, distinct_live, neither}
 use Rattle.opa_saved.proofs.MapEntries.{upto, written_upto, all_upto, differ_upto, each_upto, puts, makes_all}
-use Rattle.opa_saved.proofs.OwnPlaces.{all_at, own_attribute, own_relation, attributes_apart, relations_apart, live_member, clean_live}
+use Rattle.opa_text.proofs.OwnPhrases.{own_attribute, own_relation}
+use Rattle.opa_saved.proofs.OwnPlaces.{all_at, attributes_apart, relations_apart, live_member, clean_live}
 use Rattle.opa_saved.proofs.PartLaws.{listed_of}
 use Rattle.opa_saved.proofs.RefusalLaws.{pairs_decide}
 use Rattle.opa_saved.proofs.SavedLaws.{fits_days}
@@ -161,7 +162,7 @@ module _ (m : Lists) (ruled : List Bool) (c : CaseView) (im : IsModel m) (fits :
   answer_puts : (n : ℕ) (i : InstanceId) (v : Answer) → get c.answers (n, i) ≡ Some v → (b : FinMap cell_cmp Answer) → a_put b (answer_at (point_at (a_phrase n) i.name) v) ≡ insert b (n, i) v
   answer_puts n i v h b =
       let is = fits.answers (attr n) i v h in
-      ap (λ o. put_answer m b o (answer_at (point_at (a_phrase n) i.name) v)) (own_attribute m im n is.declared)
+      ap (λ o. put_answer m b o (answer_at (point_at (a_phrase n) i.name) v)) (own_attribute m im (attr n) is.declared)
       ∙ ap (λ t. cond t b (insert b (n, named (a_owner n) i.name) v)) is.known ∙ ap (λ j. insert b (n, j) v) (own_name (a_owner n) i is.owner)
 
   answers_made : answers_of_file m answers ≡ c.answers
@@ -207,7 +208,7 @@ module _ (m : Lists) (ruled : List Bool) (c : CaseView) (im : IsModel m) (fits :
 
   list_puts : (n : ℕ) (i : InstanceId) (v : Names) → get c.lists (n, i) ≡ Some v → (b : FinMap cell_cmp Names) → r_put b (list_at (point_at (r_phrase n) i.name) v) ≡ insert b (n, i) v
   list_puts n i v h b =
-      ap (λ o. put_list m b o (list_at (point_at (r_phrase n) i.name) v)) (own_relation m im n (fits.sound.declared (rel n) i v h))
+      ap (λ o. put_list m b o (list_at (point_at (r_phrase n) i.name) v)) (own_relation m im (rel n) (fits.sound.declared (rel n) i v h))
       ∙ ap (λ j. insert b (n, j) v) (own_name (r_owner n) i (fits.sound.source (rel n) i v h))
 
   lists_made : lists_of_file m lists ≡ c.lists
@@ -257,7 +258,7 @@ module _ (m : Lists) (ruled : List Bool) (c : CaseView) (im : IsModel m) (fits :
   list_free =
       all_upto list_at r_phrase r_owner c.lists c.live (λ e. list_refusal m c.live (relation_named m e.point.phrase) e ≡ None) (length m.relations)
       (λ n i v lt there h.
-      ap (λ o. list_refusal m c.live o (list_at (point_at (r_phrase n) i.name) v)) (own_relation m im n lt)
+      ap (λ o. list_refusal m c.live o (list_at (point_at (r_phrase n) i.name) v)) (own_relation m im (rel n) lt)
       ∙ ap (λ j. list_fault s (living c.live) (rel n) j v) (own_name (r_owner n) i (fits.sound.source (rel n) i v h))
       ∙ tests_make s (living c.live) (rel n) i v
       (record { misplaced = misplaced (rel n) i v h; names = fits.sound.names (rel n) i v h; free = free (rel n) i v h; few = few (rel n) i v h; short = within.names (rel n) i v h }))
@@ -275,7 +276,7 @@ module _ (m : Lists) (ruled : List Bool) (c : CaseView) (im : IsModel m) (fits :
       all_upto answer_at a_phrase a_owner c.answers c.live (λ e. answer_refusal m ruled c.live (attribute_named m e.point.phrase) e ≡ None) (length m.attributes)
       (λ n i v lt there h.
       (let is = fits.answers (attr n) i v h in
-      ap (λ o. answer_refusal m ruled c.live o (answer_at (point_at (a_phrase n) i.name) v)) (own_attribute m im n lt)
+      ap (λ o. answer_refusal m ruled c.live o (answer_at (point_at (a_phrase n) i.name) v)) (own_attribute m im (attr n) lt)
       ∙ ap (λ j. option_or (answer_fault s ruled (living c.live) (attr n) j v) (text_refusal v)) (own_name (a_owner n) i is.owner)
       ∙ ap (λ o. option_or o (text_refusal v)) (sym (pairs_decide s ruled c.live (attr n) i v false (answerable n i v h) is.kind (within.bounds (attr n) i v h) (le-ltb 1000 (length v) (within.pairs (attr n) i v h))))
       ∙ ap (λ b. cond b (Some refusals.Limit) None) (within.texts (attr n) i v h)))

@@ -9,3 +9,4 @@ pub mod SampleModels
 pub mod PointLaws
 pub mod FirstPoints
 pub mod WrittenPoints
+pub mod OwnPhrases

@@ -1,5 +1,5 @@
 -- The tree that a line says is one that the grammar gives.
-use Rattle.std.proofs.Common.{◌≡◌, ℕ, zero, suc, drop, ℤ, pos, negsuc, ◌+◌, ◌-◌, ◌/◌, ◌%◌, ◌==◌, ◌<◌, ◌≤◌, min, nat_le, nat_lt, List, [], ◌∷◌, ◌++◌, length, Bool, true, false, ◌&&◌, cond, if◌then◌else◌, Option, Some, None, slice_get, option_map, refl, sym, ap, subst, ◌∙◌, arith}
+use Rattle.std.proofs.Common.{◌≡◌, ℕ, zero, suc, drop, ℤ, pos, negsuc, ◌+◌, ◌-◌, ◌/◌, ◌%◌, ◌==◌, ◌≤◌, nat_le, List, [], ◌∷◌, ◌++◌, length, Bool, true, false, ◌&&◌, cond, if◌then◌else◌, Option, Some, None, slice_get, option_map, refl, sym, ap, subst, ◌∙◌, arith}
 use Rattle.opa_value.specs.declared.value.Value.{Value}
 use Rattle.opa_value.specs.declared.value.Value.TheVariants as value
 use Rattle.opa_value.specs.Numbers.{InRange}
@@ -31,13 +31,13 @@ use Rattle.opa_sentence.specs.declared.names.Member.{Member}
 use Rattle.opa_sentence.specs.declared.reading.Reading.{Reading}
 use Rattle.opa_sentence.specs.declared.reading.Parts.{Parts}
 use Rattle.opa_sentence.specs.declared.reading.Arguments.{Arguments}
-use Rattle.opa_sentence.specs.Functions.{argument_at, line_at}
+use Rattle.opa_sentence.specs.Functions.{argument_at}
 use Rattle.opa_sentence.specs.Lexemes.{Lexeme}
 use Rattle.opa_sentence.specs.Measures.{Bounds}
 use Rattle.opa_sentence.specs.Phrases.{longest, past_words, is_word, is_wordlike}
 use Rattle.opa_sentence.specs.Quoted.{unquoted}
 use Rattle.opa_sentence.specs.Readings as says
-use Rattle.opa_sentence.specs.Readings.{with_tree, but_last, kept, days, days_of_count, days_of_size}
+use Rattle.opa_sentence.specs.Readings.{with_tree, but_last, kept, days, days_of_count}
 use Rattle.opa_sentence.specs.Table.{relation_at, relation_found, past_found, related_or_none}
 use Rattle.opa_sentence.specs.Grammar.{Part, Spells, SpellsMore, SpellsArgument, SpellsArguments}
 use Rattle.opa_sentence.specs.Grammar as g
