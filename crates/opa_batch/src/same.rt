@@ -25,13 +25,14 @@ pub(crate) fn is_same(one: &ByteRecord, other: &ByteRecord) -> bool
     true
 }
 
-/// A number below 4,096 that records of the same cells share.
-pub(crate) fn slot_of(cells: &ByteRecord) -> usize
-    ensures { result < 4096 }
+/// Of so many slots the one that records of the same cells share.
+pub(crate) fn slot_of(cells: &ByteRecord, slots: usize) -> usize
+    requires { 0 < slots }
+    ensures { result < slots }
 {
     let mut sum = 0u32;
     for byte in cells.as_slice() {
         sum = sum.wrapping_mul(31).wrapping_add(u32::from(*byte));
     }
-    (sum % 4096) as usize
+    sum as usize % slots
 }

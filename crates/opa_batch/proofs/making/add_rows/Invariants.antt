@@ -1,4 +1,4 @@
-use Rattle.std.proofs.Common.{◌≡◌, length}
+use Rattle.std.proofs.Common.{◌≡◌, ◌<◌, length}
 use Rattle.std.specs.Prelude.{Some}
 use Rattle.csv.specs.Records.{fields_of}
 use Rattle.opa_case.specs.Cases.{no_case}
@@ -16,7 +16,7 @@ invariant-loop-place g l = record {
   first : l.place ≡ 0 → held_of l.session ≡ no_case;
   at : IsAt l.bytes l.place (fields_of l.row) l.reader;
   kept : AreKept (rules_of l.session) l.heads l.kept.items;
-  slots : length l.kept.items ≡ 4096;
+  slots : 0 < length l.kept.items;
   rows : AddsRowsTo (λ v. Some v.items) l.fn.out l.out (rules_of l.fn.session) l.heads (below l.bytes) l.place;
   counts : CountsRecords (rules_of l.fn.session) l.heads (below l.bytes) l.place l.fn.steps l.steps;
 }
