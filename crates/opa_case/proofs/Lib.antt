@@ -41,3 +41,4 @@ pub mod Peopled
 pub mod Moving
 pub mod Refusing
 pub mod Overlaid
+pub mod Touching

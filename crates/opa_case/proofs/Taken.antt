@@ -43,7 +43,7 @@ or_nothing : (b : Bool) → b ≡ (b || false)
 or_nothing true = refl
 or_nothing false = refl
 
-any_next : {A : Type 0} (p : A → Bool) (xs : List A) (k : ℕ) (x : A) → k < length xs → x ≡ get_or xs k x → (list_any p (take k xs) || p x) ≡ list_any p (take (k + 1) xs)
+pub any_next : {A : Type 0} (p : A → Bool) (xs : List A) (k : ℕ) (x : A) → k < length xs → x ≡ get_or xs k x → (list_any p (take k xs) || p x) ≡ list_any p (take (k + 1) xs)
 any_next p xs k x lt is =
     ap (λ b. list_any p (take k xs) || b) (or_nothing (p x))
     ∙ sym (list_any-append p (take k xs) (x ∷ []))

@@ -16,5 +16,6 @@ pub mod Relists
 pub mod Samples
 pub mod Shapes
 pub mod Steps
+pub mod Touched
 pub mod Turns
 pub mod Whole

@@ -163,6 +163,20 @@ impl Case {
         self.every.get(rel.0, inst)
     }
 
+    /// The lists of the relations that aren't declared with `every`.
+    pub(crate) fn stored(&self) -> &Listed
+        ensures { result.now ≡ self.now.lists }
+    {
+        &self.lists
+    }
+
+    /// The lists of the relations that are.
+    pub(crate) fn every(&self) -> &Cells<List<Txt>>
+        ensures { result.now ≡ self.now.every }
+    {
+        &self.every
+    }
+
     pub(crate) fn is_answered(&self, attr: AttrId, inst: &InstanceId) -> bool
         ensures { result ≡ is_some (map.get self.now.answers (attr.0, inst.now)) }
     {

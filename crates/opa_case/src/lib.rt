@@ -18,6 +18,7 @@ mod instances;
 mod laws;
 mod list_faults;
 mod listed;
+mod lists_naming;
 mod living;
 mod names;
 mod question;
@@ -27,6 +28,7 @@ mod relisted;
 mod relisted_looks;
 mod slots;
 mod standing;
+mod touched;
 mod turn;
 mod whole_walk;
 

@@ -7,7 +7,7 @@ ghost use Rattle.std.specs.Ordering.{nat_cmp, is_eq};
 ghost use Rattle.opa_cells.specs.Instances.{is_text};
 ghost use Rattle.opa_cells.specs.Rows.{cells_at, insert_all, seen};
 ghost use Rattle.opa_cells.specs.declared.instance.InstanceId.{InstanceId as InstanceView};
-ghost use Rattle.opa_case.specs.Listed.{has_source, is_indexed, is_named_in, is_list, SetsNames, SameIndex};
+ghost use Rattle.opa_case.specs.Listed.{has_source, is_indexed, is_named_in, is_list, IsIndexOf, SetsNames, SameIndex};
 
 use crate::copies::EachName;
 use crate::index::{Index, Sources, add_names, drop_names, take_sources};
@@ -71,6 +71,13 @@ impl Listed {
         ensures { result ≡ cells_at self.now number }
     {
         self.cells.len_of(number)
+    }
+
+    /// The instances in whose list a name stands, for each relation.
+    pub(crate) fn index(&self) -> &Index
+        ensures { IsIndexOf self.now result.now.entries }
+    {
+        &self.index
     }
 
     /// Makes a list known. It goes through the old and the new names, and through no other list.
