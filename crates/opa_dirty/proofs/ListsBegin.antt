@@ -3,6 +3,7 @@ use Rattle.std.proofs.Common.{◌≡◌, ◌⊎◌, ◌<◌, inl, inr, List, Boo
 use Rattle.std.specs.Prelude.{◌||◌, ◌&&◌}
 use Rattle.std.specs.List.{list_any}
 use Rattle.std.specs.FinMap.{get}
+use Rattle.std.specs.Option.{option_copied}
 use Rattle.std.proofs.lemmas.Bool.{and_parts}
 use Rattle.opa_date.specs.declared.TheConstants.{DAYS}
 use Rattle.opa_model.specs.declared.ids.AttrId.{AttrId}
@@ -11,8 +12,10 @@ use Rattle.opa_cells.specs.declared.instance.InstanceId.{InstanceId}
 use Rattle.opa_cells.proofs.Orders.{same_itself}
 use Rattle.opa_case.specs.Cases.{IsLive, Answer}
 use Rattle.opa_case.specs.Live.{is_live, container_of}
+use Rattle.opa_case.specs.Shapes.{shape_of}
 use Rattle.opa_case.specs.declared.question.Question.{Question}
 use Rattle.opa_case.specs.declared.question.Question.TheVariants as question
+use Rattle.opa_case.proofs.Overlaid.{relisted_answers}
 use Rattle.opa_tree.specs.Rules.{rule_of}
 use Rattle.opa_mean.specs.Given.{base_of, facts_of, line_value}
 use Rattle.opa_mean.specs.Mean as mean
@@ -23,7 +26,7 @@ use Rattle.opa_mean.proofs.Exact.{names_exact, lists_exact, question_exact}
 use Rattle.opa_mean.proofs.Fitting.{live_in, in_live}
 use Rattle.opa_mean.proofs.LawsOver as over
 use Rattle.opa_mean.proofs.SameBoth.{lists_itself, options_itself, question_itself}
-use Rattle.opa_dirty.specs.ByLists.{IsByLists, AreListsTold, ReadsTold, WaitForLists, ListsBegin, HeldCanTell, NewCanTell, AreReadersThen, ReadersThen}
+use Rattle.opa_dirty.specs.ByLists.{IsByLists, AreListsTold, ReadsTold, WaitForLists, ListsBegin, HeldCanTell, NewCanTell, AreReadersThen, ReadersThen, RelistedIsByLists}
 use Rattle.opa_dirty.specs.Dirty.{slot_reads, is_fresh, is_reached, IsReadBy}
 use Rattle.opa_dirty.specs.Settling.{Shift, AreReaders, IsBegun, IsDirty, Waiting, is_told, is_given, new_reads, rank_of}
 use Rattle.opa_dirty.proofs.Answering.{answers_differ}
@@ -254,4 +257,12 @@ new_can_tell s is readers exact = record {
   read = λ q a i there live stale. exact.read q a i there;
   higher = λ m j a i there. (each_of_all _ (new_reads s a i) (reads_are_lower s.rules s.new is.after a i (parts_of s.rules s.new a i (exact.slots (question.Attr m j) a i there)).live) (question.Attr m j) (exact.read (question.Attr m j) a i there)).1;
   all = λ q a i slot stale there. exact.all q a i slot there;
+}
+
+-- one list that is set or forgotten
+pub relisted_is_by_lists : RelistedIsByLists
+relisted_is_by_lists r n before after stay = record {
+  is = record { before = before; after = after };
+  stay = stay;
+  answers = λ a i live. relisted_answers (shape_of n.model.now) n.case.now n.rel n.inst.now (option_copied n.names) a i live;
 }

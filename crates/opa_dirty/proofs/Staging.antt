@@ -15,14 +15,12 @@ use Rattle.opa_tree.specs.Rules.{rule_of}
 use Rattle.opa_tree.proofs.Members.{contains_head, contains_tail, contains_cases}
 use Rattle.opa_mean.specs.Given.{line_value}
 use Rattle.opa_mean.specs.Rulebases.{value_at}
-use Rattle.opa_mean.proofs.Everywhere.{each_of_all}
 use Rattle.opa_dirty.specs.Dirty.{is_fresh, is_reached}
-use Rattle.opa_dirty.specs.Settling.{Lines, Waiting, Shift, IsShift, AreCurrent, AreReaders, IsDirty, IsSettling, IsCaught, SamePair, Stages, is_slot_same, is_known, is_line_changed, is_told, new_reads, rank_of}
+use Rattle.opa_dirty.specs.Settling.{Lines, Waiting, Shift, IsShift, AreCurrent, CanTell, IsDirty, IsSettling, IsCaught, SamePair, Stages, is_slot_same, is_known, is_line_changed, is_told, new_reads, rank_of}
 use Rattle.opa_mean.specs.Slots.{is_slot}
 use Rattle.opa_dirty.proofs.Differing.{same_difference}
 use Rattle.opa_dirty.proofs.Freshness.{fresh_is_reached, reader_is_reached, read_before}
 use Rattle.opa_dirty.proofs.Looking.{line_right}
-use Rattle.opa_dirty.proofs.Naming.{slot_named}
 use Rattle.opa_dirty.proofs.Parted.{parts_of, slot_is}
 
 pub same_slot : (a : AttrId) (i : InstanceId) (b : AttrId) (j : InstanceId) → is_slot_same a i b j ≡ true → (a ≡ b) × (i ≡ j)
@@ -87,7 +85,7 @@ module _ (a : AttrId) (i : InstanceId) (line : Answer) (old new : Lines) (stages
       go true q = absurd (apart (same_slot a i b j q))
       go false q = e
 
-module _ (s : Shift) (is : IsShift s) (kept : Lines) (current : AreCurrent s.rules s.old kept) (readers : Question → Waiting) (are : AreReaders s.rules s.new readers)
+module _ (s : Shift) (is : IsShift s) (kept : Lines) (current : AreCurrent s.rules s.old kept) (readers : Question → Waiting) (tell : CanTell s readers)
     (staged : Lines) (a : AttrId) (i : InstanceId) (rest : Waiting) (h : IsSettling s staged ((a, i) ∷ rest))
     (first : (b : AttrId) (j : InstanceId) → Contains rest (b, j) → rank_of s a ≤ rank_of s b) (once : Contains rest (a, i) → ⊥)
     (line : Answer) (right : StandsFor DAYS (value_at s.rules s.new a i) line) (staged' : Lines) (stages : Stages staged staged' a i line) where
@@ -168,10 +166,14 @@ module _ (s : Shift) (is : IsShift s) (kept : Lines) (current : AreCurrent s.rul
           let t : is_told s (question.Attr a i) ≡ true = subst (λ (x : Question). is_told s x ≡ true) (sym is_it) told in
           absurd (cc (t, flag_of b j stale here, flag))
 
+  -- a reader of the slot that stays
+  abbrev pub IsReader : AttrId → InstanceId → Type 0
+  IsReader b j = IsLive s.new j × Contains (readers (question.Attr a i)) (b, j)
+
   -- the line differs: its readers wait
   pub step_changed : is_line_changed kept a i line ≡ true → (waiting' : Waiting) → ((b : AttrId) (j : InstanceId) → Contains rest (b, j) → Contains waiting' (b, j))
-      → ((b : AttrId) (j : InstanceId) → Contains (readers (question.Attr a i)) (b, j) → Contains waiting' (b, j))
-      → ((b : AttrId) (j : InstanceId) → Contains waiting' (b, j) → Contains rest (b, j) ⊎ Contains (readers (question.Attr a i)) (b, j))
+      → ((b : AttrId) (j : InstanceId) → IsReader b j → Contains waiting' (b, j))
+      → ((b : AttrId) (j : InstanceId) → Contains waiting' (b, j) → Contains rest (b, j) ⊎ IsReader b j)
       → IsSettling s staged' waiting'
   step_changed flag waiting' stay marked marks = record {
     right = all_right;
@@ -180,22 +182,22 @@ module _ (s : Shift) (is : IsShift s) (kept : Lines) (current : AreCurrent s.rul
     apart = λ b j there. apart b j (marks b j there);
     order = λ b x j k e there. order b x k (low b j e) (marks x k there);
     fresh = λ b j slot fresh. caught_still waiting' stay b j (h.fresh b j slot fresh);
-    readers = λ b j q slot reads told known. caught b j q slot reads told (known_before q known);
+    readers = λ b j q slot reads told known. caught b j q slot reads told (known_before q known) (is_fresh s.rules s.old s.new b j) refl;
   }
     where
       -- what a reader reads of the slot is of lower rank
-      lower : (b : AttrId) (j : InstanceId) → Contains (readers (question.Attr a i)) (b, j) → rank_of s a < rank_of s b
-      lower b j m = (each_of_all _ (new_reads s b j) (slot_named s.rules s.new is.after b j (parts_of s.rules s.new b j (are.slots (question.Attr a i) b j m)).live) (question.Attr a i) (are.read (question.Attr a i) b j m)).2
+      lower : (b : AttrId) (j : InstanceId) → IsReader b j → rank_of s a < rank_of s b
+      lower b j m = tell.higher a i b j m.1
 
-      reader_reached : (b : AttrId) (j : InstanceId) → Contains (readers (question.Attr a i)) (b, j) → (x : Bool) → is_fresh s.rules s.old s.new b j ≡ x → is_reached s.rules s.old s.new b j ≡ true
+      reader_reached : (b : AttrId) (j : InstanceId) → IsReader b j → (x : Bool) → is_fresh s.rules s.old s.new b j ≡ x → is_reached s.rules s.old s.new b j ≡ true
       reader_reached b j m true fresh = fresh_is_reached s b j fresh
-      reader_reached b j m false stale = let reads = are.read (question.Attr a i) b j m in reader_is_reached s b j (question.Attr a i) reads (flag_of b j stale reads ∙ flag)
+      reader_reached b j m false stale = let reads = tell.read (question.Attr a i) b j m.1 m.0 stale in reader_is_reached s b j (question.Attr a i) reads (flag_of b j stale reads ∙ flag)
 
-      waits : (b : AttrId) (j : InstanceId) → Contains rest (b, j) ⊎ Contains (readers (question.Attr a i)) (b, j) → IsDirty s b j
+      waits : (b : AttrId) (j : InstanceId) → Contains rest (b, j) ⊎ IsReader b j → IsDirty s b j
       waits b j (inl there) = h.waits b j (tail b j there)
-      waits b j (inr m) = record { slot = are.slots (question.Attr a i) b j m; reached = reader_reached b j m (is_fresh s.rules s.old s.new b j) refl }
+      waits b j (inr m) = record { slot = tell.slots (question.Attr a i) b j m.1 m.0; reached = reader_reached b j m (is_fresh s.rules s.old s.new b j) refl }
 
-      apart : (b : AttrId) (j : InstanceId) → Contains rest (b, j) ⊎ Contains (readers (question.Attr a i)) (b, j) → is_some (staged' b j) ≡ false
+      apart : (b : AttrId) (j : InstanceId) → Contains rest (b, j) ⊎ IsReader b j → is_some (staged' b j) ≡ false
       apart b j (inl there) = rest_apart b j there
       apart b j (inr m) = go (is_some (staged' b j)) refl
         where
@@ -203,10 +205,12 @@ module _ (s : Shift) (is : IsShift s) (kept : Lines) (current : AreCurrent s.rul
           go false e = e
           go true e = let l = low b j e in let n = lower b j m in absurd (omega (arith, l, n))
 
-      order : (b x : AttrId) (k : InstanceId) → rank_of s b ≤ rank_of s a → Contains rest (x, k) ⊎ Contains (readers (question.Attr a i)) (x, k) → rank_of s b ≤ rank_of s x
+      order : (b x : AttrId) (k : InstanceId) → rank_of s b ≤ rank_of s a → Contains rest (x, k) ⊎ IsReader x k → rank_of s b ≤ rank_of s x
       order b x k l (inl there) = let f = first x k there in omega (arith, l, f)
       order b x k l (inr m) = let n = lower x k m in omega (arith, l, n)
 
-      caught : (b : AttrId) (j : InstanceId) (q : Question) → is_slot s.rules s.new b j ≡ true → Contains (new_reads s b j) q → is_told s q ≡ true → (is_known s staged q ≡ true) ⊎ (question.Attr a i ≡ q) → IsCaught staged' waiting' b j
-      caught b j q slot reads told (inl known) = caught_still waiting' stay b j (h.readers b j q slot reads told known)
-      caught b j q slot reads told (inr is_it) = inr (marked b j (are.all (question.Attr a i) b j slot (subst (λ (x : Question). Contains (new_reads s b j) x) (sym is_it) reads)))
+      caught : (b : AttrId) (j : InstanceId) (q : Question) → is_slot s.rules s.new b j ≡ true → Contains (new_reads s b j) q → is_told s q ≡ true → (is_known s staged q ≡ true) ⊎ (question.Attr a i ≡ q) → (x : Bool) → is_fresh s.rules s.old s.new b j ≡ x → IsCaught staged' waiting' b j
+      caught b j q slot reads told (inl known) x e = caught_still waiting' stay b j (h.readers b j q slot reads told known)
+      caught b j q slot reads told (inr is_it) true fresh = caught_still waiting' stay b j (h.fresh b j slot fresh)
+      caught b j q slot reads told (inr is_it) false stale =
+          inr (marked b j ((parts_of s.rules s.new b j slot).live, tell.all (question.Attr a i) b j slot stale (subst (λ (x : Question). Contains (new_reads s b j) x) (sym is_it) reads)))

@@ -1,5 +1,5 @@
 -- A change of lists: what waits before anything is derived, by the readers of the case that is held.
-use Rattle.std.specs.Prelude.{◌≡◌, ◌<◌, ◌⊎◌, ◌↔◌, Bool, true, false, List, Contains}
+use Rattle.std.specs.Prelude.{◌≡◌, ◌⊎◌, ◌↔◌, Bool, true, false, List, Contains}
 use Rattle.std.specs.FinMap.{get}
 use Rattle.opa_model.specs.declared.ids.AttrId.{AttrId}
 use Rattle.opa_model.specs.declared.ids.RelId.{RelId}
@@ -7,11 +7,14 @@ use Rattle.opa_cells.specs.declared.instance.InstanceId.{InstanceId}
 use Rattle.opa_case.specs.Cases.{IsLive}
 use Rattle.opa_case.specs.Live.{is_live}
 use Rattle.opa_case.specs.Laws.{KeepContainers}
+use Rattle.opa_case.specs.Overlays.{relisted_case}
+use Rattle.opa_case.specs.declared.relisted.Relisted.{Relisted}
 use Rattle.opa_case.specs.declared.question.Question.{Question}
 use Rattle.opa_case.specs.declared.question.Question.TheVariants as question
+use Rattle.opa_tree.specs.declared.rulebase.Rulebase.{Rulebase}
+use Rattle.opa_mean.specs.Rulebases.{IsOf}
 use Rattle.opa_mean.specs.Slots.{is_slot}
-use Rattle.opa_dirty.specs.Dirty.{is_fresh}
-use Rattle.opa_dirty.specs.Settling.{Shift, IsShift, AreReaders, IsBegun, Waiting, is_told, new_reads, rank_of}
+use Rattle.opa_dirty.specs.Settling.{Shift, IsShift, AreReaders, CanTell, IsBegun, Waiting, is_told, new_reads, shift}
 
 -- Both cases fit; what stays stands where it stood, and has the answers that it had.
 pub record IsByLists (s : Shift) : Type 0 where
@@ -38,14 +41,6 @@ pub record WaitForLists (s : Shift) (readers : Question → Waiting) (told : Lis
 abbrev pub ListsBegin : Type 0
 ListsBegin = (s : Shift) → IsByLists s → (readers : Question → Waiting) → AreReaders s.rules s.old readers → (told : List Question) → AreListsTold s told → (waiting : Waiting) → WaitForLists s readers told waiting → IsBegun s waiting
 
--- Readers by which a change can be settled: those that stay are slots, and those of them that aren't fresh are exactly the ones
--- that read the question afterwards. A reader of a line is of a higher rank.
-pub record CanTell (s : Shift) (readers : Question → Waiting) : Type 0 where
-  pub slots : (q : Question) (a : AttrId) (i : InstanceId) → Contains (readers q) (a, i) → IsLive s.new i → is_slot s.rules s.new a i ≡ true
-  pub read : (q : Question) (a : AttrId) (i : InstanceId) → Contains (readers q) (a, i) → IsLive s.new i → is_fresh s.rules s.old s.new a i ≡ false → Contains (new_reads s a i) q
-  pub higher : (m : AttrId) (j : InstanceId) (a : AttrId) (i : InstanceId) → Contains (readers (question.Attr m j)) (a, i) → rank_of s m < rank_of s a
-  pub all : (q : Question) (a : AttrId) (i : InstanceId) → is_slot s.rules s.new a i ≡ true → is_fresh s.rules s.old s.new a i ≡ false → Contains (new_reads s a i) q → Contains (readers q) (a, i)
-
 -- The readers of the case that is held are such ones.
 abbrev pub HeldCanTell : Type 0
 HeldCanTell = (s : Shift) → IsShift s → KeepContainers s.old s.new → (readers : Question → Waiting) → AreReaders s.rules s.old readers → CanTell s readers
@@ -66,3 +61,7 @@ ReadersThen = (s : Shift) → IsByLists s → (told : List Question) → AreList
 -- The readers of the case that comes are such ones too.
 abbrev pub NewCanTell : Type 0
 NewCanTell = (s : Shift) → IsShift s → (readers : Question → Waiting) → AreReaders s.rules s.new readers → CanTell s readers
+
+-- Where one list is set or forgotten, and the case that comes fits and leaves everything where it stood, the change is by lists.
+abbrev pub RelistedIsByLists : Type 0
+RelistedIsByLists = (r : Rulebase) (n : Relisted) → IsOf r n.case.now → IsOf r (relisted_case n) → KeepContainers n.case.now (relisted_case n) → IsByLists (shift r n.case.now (relisted_case n))

@@ -1,5 +1,5 @@
 -- A change that is being settled: the slots that it reaches are derived one after another, in the order of ranks.
-use Rattle.std.specs.Prelude.{◌≡◌, ◌≤◌, ◌⊎◌, ℕ, Bool, true, false, ◌&&◌, ◌||◌, not, cond, is_some, List, filter, length, Option, None, Some, Contains}
+use Rattle.std.specs.Prelude.{◌≡◌, ◌<◌, ◌≤◌, ◌⊎◌, ℕ, Bool, true, false, ◌&&◌, ◌||◌, not, cond, is_some, List, filter, length, Option, None, Some, Contains}
 use Rattle.std.specs.Option.{option_or}
 use Rattle.std.specs.FinMap.{get}
 use Rattle.std.specs.Ordering.{eq_by_cmp}
@@ -9,7 +9,7 @@ use Rattle.opa_line.specs.Lines.{StandsFor}
 use Rattle.opa_model.specs.declared.ids.AttrId.{AttrId}
 use Rattle.opa_cells.specs.Keys.{cell_cmp}
 use Rattle.opa_cells.specs.declared.instance.InstanceId.{InstanceId}
-use Rattle.opa_case.specs.Cases.{CaseView, Answer, list_of}
+use Rattle.opa_case.specs.Cases.{CaseView, Answer, IsLive, list_of}
 use Rattle.opa_case.specs.Live.{is_live, container_of}
 use Rattle.opa_case.specs.Shapes.{shape_of}
 use Rattle.opa_case.specs.Steps.{has_kind}
@@ -152,12 +152,20 @@ reached s = dirty (base_of s.rules) (facts_of s.old) (facts_of s.new)
 abbrev pub HaveKinds : Rulebase → Type 0
 HaveKinds r = (c : CaseView) → IsOf r c → (a : AttrId) (i : InstanceId) (d : ℕ) → has_kind ((shape_of r.model).attribute a).kind (value_at r c a i d) ≡ true
 
--- Both cases fit, values are of their kinds, what is kept is current, and the readers are those of the case that comes.
+-- Readers by which a change can be settled: those that stay are slots, and those of them that aren't fresh are exactly the ones
+-- that read the question afterwards. A reader of a line is of a higher rank.
+pub record CanTell (s : Shift) (readers : Question → Waiting) : Type 0 where
+  pub slots : (q : Question) (a : AttrId) (i : InstanceId) → Contains (readers q) (a, i) → IsLive s.new i → is_slot s.rules s.new a i ≡ true
+  pub read : (q : Question) (a : AttrId) (i : InstanceId) → Contains (readers q) (a, i) → IsLive s.new i → is_fresh s.rules s.old s.new a i ≡ false → Contains (new_reads s a i) q
+  pub higher : (m : AttrId) (j : InstanceId) (a : AttrId) (i : InstanceId) → Contains (readers (question.Attr m j)) (a, i) → rank_of s m < rank_of s a
+  pub all : (q : Question) (a : AttrId) (i : InstanceId) → is_slot s.rules s.new a i ≡ true → is_fresh s.rules s.old s.new a i ≡ false → Contains (new_reads s a i) q → Contains (readers q) (a, i)
+
+-- Both cases fit, values are of their kinds, what is kept is current, and the change can be settled by these readers.
 pub record CanSettle (s : Shift) (kept : Lines) (readers : Question → Waiting) : Type 0 where
   pub is : IsShift s
   pub kinds : HaveKinds s.rules
   pub current : AreCurrent s.rules s.old kept
-  pub exact : AreReaders s.rules s.new readers
+  pub tell : CanTell s readers
 
 -- What waits before anything is derived: dirty slots alone, each fresh slot, and each slot that reads a list or an answer that
 -- differs.

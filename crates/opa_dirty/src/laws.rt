@@ -82,3 +82,8 @@ pub fn readers_then()
 pub fn new_can_tell()
     ensures { by.NewCanTell }
 {}
+
+/// Where one list is set or forgotten and not written yet, the change is by lists.
+pub fn relisted_is_by_lists()
+    ensures { by.RelistedIsByLists }
+{}
