@@ -1,4 +1,6 @@
+pub mod Dropped
 pub mod Entering
+pub mod Leaving
 pub mod Listing
 pub mod Nexting
 pub mod Storing

@@ -1,3 +1,4 @@
+pub mod Drops
 pub mod Entries
 pub mod Nexts
 pub mod Stores

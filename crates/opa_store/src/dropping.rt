@@ -1,0 +1,62 @@
+// Lines of the slots of what goes are dropped.
+ghost use Rattle.std.specs.Prelude.{◌≡◌, ◌==◌, ◌&&◌, nat_lt, ℕ, [], None, cond};
+ghost use Rattle.std.specs.List.{list_any};
+ghost use Rattle.std.specs.FinMap as map;
+ghost use Rattle.opa_case.specs.Shapes.{shape_of};
+ghost use Rattle.opa_cells.specs.declared.instance.InstanceId.{InstanceId as Instance};
+ghost use Rattle.opa_store.specs.Drops.{has_slot, slot_at, AreDropped};
+ghost use Rattle.opa_store.specs.Stores.{kept_of};
+
+use crate::entry::Entry;
+use crate::store::Store;
+use opa_cells::{Cells, InstanceId};
+use opa_mean::owner_of;
+use opa_model::AttrId;
+use opa_tree::Rulebase;
+
+impl Store {
+    /// Takes out the lines of what goes, slot by slot. It takes no memory.
+    pub fn drop_slots(&mut self, base: &Rulebase, went: &[(InstanceId, InstanceId)])
+        requires { self.old.slots ≡ [] }
+        ensures kept { AreDropped base.now went.now (kept_of self.old) (kept_of self.new) }
+        ensures staged { self.new.slots ≡ [] }
+    {
+        drop_all(base, &mut self.entries, went);
+    }
+}
+
+/// Takes out the entries of what goes.
+fn drop_all(base: &Rulebase, entries: &mut Cells<Entry>, went: &[(InstanceId, InstanceId)])
+    ensures { (a : ℕ) (j : Instance) → map.get entries.new (a, j) ≡ cond (nat_lt a (shape_of base.now.model).attributes && list_any (λ g. slot_at base.now g.0 a j) went.now) None (map.get entries.old (a, j)) }
+{
+    for (inst, _) in went {
+        drop_of(base, entries, inst);
+    }
+}
+
+/// Takes out the entries of one instance.
+fn drop_of(base: &Rulebase, entries: &mut Cells<Entry>, inst: &InstanceId)
+    ensures { (a : ℕ) (j : Instance) → map.get entries.new (a, j) ≡ cond (nat_lt a (shape_of base.now.model).attributes && slot_at base.now inst.now a j) None (map.get entries.old (a, j)) }
+{
+    let count = base.model.attribute_count();
+    let mut number = 0;
+    while number < count {
+        drop_slot(base, entries, AttrId(number), inst);
+        number += 1;
+    }
+}
+
+fn drop_slot(base: &Rulebase, entries: &mut Cells<Entry>, attr: AttrId, inst: &InstanceId)
+    ensures { (a : ℕ) (j : Instance) → map.get entries.new (a, j) ≡ cond (a == attr.0 && slot_at base.now inst.now a j) None (map.get entries.old (a, j)) }
+{
+    if has_slot(base, attr, inst) {
+        entries.remove(attr.0, inst);
+    }
+}
+
+/// Whether the attribute has a rule, and is of the instance's entity: where the instance is live, this is a slot.
+pub fn has_slot(base: &Rulebase, attr: AttrId, inst: &InstanceId) -> bool
+    ensures { result ≡ has_slot base.now attr inst.now }
+{
+    inst.entity.0 == owner_of(&base.model, attr) && base.rules.of(attr).is_some()
+}
