@@ -64,7 +64,7 @@ module _ (r : Rulebase) (s : Slot) (old new : List Task) where
               let at : SamePair (s.attr, s.inst) (a, i) = sym (ap (λ (u : Task). (u.attr, u.inst)) is) ∙ e in
               inr (subst (λ (k : AttrId × InstanceId). Contains (pairs_of (s ∷ [])) k) at (contains_head (s.attr, s.inst) []))
 
-pairs-append : (xs ys : List Slot) → pairs_of (xs ++ ys) ≡ pairs_of xs ++ pairs_of ys
+pub pairs-append : (xs ys : List Slot) → pairs_of (xs ++ ys) ≡ pairs_of xs ++ pairs_of ys
 pairs-append [] ys = refl
 pairs-append (x ∷ xs) ys = ap (λ ps. (x.attr, x.inst) ∷ ps) (pairs-append xs ys)
 

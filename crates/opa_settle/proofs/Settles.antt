@@ -7,7 +7,7 @@ use Rattle.opa_date.specs.declared.TheConstants.{DAYS}
 use Rattle.opa_line.specs.Lines.{StandsFor}
 use Rattle.opa_model.specs.declared.ids.AttrId.{AttrId}
 use Rattle.opa_cells.specs.declared.instance.InstanceId.{InstanceId}
-use Rattle.opa_case.specs.Cases.{CaseView, Answer}
+use Rattle.opa_case.specs.Cases.{CaseView, Answer, IsLive}
 use Rattle.opa_case.specs.declared.question.Question.{Question}
 use Rattle.opa_case.specs.declared.question.Question.TheVariants as question
 use Rattle.opa_tree.specs.declared.rulebase.Rulebase.{Rulebase}
@@ -16,21 +16,18 @@ use Rattle.opa_mean.specs.Derivations.{MayDerive, derived}
 use Rattle.opa_mean.specs.Given.{base_of}
 use Rattle.opa_mean.specs.Rulebases.{value_at}
 use Rattle.opa_mean.specs.Slots.{is_slot}
-use Rattle.opa_mean.proofs.Everywhere.{each_of_all}
 use Rattle.opa_mean.proofs.SameBoth.{both_true}
 use Rattle.opa_dirty.specs.Dirty.{is_reached}
-use Rattle.opa_dirty.specs.Settling.{Lines, SameLines, Waiting, Shift, IsDirty, IsSettling, AreCurrent, AreSettled, CanSettle, SamePair, Stages, is_line_changed, new_reads, rank_of, laid_look, left}
+use Rattle.opa_dirty.specs.Settling.{Lines, SameLines, Waiting, Shift, IsDirty, IsSettling, AreCurrent, AreSettled, CanSettle, SamePair, Stages, is_line_changed, rank_of, laid_look, left}
 use Rattle.opa_dirty.specs.Slots.{pairs_of}
 use Rattle.opa_dirty.specs.declared.slot.Slot.{Slot}
 use Rattle.opa_dirty.proofs.Allowing.{may_derive}
 use Rattle.opa_dirty.proofs.Ending.{settles}
 use Rattle.opa_dirty.proofs.Looking.{given_right}
-use Rattle.opa_dirty.proofs.Naming.{slot_named}
 use Rattle.opa_dirty.proofs.Once.{one_left, none_left}
-use Rattle.opa_dirty.proofs.Parted.{parts_of}
 use Rattle.opa_dirty.proofs.Staging.{step_same, step_changed}
 use Rattle.opa_settle.specs.Orders.{StandBefore}
-use Rattle.opa_settle.specs.Tasks.{AreInOrder, AreRanked, ComesFirst, IsNoLater, Marks, slots_of}
+use Rattle.opa_settle.specs.Tasks.{AreInOrder, AreRanked, ComesFirst, IsNoLater, MarksLive, slots_of}
 use Rattle.opa_settle.specs.declared.task.Task.{Task}
 use Rattle.opa_settle.proofs.Marking.{out_map, task_at}
 
@@ -46,7 +43,7 @@ can_still s kept kept' readers same can = record {
   is = can.is;
   kinds = can.kinds;
   current = current_still s.rules s.old kept kept' same can.current;
-  exact = can.exact;
+  tell = can.tell;
 }
 
 module _ (s : Shift) (kept : Lines) (readers : Question → Waiting) (can : CanSettle s kept readers) (staged : Lines) (task : Task) (tasks : List Task)
@@ -96,7 +93,7 @@ module _ (s : Shift) (kept : Lines) (readers : Question → Waiting) (can : CanS
 
   -- a reader of the slot is of a higher rank
   pub reader_higher : (b : AttrId) (j : InstanceId) → Contains (readers (question.Attr task.attr task.inst)) (b, j) → rank_of s task.attr < rank_of s b
-  reader_higher b j m = (each_of_all _ (new_reads s b j) (slot_named s.rules s.new can.is.after b j (parts_of s.rules s.new b j (can.exact.slots (question.Attr task.attr task.inst) b j m)).live) (question.Attr task.attr task.inst) (can.exact.read (question.Attr task.attr task.inst) b j m)).2
+  reader_higher b j m = can.tell.higher task.attr task.inst b j m
 
   -- by code that stands for the rulebase
   module _ (b : Rulebase) (code : b ≡ s.rules) where
@@ -122,18 +119,18 @@ module _ (s : Shift) (kept : Lines) (readers : Question → Waiting) (can : CanS
       listed_counted listed listed' slot more = let c = counts in let l = ap length more ∙ length-append listed (slot ∷ []) in omega (arith, c, l)
 
       pub after_same : (flag : Bool) → flag ≡ is_line_changed kept task.attr task.inst line → flag ≡ false → IsSettling s staged' (slots_of tasks)
-      after_same flag is off = step_same s can.is kept can.current readers can.exact staged task.attr task.inst (slots_of tasks) h first_pair once_pair line right staged' stages (sym is ∙ off)
+      after_same flag is off = step_same s can.is kept can.current readers can.tell staged task.attr task.inst (slots_of tasks) h first_pair once_pair line right staged' stages (sym is ∙ off)
 
-      pub after_changed : (flag : Bool) → flag ≡ is_line_changed kept task.attr task.inst line → flag ≡ true → (slots : List Slot) → pairs_of slots ≡ readers (question.Attr task.attr task.inst) → (tasks' : List Task) → Marks s.rules slots tasks tasks' → IsSettling s staged' (slots_of tasks')
+      pub after_changed : (flag : Bool) → flag ≡ is_line_changed kept task.attr task.inst line → flag ≡ true → (slots : List Slot) → pairs_of slots ≡ readers (question.Attr task.attr task.inst) → (tasks' : List Task) → MarksLive s.rules s.new slots tasks tasks' → IsSettling s staged' (slots_of tasks')
       after_changed flag is on slots are tasks' m =
-          step_changed s can.is kept can.current readers can.exact staged task.attr task.inst (slots_of tasks) h first_pair once_pair line right staged' stages (sym is ∙ on) (slots_of tasks')
+          step_changed s can.is kept can.current readers can.tell staged task.attr task.inst (slots_of tasks) h first_pair once_pair line right staged' stages (sym is ∙ on) (slots_of tasks')
           (λ b j there. (m.waits b j).1 (inl there))
-          (λ b j there. (m.waits b j).1 (inr (subst (λ ps. Contains ps (b, j)) (sym are) there)))
+          (λ b j there. (m.waits b j).1 (inr (there.0, subst (λ ps. Contains ps (b, j)) (sym are) there.1)))
           (λ b j there. back b j ((m.waits b j).0 there))
         where
-          back : (b : AttrId) (j : InstanceId) → Contains (slots_of tasks) (b, j) ⊎ Contains (pairs_of slots) (b, j) → Contains (slots_of tasks) (b, j) ⊎ Contains (readers (question.Attr task.attr task.inst)) (b, j)
+          back : (b : AttrId) (j : InstanceId) → Contains (slots_of tasks) (b, j) ⊎ (IsLive s.new j × Contains (pairs_of slots) (b, j)) → Contains (slots_of tasks) (b, j) ⊎ (IsLive s.new j × Contains (readers (question.Attr task.attr task.inst)) (b, j))
           back b j (inl there) = inl there
-          back b j (inr k) = inr (subst (λ ps. Contains ps (b, j)) are k)
+          back b j (inr k) = inr (k.0, subst (λ ps. Contains ps (b, j)) are k.1)
 
   module _ (listed listed' : List Slot) (slot : Slot) (at : slot.attr ≡ task.attr) (more : listed' ≡ listed ++ slot ∷ []) (before : StandBefore s.rules listed (slots_of (task ∷ tasks))) where
     pub in_order : AreInOrder s.rules listed'
@@ -157,12 +154,12 @@ module _ (s : Shift) (kept : Lines) (readers : Question → Waiting) (can : CanS
         higher a (inl lower) = let up = reader_higher b j m in inl (omega (arith, lower, up))
         higher a (inr same) = let up = reader_higher b j m in let e = same.0 in inl (omega (arith, e, up))
 
-    pub stand_changed : (slots : List Slot) → pairs_of slots ≡ readers (question.Attr task.attr task.inst) → (tasks' : List Task) → Marks s.rules slots tasks tasks' → StandBefore s.rules listed' (slots_of tasks')
+    pub stand_changed : (slots : List Slot) → pairs_of slots ≡ readers (question.Attr task.attr task.inst) → (tasks' : List Task) → MarksLive s.rules s.new slots tasks tasks' → StandBefore s.rules listed' (slots_of tasks')
     stand_changed slots are tasks' m = record { order = in_order; before = λ b j there. go b j ((m.waits b j).0 there) }
       where
-        go : (b : AttrId) (j : InstanceId) → Contains (slots_of tasks) (b, j) ⊎ Contains (pairs_of slots) (b, j) → All (λ (x : Slot). IsNoLater s.rules x.attr b) listed'
+        go : (b : AttrId) (j : InstanceId) → Contains (slots_of tasks) (b, j) ⊎ (IsLive s.new j × Contains (pairs_of slots) (b, j)) → All (λ (x : Slot). IsNoLater s.rules x.attr b) listed'
         go b j (inl there) = stays b j there
-        go b j (inr k) = reads_later b j (subst (λ ps. Contains ps (b, j)) are k)
+        go b j (inr k) = reads_later b j (subst (λ ps. Contains ps (b, j)) are k.1)
 
 -- nothing is derived yet
 pub stand_first : (r : Rulebase) (slots : List Slot) → slots ≡ [] → (waiting : Waiting) → StandBefore r slots waiting

@@ -2,6 +2,7 @@
 use Rattle.std.specs.Prelude.{◌≡◌, ◌<◌, ◌≤◌, ◌⊎◌, ◌↔◌, List, map, Contains, AllPairs}
 use Rattle.opa_model.specs.declared.ids.AttrId.{AttrId}
 use Rattle.opa_cells.specs.declared.instance.InstanceId.{InstanceId}
+use Rattle.opa_case.specs.Cases.{CaseView, IsLive}
 use Rattle.opa_tree.specs.declared.rulebase.Rulebase.{Rulebase}
 use Rattle.opa_tree.specs.Ranks.{rank_at}
 use Rattle.opa_dirty.specs.Settling.{Waiting}
@@ -31,6 +32,11 @@ AddsTask r s old new = (u : Task) → Contains new u ↔ (Contains old u ⊎ (u 
 pub record Marks (r : Rulebase) (slots : List Slot) (old new : List Task) : Type 0 where
   pub ranked : AreRanked r old → AreRanked r new
   pub waits : (a : AttrId) (i : InstanceId) → Contains (slots_of new) (a, i) ↔ (Contains (slots_of old) (a, i) ⊎ Contains (pairs_of slots) (a, i))
+
+-- Slots of what is live in a case wait besides.
+pub record MarksLive (r : Rulebase) (c : CaseView) (slots : List Slot) (old new : List Task) : Type 0 where
+  pub ranked : AreRanked r old → AreRanked r new
+  pub waits : (a : AttrId) (i : InstanceId) → Contains (slots_of new) (a, i) ↔ (Contains (slots_of old) (a, i) ⊎ (IsLive c i × Contains (pairs_of slots) (a, i)))
 
 -- an attribute comes no later than another: it is of a lower rank, or of the same rank and declared no later
 abbrev pub IsNoLater : Rulebase → AttrId → AttrId → Type 0

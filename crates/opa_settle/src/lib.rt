@@ -4,6 +4,7 @@
 mod answer;
 mod changing;
 mod laws;
+mod living;
 mod settling;
 mod starting;
 mod task;
@@ -12,6 +13,7 @@ mod tasks;
 pub use answer::settle_answer;
 pub use changing::{Reading, start_change};
 pub use laws::same_are_current;
+pub use living::mark_live;
 pub use settling::settle;
 pub use starting::{mark, start_answer};
 pub use task::Task;

@@ -6,7 +6,7 @@ ghost use Rattle.opa_settle.specs.Orders.{StandBefore};
 ghost use Rattle.opa_settle.specs.declared.task.Task.{Task as TaskView};
 ghost use Rattle.opa_store.specs.Stores.{kept_of, staged_of};
 
-use crate::starting::mark;
+use crate::living::mark_live;
 use crate::task::Task;
 use crate::tasks::Tasks;
 use opa_case::Case;
@@ -99,7 +99,7 @@ fn settle_one<D: Derive, N: Next, R: Readers, L: Ledger>(
     let reading = readers.of_line(slot.attr, &slot.inst);
     let differs = store.derive(alloc, slot, code, next, steps)?;
     if differs {
-        mark(alloc, base, reading, tasks)?;
+        mark_live(alloc, base, next, reading, tasks)?;
         Ok(())
     } else {
         Ok(())

@@ -1,10 +1,25 @@
 use Rattle.std.proofs.Common.{refl}
-use Rattle.opa_dirty.specs.Settling.{shift}
+use Rattle.std.specs.Option.{option_copied}
+use Rattle.opa_dirty.specs.Settling.{IsShift, shift}
 use Rattle.opa_dirty.proofs.Ending.{laid_stay_current}
+use Rattle.opa_dirty.proofs.ListsBegin.{new_can_tell}
+use Rattle.opa_settle.proofs.Answered.{still_readers}
 use Rattle.opa_settle.proofs.Settles.{current_still}
 use Rattle.opa_store.specs.Nexts.{case_with}
 use Rattle.opa_store.specs.Stores.{kept_of, staged_of}
 use Rattle.opa_settle.proofs.answer.settle_answer.Goals as goal
+
+pub settle-requires-clause-can : goal.settle-requires-clause-can
+settle-requires-clause-can g c =
+    let next = c.args.next.now in
+    let is : IsShift (shift c.args.base.now next.case.now (case_with next)) = record { before = c.requires.before; after = c.requires.after } in
+    let then = still_readers c.args.base.now next.case.now next.attr next.inst.now (option_copied next.line) (g.R.Readers.readers c.args.readers.now) c.requires.readers in
+    record {
+      is = is;
+      kinds = c.requires.kinds;
+      current = c.requires.current;
+      tell = new_can_tell (shift c.args.base.now next.case.now (case_with next)) is (g.R.Readers.readers c.args.readers.now) then;
+    }
 
 pub returns-clause-current : goal.returns-clause-current
 returns-clause-current g c =

@@ -13,36 +13,36 @@ pub returns-in_err-differs-clause-order : goal.returns-in_err-differs-clause-ord
 returns-in_err-differs-clause-order g c =
     subst (λ (v : StoreView). AreInOrder c.args.base.now v.slots) (sym c.in_err-differs.ensures.unchanged) c.requires.before.order
 
-pub returns-in_err-mark-clause-order : goal.returns-in_err-mark-clause-order
-returns-in_err-mark-clause-order g c =
+pub returns-in_err-mark_live-clause-order : goal.returns-in_err-mark_live-clause-order
+returns-in_err-mark_live-clause-order g c =
     in_order (shift c.args.base.now c.args.held.now (g.N.Next.next c.args.next.now)) (kept_of c.args.store.now) (g.R.Readers.readers c.args.readers.now) c.requires.can (staged_of c.args.store.now) c.args.task c.args.tasks.now c.requires.ranked c.requires.first c.requires.once c.requires.settling c.args.store.now.slots c.derive.new.self.slots (record { attr = c.args.task.attr; inst = c.args.task.inst }) refl c.in_ok-differs.ensures.slots c.requires.before
 
-pub returns-in_err-mark-clause-counted : goal.returns-in_err-mark-clause-counted
-returns-in_err-mark-clause-counted g c =
+pub returns-in_err-mark_live-clause-counted : goal.returns-in_err-mark_live-clause-counted
+returns-in_err-mark_live-clause-counted g c =
     let d = c.in_ok-differs.ensures.derived in counted (shift c.args.base.now c.args.held.now (g.N.Next.next c.args.next.now)) (kept_of c.args.store.now) (g.R.Readers.readers c.args.readers.now) c.requires.can (staged_of c.args.store.now) c.args.task c.args.tasks.now c.requires.ranked c.requires.first c.requires.once c.requires.settling (g.D.Derive.stands_for c.args.code.now) c.requires.code d.0 d.1 (staged_of c.derive.new.self) d.2 c.args.steps.now c.derive.new.steps c.in_ok-differs.ensures.counted
 
-pub returns-in_ok-mark-clause-settling : goal.returns-in_ok-mark-clause-settling
-returns-in_ok-mark-clause-settling g c =
-    let d = c.in_ok-differs.ensures.derived in after_changed (shift c.args.base.now c.args.held.now (g.N.Next.next c.args.next.now)) (kept_of c.args.store.now) (g.R.Readers.readers c.args.readers.now) c.requires.can (staged_of c.args.store.now) c.args.task c.args.tasks.now c.requires.ranked c.requires.first c.requires.once c.requires.settling (g.D.Derive.stands_for c.args.code.now) c.requires.code d.0 d.1 (staged_of c.derive.new.self) d.2 c.in_ok-differs.differs d.3 c.if-differs.true c.of_line-reading.result.now c.of_line-reading.ensures c.mark.new.tasks c.in_ok-mark.ensures
+pub returns-in_ok-mark_live-clause-settling : goal.returns-in_ok-mark_live-clause-settling
+returns-in_ok-mark_live-clause-settling g c =
+    let d = c.in_ok-differs.ensures.derived in after_changed (shift c.args.base.now c.args.held.now (g.N.Next.next c.args.next.now)) (kept_of c.args.store.now) (g.R.Readers.readers c.args.readers.now) c.requires.can (staged_of c.args.store.now) c.args.task c.args.tasks.now c.requires.ranked c.requires.first c.requires.once c.requires.settling (g.D.Derive.stands_for c.args.code.now) c.requires.code d.0 d.1 (staged_of c.derive.new.self) d.2 c.in_ok-differs.differs d.3 c.if-differs.true c.of_line-reading.result.now c.of_line-reading.ensures c.mark_live.new.tasks c.in_ok-mark_live.ensures
 
-pub returns-in_ok-mark-clause-ranked : goal.returns-in_ok-mark-clause-ranked
-returns-in_ok-mark-clause-ranked g c =
-    c.in_ok-mark.ensures.ranked (ranked_rest (shift c.args.base.now c.args.held.now (g.N.Next.next c.args.next.now)) (kept_of c.args.store.now) (g.R.Readers.readers c.args.readers.now) c.requires.can (staged_of c.args.store.now) c.args.task c.args.tasks.now c.requires.ranked c.requires.first c.requires.once c.requires.settling)
+pub returns-in_ok-mark_live-clause-ranked : goal.returns-in_ok-mark_live-clause-ranked
+returns-in_ok-mark_live-clause-ranked g c =
+    c.in_ok-mark_live.ensures.ranked (ranked_rest (shift c.args.base.now c.args.held.now (g.N.Next.next c.args.next.now)) (kept_of c.args.store.now) (g.R.Readers.readers c.args.readers.now) c.requires.can (staged_of c.args.store.now) c.args.task c.args.tasks.now c.requires.ranked c.requires.first c.requires.once c.requires.settling)
 
-pub returns-in_ok-mark-clause-before : goal.returns-in_ok-mark-clause-before
-returns-in_ok-mark-clause-before g c =
-    stand_changed (shift c.args.base.now c.args.held.now (g.N.Next.next c.args.next.now)) (kept_of c.args.store.now) (g.R.Readers.readers c.args.readers.now) c.requires.can (staged_of c.args.store.now) c.args.task c.args.tasks.now c.requires.ranked c.requires.first c.requires.once c.requires.settling c.args.store.now.slots c.derive.new.self.slots (record { attr = c.args.task.attr; inst = c.args.task.inst }) refl c.in_ok-differs.ensures.slots c.requires.before c.of_line-reading.result.now c.of_line-reading.ensures c.mark.new.tasks c.in_ok-mark.ensures
+pub returns-in_ok-mark_live-clause-before : goal.returns-in_ok-mark_live-clause-before
+returns-in_ok-mark_live-clause-before g c =
+    stand_changed (shift c.args.base.now c.args.held.now (g.N.Next.next c.args.next.now)) (kept_of c.args.store.now) (g.R.Readers.readers c.args.readers.now) c.requires.can (staged_of c.args.store.now) c.args.task c.args.tasks.now c.requires.ranked c.requires.first c.requires.once c.requires.settling c.args.store.now.slots c.derive.new.self.slots (record { attr = c.args.task.attr; inst = c.args.task.inst }) refl c.in_ok-differs.ensures.slots c.requires.before c.of_line-reading.result.now c.of_line-reading.ensures c.mark_live.new.tasks c.in_ok-mark_live.ensures
 
-pub returns-in_ok-mark-clause-order : goal.returns-in_ok-mark-clause-order
-returns-in_ok-mark-clause-order g c =
+pub returns-in_ok-mark_live-clause-order : goal.returns-in_ok-mark_live-clause-order
+returns-in_ok-mark_live-clause-order g c =
     in_order (shift c.args.base.now c.args.held.now (g.N.Next.next c.args.next.now)) (kept_of c.args.store.now) (g.R.Readers.readers c.args.readers.now) c.requires.can (staged_of c.args.store.now) c.args.task c.args.tasks.now c.requires.ranked c.requires.first c.requires.once c.requires.settling c.args.store.now.slots c.derive.new.self.slots (record { attr = c.args.task.attr; inst = c.args.task.inst }) refl c.in_ok-differs.ensures.slots c.requires.before
 
-pub returns-in_ok-mark-clause-fewer : goal.returns-in_ok-mark-clause-fewer
-returns-in_ok-mark-clause-fewer g c =
+pub returns-in_ok-mark_live-clause-fewer : goal.returns-in_ok-mark_live-clause-fewer
+returns-in_ok-mark_live-clause-fewer g c =
     let d = c.in_ok-differs.ensures.derived in fewer (shift c.args.base.now c.args.held.now (g.N.Next.next c.args.next.now)) (kept_of c.args.store.now) (g.R.Readers.readers c.args.readers.now) c.requires.can (staged_of c.args.store.now) c.args.task c.args.tasks.now c.requires.ranked c.requires.first c.requires.once c.requires.settling (g.D.Derive.stands_for c.args.code.now) c.requires.code d.0 d.1 (staged_of c.derive.new.self) d.2
 
-pub returns-in_ok-mark-clause-counted : goal.returns-in_ok-mark-clause-counted
-returns-in_ok-mark-clause-counted g c =
+pub returns-in_ok-mark_live-clause-counted : goal.returns-in_ok-mark_live-clause-counted
+returns-in_ok-mark_live-clause-counted g c =
     let d = c.in_ok-differs.ensures.derived in counted (shift c.args.base.now c.args.held.now (g.N.Next.next c.args.next.now)) (kept_of c.args.store.now) (g.R.Readers.readers c.args.readers.now) c.requires.can (staged_of c.args.store.now) c.args.task c.args.tasks.now c.requires.ranked c.requires.first c.requires.once c.requires.settling (g.D.Derive.stands_for c.args.code.now) c.requires.code d.0 d.1 (staged_of c.derive.new.self) d.2 c.args.steps.now c.derive.new.steps c.in_ok-differs.ensures.counted
 
 pub returns-else-differs-clause-settling : goal.returns-else-differs-clause-settling
@@ -69,12 +69,12 @@ pub returns-else-differs-clause-counted : goal.returns-else-differs-clause-count
 returns-else-differs-clause-counted g c =
     let d = c.in_ok-differs.ensures.derived in counted (shift c.args.base.now c.args.held.now (g.N.Next.next c.args.next.now)) (kept_of c.args.store.now) (g.R.Readers.readers c.args.readers.now) c.requires.can (staged_of c.args.store.now) c.args.task c.args.tasks.now c.requires.ranked c.requires.first c.requires.once c.requires.settling (g.D.Derive.stands_for c.args.code.now) c.requires.code d.0 d.1 (staged_of c.derive.new.self) d.2 c.args.steps.now c.derive.new.steps c.in_ok-differs.ensures.counted
 
-pub returns-in_err-mark-clause-listed : goal.returns-in_err-mark-clause-listed
-returns-in_err-mark-clause-listed g c =
+pub returns-in_err-mark_live-clause-listed : goal.returns-in_err-mark_live-clause-listed
+returns-in_err-mark_live-clause-listed g c =
     let d = c.in_ok-differs.ensures.derived in listed_counted (shift c.args.base.now c.args.held.now (g.N.Next.next c.args.next.now)) (kept_of c.args.store.now) (g.R.Readers.readers c.args.readers.now) c.requires.can (staged_of c.args.store.now) c.args.task c.args.tasks.now c.requires.ranked c.requires.first c.requires.once c.requires.settling (g.D.Derive.stands_for c.args.code.now) c.requires.code d.0 d.1 (staged_of c.derive.new.self) d.2 c.args.store.now.slots c.derive.new.self.slots (record { attr = c.args.task.attr; inst = c.args.task.inst }) c.in_ok-differs.ensures.slots
 
-pub returns-in_ok-mark-clause-listed : goal.returns-in_ok-mark-clause-listed
-returns-in_ok-mark-clause-listed g c =
+pub returns-in_ok-mark_live-clause-listed : goal.returns-in_ok-mark_live-clause-listed
+returns-in_ok-mark_live-clause-listed g c =
     let d = c.in_ok-differs.ensures.derived in listed_counted (shift c.args.base.now c.args.held.now (g.N.Next.next c.args.next.now)) (kept_of c.args.store.now) (g.R.Readers.readers c.args.readers.now) c.requires.can (staged_of c.args.store.now) c.args.task c.args.tasks.now c.requires.ranked c.requires.first c.requires.once c.requires.settling (g.D.Derive.stands_for c.args.code.now) c.requires.code d.0 d.1 (staged_of c.derive.new.self) d.2 c.args.store.now.slots c.derive.new.self.slots (record { attr = c.args.task.attr; inst = c.args.task.inst }) c.in_ok-differs.ensures.slots
 
 pub returns-else-differs-clause-listed : goal.returns-else-differs-clause-listed
