@@ -42,3 +42,4 @@ pub mod Moving
 pub mod Refusing
 pub mod Overlaid
 pub mod Touching
+pub mod GoingNames

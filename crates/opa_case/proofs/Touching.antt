@@ -77,7 +77,7 @@ row_apart s i number row rest q j h =
       | false ↦ λ _ g. inr g
     ] refl h
 
-list_is : (number : ℕ) (inst : InstanceId) (q : ℕ) (j : InstanceId) → is_list number inst q j ≡ (q == number && is_same j inst)
+pub list_is : (number : ℕ) (inst : InstanceId) (q : ℕ) (j : InstanceId) → is_list number inst q j ≡ (q == number && is_same j inst)
 list_is number inst q j = parts (nat_cmp q number) (instance_cmp j inst) ∙ ap (λ b. b && is_same j inst) (one_number q number)
 
 -- The sources of a name, one by one.

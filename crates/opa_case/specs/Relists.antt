@@ -1,5 +1,5 @@
 -- A case with one list that is set or forgotten.
-use Rattle.std.specs.Prelude.{◌≡◌, true, false, cond, is_some, Option, None, Some}
+use Rattle.std.specs.Prelude.{◌≡◌, ℕ, List, true, false, cond, is_some, Option, None, Some}
 use Rattle.std.specs.List.{list_all}
 use Rattle.std.specs.Option.{option_or}
 use Rattle.std.specs.FinMap.{FinMap, get, insert, remove}
@@ -13,6 +13,8 @@ use Rattle.opa_case.specs.Live.{Names, Population, is_live, container_of}
 use Rattle.opa_case.specs.Homes.{home_of}
 use Rattle.opa_case.specs.Cases.{CaseView}
 use Rattle.opa_case.specs.Steps.{settle}
+use Rattle.opa_case.specs.Turns.{is_among}
+use Rattle.opa_case.specs.Listed.{IndexEntries, is_indexed}
 use Rattle.opa_case.specs.Fits.{Known}
 
 -- known lists, with one that is known, or unknown
@@ -27,6 +29,10 @@ relisted s c r i o = settle s (lists_with c.lists r i o) c.answers
 -- What goes has a home among the first, what comes among the others; all else stands where it stood.
 abbrev pub AreMoves : FinMap cell_cmp InstanceId → FinMap cell_cmp InstanceId → Population → Population → Type 0
 AreMoves gone come before after = (x : InstanceId) → container_of after x ≡ cond (is_some (home_of gone x)) None (option_or (home_of come x) (container_of before x))
+
+-- Of each entity the index has the names of what goes, each with this source, and no others.
+abbrev pub AreNamesOf : Population → IndexEntries → InstanceId → Type 0
+AreNamesOf gone index at = (e : ℕ) (n : List ℕ) → is_indexed index e n at ≡ is_among gone (named e n)
 
 -- each name in a reference list is live
 abbrev pub AreReferred : Shape → FinMap cell_cmp Names → Population → Type 0

@@ -12,6 +12,7 @@ mod counts;
 mod declared;
 mod dropping;
 mod every;
+mod going_names;
 mod homes;
 mod index;
 mod instances;

@@ -15,6 +15,7 @@ ghost use Rattle.opa_case.specs.declared.change.Refusal.TheVariants as refusals;
 use crate::case::Case;
 use crate::change::Refusal;
 use crate::declared::bond_of;
+use crate::going_names::names_of;
 use crate::homes::add_homes;
 use crate::list_faults::{is_misplaced, list_fault};
 use crate::relisted::Relisted;
@@ -235,6 +236,7 @@ fn overlay<'a>(
 {
     let gone = homes_of(case.alloc, inst, &went)?;
     let come = homes_of(case.alloc, inst, &came)?;
+    let lost = names_of(case.alloc, &went, inst)?;
     Ok(Relisted {
         model,
         case,
@@ -246,6 +248,7 @@ fn overlay<'a>(
         gone,
         come,
         every,
+        lost,
     })
 }
 

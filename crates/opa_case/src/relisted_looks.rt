@@ -3,19 +3,21 @@ ghost use Rattle.std.specs.Prelude.{◌≡◌, ℕ, List as Seq, cond, not, is_s
 ghost use Rattle.std.specs.List.{list_any};
 ghost use Rattle.std.specs.Option.{option_copied, option_or};
 ghost use Rattle.std.specs.FinMap as map;
-ghost use Rattle.opa_cells.specs.Instances.{named};
 ghost use Rattle.opa_case.specs.Cases as cases;
 ghost use Rattle.opa_case.specs.Homes.{home_of};
+ghost use Rattle.opa_case.specs.Listed.{is_indexed};
 ghost use Rattle.opa_case.specs.Live as live;
 ghost use Rattle.opa_case.specs.Overlays.{relisted_case};
 ghost use Rattle.opa_case.specs.Relists.{lists_with};
 ghost use Rattle.opa_case.specs.Shapes.{shape_of};
 ghost use Rattle.opa_case.specs.Steps.{rel as relation, stays};
-ghost use Rattle.opa_case.specs.Turns.{Turns, is_among};
+ghost use Rattle.opa_case.specs.Turns.{Turns};
 
 use crate::case::Case;
 use crate::changed::is_at;
 use crate::declared::bond_of;
+use crate::going_names::is_named;
+use crate::index::Index;
 use crate::relisted::Relisted;
 use opa_cells::{Cells, InstanceId};
 use opa_io::{List, Txt};
@@ -122,7 +124,7 @@ impl<'a> Relisted<'a> {
             return false;
         }
         let bond = bond_of(self.model, rel.0);
-        bond.contains || !names_one(&self.went, bond.target, names.as_slice())
+        bond.contains || !names_one(&self.lost, bond.target, names.as_slice(), self.inst)
     }
 }
 
@@ -144,15 +146,9 @@ fn home_then<'a>(
     }
 }
 
-/// Whether one of the names of an entity's instances goes.
-fn names_one(went: &[(InstanceId, InstanceId)], entity: u32, names: &[Txt]) -> bool
-    ensures { result ≡ list_any (λ n. is_among went.now (named entity n)) names.now }
+/// Whether one of the names of an entity's instances has a source.
+fn names_one(lost: &Index, entity: u32, names: &[Txt], at: &InstanceId) -> bool
+    ensures { result ≡ list_any (λ n. is_indexed lost.now.entries entity n at.now) names.now }
 {
-    names.iter().any(|name| goes(went, entity, name))
-}
-
-fn goes(went: &[(InstanceId, InstanceId)], entity: u32, name: &Txt) -> bool
-    ensures { result ≡ is_among went.now (named entity name.now) }
-{
-    went.iter().any(|pair| pair.0.is(entity, name))
+    names.iter().any(|name| is_named(lost, entity, name, at))
 }
