@@ -6,7 +6,6 @@ use Rattle.std.proofs.lemmas.List.Elements.{filter_map-append}
 use Rattle.opa_model.specs.declared.ids.AttrId.{AttrId}
 use Rattle.opa_cells.specs.declared.instance.InstanceId.{InstanceId}
 use Rattle.opa_case.specs.Cases.{CaseView}
-use Rattle.opa_case.specs.Instances.{AreInstances}
 use Rattle.opa_case.specs.Shapes.{shape_of}
 use Rattle.opa_dirty.specs.Slots.{pairs_of}
 use Rattle.opa_dirty.specs.declared.slot.Slot.{Slot}
@@ -22,9 +21,10 @@ use Rattle.opa_mean.proofs.Filtered.{Ordered, filter_out, map_out, filter_map_no
 use Rattle.opa_mean.proofs.SlotsAre.{slots_are_live, instances_differ}
 use Rattle.opa_changes.specs.Among.{HaveChanges, ByRank, AreTold, Marks, is_marked, AreMarked, marked_among, AreChosen}
 use Rattle.opa_changes.specs.Walking.{with_listed}
+use Rattle.opa_changes.specs.Wanted.{AreAmong}
 use Rattle.opa_changes.specs.declared.told_attrs.ToldAttrs.{ToldAttrs}
 use Rattle.opa_changes.proofs.Rising.{ruled_rises, never_itself, never_both, in_order}
-use Rattle.opa_changes.proofs.Walked.{listed_with}
+use Rattle.opa_changes.proofs.Walked.{listed_wanted}
 
 -- ---- lists
 
@@ -156,30 +156,41 @@ module _ (r : Rulebase) (c c' : CaseView) (is' : IsOf r c') (ss : List Slot) (ha
       filter_map_flat change with_each (ruled (base_of r))
       ∙ flat_skips (ByRank (base_of r)) (never_itself (base_of r)) (never_both (base_of r)) each (ruled (base_of r)) told.attrs (ruled_rises (base_of r)) (in_order (ByRank (base_of r)) told.attrs are.ordered) attr_ruled none_told
 
-  -- those that are marked
-  module _ (live : List (List InstanceId)) (lists : AreInstances (length r.model.entities) c' live) (m : Marks) (marked : AreMarked ss m) where
+  -- those that are marked, of what is wanted
+  module _ (live : List (List InstanceId)) (w : InstanceId → Bool) (lists : AreAmong (length r.model.entities) c'.live w live) (here : (s : Slot) → Contains ss s → w s.inst ≡ true) (m : Marks) (marked : AreMarked ss m) where
     not_both : (x : AttrId × InstanceId) → is_marked m x ≡ false → Contains (pairs_of ss) x → ⊥
     not_both x off h = let s = handed x h in cc (off, subst (λ (p : AttrId × InstanceId). is_marked m p ≡ true) s.1.1 (marked s.0 s.1.0))
 
-    listed : (a : AttrId) → with_listed (shape_of r.model) live a ≡ with_each a
-    listed a = listed_with r c' is' live lists a
+    not_wanted : (x : AttrId × InstanceId) → w x.1 ≡ false → Contains (pairs_of ss) x → ⊥
+    not_wanted x off h = let s = handed x h in cc (off, subst (λ (p : AttrId × InstanceId). w p.1 ≡ true) s.1.1 (here s.0 s.1.0))
+
+    abbrev wanted_with : AttrId → List (AttrId × InstanceId)
+    wanted_with a = filter (λ x. w x.1) (with_each a)
+
+    listed : (a : AttrId) → with_listed (shape_of r.model) live a ≡ wanted_with a
+    listed a = listed_wanted r c' is' live w lists a
+
+    abbrev marked_with : AttrId → List (AttrId × InstanceId)
+    marked_with a = filter (is_marked m) (with_listed (shape_of r.model) live a)
 
     pub chosen_by_marks : AreChosen r c c' (marked_among (shape_of r.model) live m told.attrs)
     chosen_by_marks = record {
       live = record { each = λ a i h. alive (a, i) h };
-      same = filter_map_flat change (λ a. filter (is_marked m) (with_listed (shape_of r.model) live a)) told.attrs ∙ flat_agrees _ each told.attrs same ∙ sym by_attrs;
+      same = filter_map_flat change marked_with told.attrs ∙ flat_agrees _ each told.attrs same ∙ sym by_attrs;
     }
       where
         alive : (x : AttrId × InstanceId) → Contains (marked_among (shape_of r.model) live m told.attrs) x → is_slot r c' x.0 x.1 ≡ true
         alive x h =
-            let y = flat_out (λ a. filter (is_marked m) (with_listed (shape_of r.model) live a)) told.attrs x h in
+            let y = flat_out marked_with told.attrs x h in
             let k = filter_out (is_marked m) (with_listed (shape_of r.model) live y.0) x y.1.1 in
-            is_live_slot y.0 x (attr_ruled y.0 y.1.0) (subst (λ (xs : List (AttrId × InstanceId)). Contains xs x) (listed y.0) k.0)
+            let l = filter_out (λ x. w x.1) (with_each y.0) x (subst (λ (xs : List (AttrId × InstanceId)). Contains xs x) (listed y.0) k.0) in
+            is_live_slot y.0 x (attr_ruled y.0 y.1.0) l.0
 
-        same : (a : AttrId) → Contains told.attrs a → filter_map change (filter (is_marked m) (with_listed (shape_of r.model) live a)) ≡ each a
+        same : (a : AttrId) → Contains told.attrs a → filter_map change (marked_with a) ≡ each a
         same a h =
             ap (λ (xs : List (AttrId × InstanceId)). filter_map change (filter (is_marked m) xs)) (listed a)
-            ∙ filter_kept (is_marked m) change (with_each a) (λ x k off. unchanged x (is_live_slot a x (attr_ruled a h) k) (not_both x off))
+            ∙ filter_kept (is_marked m) change (wanted_with a) (λ x k off. unchanged x (is_live_slot a x (attr_ruled a h) (filter_out (λ x. w x.1) (with_each a) x k).0) (not_both x off))
+            ∙ filter_kept (λ x. w x.1) change (with_each a) (λ x k off. unchanged x (is_live_slot a x (attr_ruled a h) k) (not_wanted x off))
 
   -- those that are handed in, where each has an attribute of its own
   module _ (own : told.single ≡ true) where
@@ -221,9 +232,3 @@ module _ (r : Rulebase) (c c' : CaseView) (is' : IsOf r c') (ss : List Slot) (ha
       live = record { each = have.live };
       same = sym (by_attrs ∙ ap (flat_map each) (are.own own) ∙ one_by_one ss one_slot);
     }
-
-pub have_same : (r r' : Rulebase) (o n n' : CaseView) (xs : List (AttrId × InstanceId)) → r' ≡ r → n' ≡ n → HaveChanges r o n xs → HaveChanges r' o n' xs
-have_same r r' o n n' xs e g h = subst (λ (q : Rulebase). HaveChanges q o n' xs) (sym e) (subst (λ (k : CaseView). HaveChanges r o k xs) (sym g) h)
-
-pub chosen_same : (r r' : Rulebase) (o n n' : CaseView) (xs ys : List (AttrId × InstanceId)) → r' ≡ r → n' ≡ n → ys ≡ xs → AreChosen r' o n' xs → AreChosen r o n ys
-chosen_same r r' o n n' xs ys e g same h = subst (λ (zs : List (AttrId × InstanceId)). AreChosen r o n zs) (sym same) (subst (λ (q : Rulebase). AreChosen q o n xs) e (subst (λ (k : CaseView). AreChosen r' o k xs) g h))

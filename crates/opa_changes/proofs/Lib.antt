@@ -11,3 +11,5 @@ pub mod Choosing
 pub mod Taking
 pub mod Unchanged
 pub mod Alive
+pub mod Wanting
+pub mod Upward

@@ -17,7 +17,7 @@ use Rattle.opa_changes.specs.Among.{ByRank, InOrder, Behind, AreTold, Marks, Are
 use Rattle.opa_changes.specs.declared.told_attrs.ToldAttrs.{ToldAttrs}
 use Rattle.opa_changes.proofs.Rising.{before_later, in_order, in_order_back}
 
-only_one : {X : Type 0} (x y : X) → Contains (x ∷ []) y → x ≡ y
+pub only_one : {X : Type 0} (x y : X) → Contains (x ∷ []) y → x ≡ y
 only_one x y h = go (contains_cases x y [] h)
   where
     go : (x ≡ y) ⊎ Contains [] y → x ≡ y

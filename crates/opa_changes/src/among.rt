@@ -4,28 +4,30 @@ ghost use Rattle.std.specs.List.{AllZip};
 ghost use Rattle.opa_case.specs.Cases.{CaseView};
 ghost use Rattle.opa_changes.specs.Among.{AreChosen, AreTold, HaveChanges};
 ghost use Rattle.opa_changes.specs.Telling.{TellsOf};
+ghost use Rattle.opa_changes.specs.declared.told_attrs.ToldAttrs.{ToldAttrs as ToldView};
 ghost use Rattle.opa_dirty.specs.Slots.{pairs_of};
 ghost use Rattle.opa_mean.specs.Changes as meant;
 ghost use Rattle.opa_mean.specs.Given.{base_of, facts_of};
-ghost use Rattle.opa_mean.specs.Rulebases.{IsOf};
 
 use crate::attrs::attributes_of;
+use crate::instances::instances_among;
 use crate::lined::{HeldLines, Lined};
 use crate::marks::{marked_among, marks_of};
 use crate::tell::lined_changes;
 use crate::told_attrs::ToldAttrs;
-use crate::walk::live_slots;
-use opa_case::{Case, InstanceId, live_instances};
+use crate::walk::lined_slots;
+use crate::wanted::wanted_by;
+use opa_case::InstanceId;
 use opa_dirty::Slot;
 use opa_io::{List, NoMemory};
 use opa_listen::Change;
 use opa_mean::Held;
 use opa_model::AttrId;
-use opa_tree::Rulebase;
 use std::alloc::Global;
 
 /// The same as `changes`, where the slots that may differ are known: they alone are looked at. Where several have one attribute,
-/// the instances are gone through besides. Where they don't stand by rank and then in declared order, all slots are.
+/// the lists that contain them are gone through besides. Where they don't stand by rank and then in declared order, all slots
+/// are.
 pub fn changes_among<H: Held, K: Held>(
     alloc: Global,
     old: &H,
@@ -40,80 +42,88 @@ pub fn changes_among<H: Held, K: Held>(
 {
     let before = HeldLines { source: old };
     let after = HeldLines { source: new };
-    let case = new.case();
-    let told = changes_over(alloc, case, &before, &after, slots)?;
+    let told = changes_over(alloc, &before, &after, slots)?;
     Ok(told)
 }
 
-/// The same by what tells lines. The case has the instances of the one that comes.
+/// The same by what tells lines.
 pub fn changes_over<H: Lined, K: Lined>(
     alloc: Global,
-    case: &Case,
     old: &H,
     new: &K,
     slots: &[Slot],
 ) -> Result<Vec<Change>, NoMemory>
     requires same { H.rules old.now ≡ K.rules new.now }
-    requires fits { IsOf (K.rules new.now) case.now }
-    requires live { (K.over new.now).live ≡ case.now.live }
     requires slots { HaveChanges (K.rules new.now) (H.over old.now) (K.over new.now) (pairs_of slots.now) }
     ensures { IfOk result (λ told. AllZip (TellsOf (K.rules new.now).model)
         (meant.changes (base_of (K.rules new.now)) (facts_of (H.over old.now)) (facts_of (K.over new.now)))
         told.items) }
 {
-    let base = new.base();
-    let chosen = chosen_or_all(alloc, base, case, slots)?;
+    let chosen = chosen_or_all(alloc, new, slots)?;
     let items = chosen.as_slice();
     let told = lined_changes(alloc, old, new, items)?;
     Ok(told)
 }
 
 /// The slots in their order: those that are handed in, or all where these stand in another one.
-fn chosen_or_all(
+fn chosen_or_all<K: Lined>(
     alloc: Global,
-    base: &Rulebase,
-    case: &Case,
+    held: &K,
     slots: &[Slot],
 ) -> Result<List<(AttrId, InstanceId)>, NoMemory>
-    requires { IsOf base.now case.now }
-    ensures { (c c' : CaseView) → IsOf base.now c' → c'.live ≡ case.now.live → HaveChanges base.now c c' (pairs_of slots.now) → IfOk result (AreChosen base.now c c') }
+    ensures { (c : CaseView) → HaveChanges (K.rules held.now) c (K.over held.now) (pairs_of slots.now) → IfOk result (AreChosen (K.rules held.now) c (K.over held.now)) }
 {
+    let base = held.base();
     let found = attributes_of(alloc, base, slots)?;
     match found {
         None => {
-            let all = live_slots(alloc, base, case)?;
+            let all = lined_slots(alloc, held)?;
             Ok(all)
         }
         Some(attrs) => {
-            let chosen = chosen_slots(alloc, base, case, slots, &attrs)?;
+            let chosen = chosen_slots(alloc, held, slots, &attrs)?;
             Ok(chosen)
         }
     }
 }
 
 /// The slots in their order: those that are handed in, where no two have one attribute.
-fn chosen_slots(
+fn chosen_slots<K: Lined>(
     alloc: Global,
-    base: &Rulebase,
-    case: &Case,
+    held: &K,
     slots: &[Slot],
     told: &ToldAttrs,
 ) -> Result<List<(AttrId, InstanceId)>, NoMemory>
-    requires fits { IsOf base.now case.now }
-    requires told { AreTold (base_of base.now) slots.now told.now }
-    ensures { (c c' : CaseView) → IsOf base.now c' → c'.live ≡ case.now.live → HaveChanges base.now c c' (pairs_of slots.now) → IfOk result (AreChosen base.now c c') }
+    requires { AreTold (base_of (K.rules held.now)) slots.now told.now }
+    ensures { (c : CaseView) → HaveChanges (K.rules held.now) c (K.over held.now) (pairs_of slots.now) → IfOk result (AreChosen (K.rules held.now) c (K.over held.now)) }
 {
     if told.single {
+        let _base = held.base();
         let all = as_pairs(alloc, slots)?;
         Ok(all)
     } else {
-        let live = live_instances(alloc, &base.model, &base.ruled, case)?;
-        let marks = marks_of(alloc, slots)?;
-        let lists = live.as_slice();
         let attrs = told.attrs.as_slice();
-        let all = marked_among(alloc, &base.model, lists, &marks, attrs)?;
+        let all = marked_slots(alloc, held, slots, attrs)?;
         Ok(all)
     }
+}
+
+/// The slots in the order of their attributes, and then in instance order.
+fn marked_slots<K: Lined>(
+    alloc: Global,
+    held: &K,
+    slots: &[Slot],
+    attrs: &[AttrId],
+) -> Result<List<(AttrId, InstanceId)>, NoMemory>
+    ensures { (c : CaseView) (told : ToldView) → told.attrs ≡ attrs.now → AreTold (base_of (K.rules held.now)) slots.now told → HaveChanges (K.rules held.now) c (K.over held.now) (pairs_of slots.now) → IfOk result (AreChosen (K.rules held.now) c (K.over held.now)) }
+{
+    let base = held.base();
+    let wanted = wanted_by(alloc, held, slots)?;
+    let live = instances_among(alloc, held, Some(&wanted))?;
+    let marks = marks_of(alloc, slots)?;
+    let lists = live.as_slice();
+    let all = marked_among(alloc, &base.model, lists, &marks, attrs)?;
+    Ok(all)
 }
 
 fn as_pairs(alloc: Global, slots: &[Slot]) -> Result<List<(AttrId, InstanceId)>, NoMemory>

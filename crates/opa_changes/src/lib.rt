@@ -3,6 +3,7 @@
 
 mod among;
 mod attrs;
+mod instances;
 mod laws;
 mod lined;
 mod lines;
@@ -13,6 +14,7 @@ mod reach;
 mod tell;
 mod told_attrs;
 mod walk;
+mod wanted;
 
 pub use among::{changes_among, changes_over};
 pub use laws::{dirty_have_changes, told_once};

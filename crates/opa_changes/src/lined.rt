@@ -1,6 +1,8 @@
 // What tells the lines that are held, without the case itself.
 ghost use Rattle.std.specs.Prelude.{◌≡◌, is_some, IfSome};
-ghost use Rattle.opa_case.specs.Cases.{CaseView};
+ghost use Rattle.std.specs.Option.{option_copied};
+ghost use Rattle.opa_case.specs.Cases.{CaseView, list_of};
+ghost use Rattle.opa_case.specs.Live.{container_of};
 ghost use Rattle.opa_date.specs.declared.TheConstants.{DAYS};
 ghost use Rattle.opa_line.specs.Lines.{StandsFor};
 ghost use Rattle.opa_mean.specs.Holding.{has_line};
@@ -8,14 +10,15 @@ ghost use Rattle.opa_mean.specs.Rulebases.{IsOf, value_at};
 ghost use Rattle.opa_tree.specs.declared.rulebase.Rulebase.{Rulebase as Rules};
 
 use opa_case::InstanceId;
+use opa_io::{List, Txt};
 use opa_line::Line;
 use opa_mean::Held;
-use opa_model::AttrId;
+use opa_model::{AttrId, RelId};
 use opa_tree::Rulebase;
 use opa_value::Value;
 
-/// What tells the lines over a rulebase and a case that fits it, as `Held` does. The case itself needn't be there: it may be one
-/// that comes.
+/// What tells lines, lists and containers over a rulebase and a case that fits it, as `Held` does. The case itself needn't be
+/// there: it may be one that comes.
 pub trait Lined {
     ghost rules: { Self → Rules };
 
@@ -30,6 +33,12 @@ pub trait Lined {
     fn line(&self, attr: AttrId, inst: &InstanceId) -> Option<&Line<Value>>
         ensures value { IfSome result (λ line. StandsFor DAYS (value_at (rules self.now) (over self.now) attr inst.now) line.now) }
         ensures none { is_some result ≡ has_line (rules self.now) (over self.now) attr inst.now };
+
+    fn list_of(&self, rel: RelId, inst: &InstanceId) -> Option<&List<Txt>>
+        ensures { option_copied result ≡ list_of (over self.now) rel inst.now };
+
+    fn container_of(&self, inst: &InstanceId) -> Option<&InstanceId>
+        ensures { option_copied result ≡ container_of (over self.now).live inst.now };
 }
 
 /// What is held, as what tells lines.
@@ -50,5 +59,13 @@ impl<'a, H: Held> Lined for HeldLines<'a, H> {
 
     fn line(&self, attr: AttrId, inst: &InstanceId) -> Option<&Line<Value>> {
         self.source.line(attr, inst)
+    }
+
+    fn list_of(&self, rel: RelId, inst: &InstanceId) -> Option<&List<Txt>> {
+        self.source.case().list_of(rel, inst)
+    }
+
+    fn container_of(&self, inst: &InstanceId) -> Option<&InstanceId> {
+        self.source.case().container_of(inst)
     }
 }

@@ -6,6 +6,8 @@ ghost use Rattle.opa_mean.specs.Changes as meant;
 ghost use Rattle.opa_mean.specs.Given.{base_of, facts_of};
 ghost use Rattle.opa_mean.specs.Rulebases.{IsOf};
 
+use crate::instances::instances_among;
+use crate::lined::Lined;
 use crate::order::by_rank;
 use opa_case::{Case, InstanceId, instances_of, live_instances};
 use opa_io::{List, NoMemory};
@@ -43,6 +45,22 @@ pub fn live_slots(
     ensures { IfOk result (λ all. all ≡ meant.slots (base_of base.now) (facts_of case.now)) }
 {
     let live = live_instances(alloc, &base.model, &base.ruled, case)?;
+    let order = by_rank(alloc, base)?;
+    let attrs = order.as_slice();
+    let lists = live.as_slice();
+    let all = with_instances(alloc, base, attrs, lists)?;
+    Ok(all)
+}
+
+/// The same of what tells lines.
+pub(crate) fn lined_slots<K: Lined>(
+    alloc: Global,
+    held: &K,
+) -> Result<List<(AttrId, InstanceId)>, NoMemory>
+    ensures { IfOk result (λ all. all ≡ meant.slots (base_of (K.rules held.now)) (facts_of (K.over held.now))) }
+{
+    let base = held.base();
+    let live = instances_among(alloc, held, None)?;
     let order = by_rank(alloc, base)?;
     let attrs = order.as_slice();
     let lists = live.as_slice();

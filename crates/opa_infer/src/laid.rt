@@ -1,4 +1,4 @@
-// The lines that are kept, and those that are staged over them, as what tells lines.
+// The lines that are kept, and those that are staged over them, as what tells lines, lists and containers.
 ghost use Rattle.std.specs.Prelude.{◌≡◌, cond, None};
 ghost use Rattle.std.specs.Option.{option_copied};
 ghost use Rattle.std.proofs.Props.{props};
@@ -14,8 +14,9 @@ ghost use Rattle.opa_value.specs.contracts.value.Value as each;
 use crate::told::told_line;
 use opa_case::{Case, InstanceId};
 use opa_changes::Lined;
+use opa_io::{List, Txt};
 use opa_line::Line;
-use opa_model::AttrId;
+use opa_model::{AttrId, RelId};
 use opa_store::{Next, Store};
 use opa_tree::Rulebase;
 use opa_value::Value;
@@ -56,6 +57,14 @@ impl<'a> Lined for Kept<'a> {
         let _count = self.base.model.entity_count();
         told_line(self.base, self.case, self.store.get(attr, inst), attr, inst)
     }
+
+    fn list_of(&self, rel: RelId, inst: &InstanceId) -> Option<&List<Txt>> {
+        self.case.list_of(rel, inst)
+    }
+
+    fn container_of(&self, inst: &InstanceId) -> Option<&InstanceId> {
+        self.case.container_of(inst)
+    }
 }
 
 /// The staged lines, and else the kept ones, over the case that comes.
@@ -93,6 +102,14 @@ impl<'a, N: Next> Lined for Laid<'a, N> {
         let _count = self.base.model.entity_count();
         let found = laid_line(self.store, self.next, attr, inst);
         told_line(self.base, self.next, found, attr, inst)
+    }
+
+    fn list_of(&self, rel: RelId, inst: &InstanceId) -> Option<&List<Txt>> {
+        self.next.list_of(rel, inst)
+    }
+
+    fn container_of(&self, inst: &InstanceId) -> Option<&InstanceId> {
+        self.next.container_of(inst)
     }
 }
 

@@ -32,39 +32,33 @@ pub(crate) fn made_ready<N: Next>(
     base: &Rulebase,
     held: &Case,
     next: &N,
-    case: &Case,
     store: &Store,
     listeners: &mut Vec<Box<dyn Listener>>,
 ) -> Result<Ready, NoMemory>
     requires before { IsOf base.now held.now }
     requires after { IsOf base.now (N.next next.now) }
-    requires fits { IsOf base.now case.now }
-    requires live { (N.next next.now).live ≡ case.now.live }
     requires current { AreCurrent base.now held.now (kept_of store.now) }
     requires settled { AreSettled (shift base.now held.now (N.next next.now)) (staged_of store.now) }
     requires fewer { length listeners.old.items < 2 ^ 64 }
     ensures ready { IfOk result (λ ready. IsReady base.now held.now (N.next next.now) (map (λ l. state l) listeners.old.items) (map (λ l. state l) listeners.new.items) (map (λ v. v.items) ready.lists.items) ready.count) }
     ensures quiet { map (λ l. hearer (state l)) listeners.new.items ≡ map (λ l. hearer (state l)) listeners.old.items }
 {
-    let changes = staged_changes(alloc, base, held, next, case, store)?;
+    let changes = staged_changes(alloc, base, held, next, store)?;
     let count = count_of(changes.as_slice())?;
     let lists = readied(alloc, listeners, changes.as_slice())?;
     Ok(Ready { lists, count })
 }
 
-/// What differs between the kept lines and the staged ones. The case has the instances of the one that comes.
+/// What differs between the kept lines and the staged ones.
 fn staged_changes<N: Next>(
     alloc: Global,
     base: &Rulebase,
     held: &Case,
     next: &N,
-    case: &Case,
     store: &Store,
 ) -> Result<Vec<Change>, NoMemory>
     requires before { IsOf base.now held.now }
     requires after { IsOf base.now (N.next next.now) }
-    requires fits { IsOf base.now case.now }
-    requires live { (N.next next.now).live ≡ case.now.live }
     requires current { AreCurrent base.now held.now (kept_of store.now) }
     requires settled { AreSettled (shift base.now held.now (N.next next.now)) (staged_of store.now) }
     ensures { IfOk result (λ told. AreChanges base.now held.now (N.next next.now) told.items) }
@@ -74,7 +68,7 @@ fn staged_changes<N: Next>(
     let old = Kept::new(base, held, store);
     let new = Laid::new(base, next, store);
     let slots = store.slots();
-    let told = changes_over(alloc, case, &old, &new, slots)?;
+    let told = changes_over(alloc, &old, &new, slots)?;
     Ok(told)
 }
 

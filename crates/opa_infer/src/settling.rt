@@ -97,7 +97,7 @@ fn stage_change<L: Ledger>(
     values_have_kinds();
     let tasks = begin(alloc, base, held, next, readers)?;
     settle(alloc, base, code, readers, held, next, store, tasks, steps)?;
-    let ready = made_ready(alloc, base, held, next, next, store, listeners)?;
+    let ready = made_ready(alloc, base, held, next, store, listeners)?;
     Ok(ready)
 }
 
@@ -179,6 +179,6 @@ fn stage_answer<L: Ledger>(
 {
     values_have_kinds();
     settle_answer(alloc, base, code, readers, next, store, steps)?;
-    let ready = made_ready(alloc, base, next.case, next, next.case, store, listeners)?;
+    let ready = made_ready(alloc, base, next.case, next, store, listeners)?;
     Ok(ready)
 }
