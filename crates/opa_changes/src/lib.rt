@@ -20,7 +20,7 @@ pub use among::{changes_among, changes_over};
 pub use laws::{dirty_have_changes, told_once};
 pub use lined::Lined;
 pub use lines::answer_differs;
-pub use lists::list_differs;
+pub use lists::{list_differs, same_names};
 pub use reach::{dirty_slots, is_fresh};
 pub use tell::changes;
 pub use walk::{live_slots, slot_count, slots};

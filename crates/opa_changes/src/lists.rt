@@ -76,7 +76,8 @@ pub fn list_differs(old: &Case, new: &Case, rel: RelId, inst: &InstanceId) -> bo
     !same_names(old.list_of(rel, inst), new.list_of(rel, inst))
 }
 
-fn same_names(first: Option<&List<Txt>>, second: Option<&List<Txt>>) -> bool
+/// Whether both lists have the same names in the same order; two unknown ones are the same.
+pub fn same_names(first: Option<&List<Txt>>, second: Option<&List<Txt>>) -> bool
     ensures { result ≡ same.same_names (option_copied first.entry) (option_copied second.entry) }
 {
     match first {

@@ -1,3 +1,5 @@
 pub mod Adding
 pub mod Indexed
 pub mod Renewed
+pub mod ListsTold
+pub mod Coming

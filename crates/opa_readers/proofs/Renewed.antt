@@ -74,7 +74,7 @@ entry_of m k x h = go (get m k) refl h
     go None e g = absurd (none_in x g)
     go (Some v) e g = (v, find_in k (entries m) v (sym (get-entries m k) ∙ e))
 
-in_if : (t : Bool) (p q : Question) → Contains (cond t (p ∷ []) []) q → (t ≡ true) × (p ≡ q)
+pub in_if : (t : Bool) (p q : Question) → Contains (cond t (p ∷ []) []) q → (t ≡ true) × (p ≡ q)
 in_if true p q h = (refl, one (contains_cases p q [] h))
   where
     one : (p ≡ q) ⊎ Contains [] q → p ≡ q
@@ -82,7 +82,7 @@ in_if true p q h = (refl, one (contains_cases p q [] h))
     one (inr none) = absurd (none_in q none)
 in_if false p q h = absurd (none_in q h)
 
-if_in : (t : Bool) (q : Question) → t ≡ true → Contains (cond t (q ∷ []) []) q
+pub if_in : (t : Bool) (q : Question) → t ≡ true → Contains (cond t (q ∷ []) []) q
 if_in t q e = subst (λ (b : Bool). Contains (cond b (q ∷ []) []) q) (sym e) (contains_head q [])
 
 module _ (law : AnswersDiffer) (r : Rulebase) (c c' : CaseView) (is : IsOf r c) (is' : IsOf r c') where
