@@ -1,5 +1,10 @@
 pub mod Adding
-pub mod Indexed
-pub mod Renewed
-pub mod ListsTold
+pub mod AllRenewed
 pub mod Coming
+pub mod Indexed
+pub mod ListsTold
+pub mod Putting
+pub mod Renewed
+pub mod Sifting
+pub mod Taking
+pub mod Touching

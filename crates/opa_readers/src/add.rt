@@ -1,7 +1,7 @@
 // A slot that is added where it reads.
-ghost use Rattle.std.specs.Prelude.{◌≡◌, ◌∷◌, [], true, Contains, IfOk, OnOk};
+ghost use Rattle.std.specs.Prelude.{◌≡◌, ◌∷◌, [], true, Contains, IfOk, OnErr, OnOk};
 ghost use Rattle.opa_dirty.specs.Slots.{pairs_of};
-ghost use Rattle.opa_readers.specs.Indexes.{AddsAt, AddsSlot};
+ghost use Rattle.opa_readers.specs.Indexes.{AddsAt, AddsSlot, SameTable};
 
 use opa_case::InstanceId;
 use opa_cells::Cells;
@@ -19,7 +19,8 @@ pub(crate) fn add_at(
     attr: AttrId,
     inst: &InstanceId,
 ) -> Result<(), NoMemory>
-    ensures { OnOk result (AddsAt cells.old cells.new (number, key.now) (attr, inst.now)) }
+    ensures adds { OnOk result (AddsAt cells.old cells.new (number, key.now) (attr, inst.now)) }
+    ensures err { OnErr result (SameTable cells.old cells.new) }
 {
     match cells.get_mut(number, key) {
         Some(slots) => {
@@ -42,7 +43,8 @@ fn add_slot(
     attr: AttrId,
     inst: &InstanceId,
 ) -> Result<(), NoMemory>
-    ensures { OnOk result (AddsSlot slots.old slots.new (attr, inst.now)) }
+    ensures adds { OnOk result (AddsSlot slots.old slots.new (attr, inst.now)) }
+    ensures err { OnErr result (slots.new ≡ slots.old) }
 {
     if is_last(slots.as_slice(), attr, inst) {
         Ok(())

@@ -1,10 +1,10 @@
 // The questions of a slot, added to an index.
-ghost use Rattle.std.specs.Prelude.{◌≡◌, ◌∷◌, [], true, OnOk};
+ghost use Rattle.std.specs.Prelude.{◌≡◌, ◌∷◌, [], true, OnErr, OnOk};
 ghost use Rattle.opa_case.specs.declared.question.Question.{Question as QuestionView};
 ghost use Rattle.opa_dirty.specs.Dirty.{slot_reads};
 ghost use Rattle.opa_mean.specs.Rulebases.{IsOf};
 ghost use Rattle.opa_mean.specs.Slots as place;
-ghost use Rattle.opa_readers.specs.Indexes.{readers_in, AddsReads};
+ghost use Rattle.opa_readers.specs.Indexes.{readers_in, AddsReads, AddsSomeReads, SameIndex};
 
 use crate::add::add_at;
 use crate::index::Index;
@@ -45,14 +45,16 @@ pub(crate) fn add_reader(
     Ok(())
 }
 
-fn add_questions(
+/// Adds a slot at some questions. Without memory it is added at some of them.
+pub(crate) fn add_questions(
     alloc: Global,
     questions: &[Question],
     attr: AttrId,
     inst: &InstanceId,
     index: &mut Index,
 ) -> Result<(), NoMemory>
-    ensures { OnOk result (AddsReads questions.now attr inst.now index.old index.new) }
+    ensures adds { OnOk result (AddsReads questions.now attr inst.now index.old index.new) }
+    ensures err { OnErr result (AddsSomeReads questions.now attr inst.now index.old index.new) }
 {
     for question in questions {
         add_question(alloc, question, attr, inst, index)?;
@@ -67,7 +69,8 @@ fn add_question(
     inst: &InstanceId,
     index: &mut Index,
 ) -> Result<(), NoMemory>
-    ensures { OnOk result (AddsReads (question.now ∷ []) attr inst.now index.old index.new) }
+    ensures adds { OnOk result (AddsReads (question.now ∷ []) attr inst.now index.old index.new) }
+    ensures err { OnErr result (SameIndex index.old index.new) }
 {
     match question {
         Question::Attr(read, at) => {

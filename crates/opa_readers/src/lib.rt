@@ -2,19 +2,31 @@
 #![tactic(auto)]
 
 mod add;
+mod asked;
+mod asking;
 mod beginning;
 mod build;
+mod difference;
 mod fill;
 mod fresh;
 mod given;
 mod index;
+mod laws;
 mod listing;
+mod owned;
+mod put;
 mod readers;
+mod renew;
+mod renewal;
+mod take;
 mod told;
+mod touched;
 
 pub use beginning::begin;
 pub use fresh::fresh_slots;
 pub use given::given_changes;
 pub use index::Index;
+pub use laws::same_are_readers;
 pub use listing::begin_list;
+pub use renewal::Renewal;
 pub use told::lists_told;

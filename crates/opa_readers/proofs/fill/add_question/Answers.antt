@@ -5,12 +5,12 @@ use Rattle.opa_readers.specs.declared.index.Index.{Index}
 use Rattle.opa_readers.proofs.Indexed.{line_added, list_added}
 use Rattle.opa_readers.proofs.fill.add_question.Goals as goal
 
-pub returns-in_ok-add_at-in-Attr : goal.returns-in_ok-add_at-in-Attr
-returns-in_ok-add_at-in-Attr c =
+pub returns-in_ok-add_at-in-Attr-clause-adds : goal.returns-in_ok-add_at-in-Attr-clause-adds
+returns-in_ok-add_at-in-Attr-clause-adds c =
     let old = c.args.index.now in let new : Index = record { lines = c.add_at.new.cells; lists = c.args.index.now.lists } in
-    subst (λ (q : Question). AddsReads (q ∷ []) c.args.attr c.args.inst.now old new) (sym c.in-Attr.is) (line_added old new c.in-Attr.read c.in-Attr.at c.args.attr c.args.inst.now c.in_ok-add_at-in-Attr.ensures refl)
+    subst (λ (q : Question). AddsReads (q ∷ []) c.args.attr c.args.inst.now old new) (sym c.in-Attr.is) (line_added old new c.in-Attr.read c.in-Attr.at c.args.attr c.args.inst.now c.in_ok-add_at-in-Attr.ensures.adds refl)
 
-pub returns-in_ok-add_at-in-Members : goal.returns-in_ok-add_at-in-Members
-returns-in_ok-add_at-in-Members c =
+pub returns-in_ok-add_at-in-Members-clause-adds : goal.returns-in_ok-add_at-in-Members-clause-adds
+returns-in_ok-add_at-in-Members-clause-adds c =
     let old = c.args.index.now in let new : Index = record { lines = c.args.index.now.lines; lists = c.add_at-in-Members.new.cells } in
-    subst (λ (q : Question). AddsReads (q ∷ []) c.args.attr c.args.inst.now old new) (sym c.in-Members.is) (list_added old new c.in-Members.rel c.in-Members.at c.args.attr c.args.inst.now c.in_ok-add_at-in-Members.ensures refl)
+    subst (λ (q : Question). AddsReads (q ∷ []) c.args.attr c.args.inst.now old new) (sym c.in-Members.is) (list_added old new c.in-Members.rel c.in-Members.at c.args.attr c.args.inst.now c.in_ok-add_at-in-Members.ensures.adds refl)

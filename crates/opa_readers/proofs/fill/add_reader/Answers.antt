@@ -4,4 +4,4 @@ use Rattle.opa_readers.specs.Indexes.{AddsReads}
 use Rattle.opa_readers.proofs.fill.add_reader.Goals as goal
 
 pub returns : goal.returns
-returns c = subst (λ (qs : List Question). AddsReads qs c.args.attr c.args.inst.now c.args.index.now c.add_questions.new.index) (c.as_slice-questions.ensures ∙ c.in_ok-found.ensures) c.in_ok-add_questions.ensures
+returns c = subst (λ (qs : List Question). AddsReads qs c.args.attr c.args.inst.now c.args.index.now c.add_questions.new.index) (c.as_slice-questions.ensures ∙ c.in_ok-found.ensures) c.in_ok-add_questions.ensures.adds

@@ -1,0 +1,139 @@
+// The slots whose reads a change of a list may change.
+ghost use Rattle.std.specs.Prelude.{◌≡◌, ◌++◌, cond, ◌==◌, [], ◌∷◌, flat_map, map, IfOk, OnOk};
+ghost use Rattle.opa_case.specs.Overlays.{relisted_case};
+ghost use Rattle.opa_case.specs.Shapes.{shape_of};
+ghost use Rattle.opa_dirty.specs.Slots.{pairs_of};
+ghost use Rattle.opa_mean.specs.Places.{owner_of as entity_of};
+ghost use Rattle.opa_readers.specs.Indexes.{readers_in};
+ghost use Rattle.opa_readers.specs.Renewals.{relisting};
+ghost use Rattle.opa_readers.specs.Touches.{AreTouched, HaveTurned, IsOwned, slots_at_each};
+ghost use Rattle.opa_settle.specs.Starts.{MarksReaders};
+ghost use Rattle.opa_settle.specs.Tasks.{slots_of};
+
+use crate::index::Index;
+use crate::owned::Owned;
+use opa_case::{InstanceId, Question, Relisted};
+use opa_dirty::Slot;
+use opa_io::{List, NoMemory};
+use opa_mean::owner_of;
+use opa_model::AttrId;
+use opa_settle::{Reading, Tasks, mark};
+use opa_tree::{Rule, Rulebase};
+use std::alloc::Global;
+
+/// The slots of what goes and of what comes, and the readers of these questions, each once.
+pub(crate) fn slots_touched(
+    alloc: Global,
+    base: &Rulebase,
+    index: &Index,
+    next: &Relisted<'_>,
+    told: &[Question],
+) -> Result<Tasks, NoMemory>
+    ensures { IfOk result (λ tasks. AreTouched (relisting base.now next.now) (readers_in index.now) told.now (slots_of tasks)) }
+{
+    let turned = slots_turned(alloc, base, next)?;
+    let slots = turned.as_slice();
+    let mut tasks = Tasks::new(alloc);
+    mark(alloc, base, slots, &mut tasks)?;
+    mark_readers(alloc, base, index, told, &mut tasks)?;
+    Ok(tasks)
+}
+
+fn mark_readers(
+    alloc: Global,
+    base: &Rulebase,
+    index: &Index,
+    told: &[Question],
+    tasks: &mut Tasks,
+) -> Result<(), NoMemory>
+    ensures { OnOk result (MarksReaders base.now (readers_in index.now) told.now tasks.old tasks.new) }
+{
+    for question in told {
+        let reading = index.of(question);
+        mark(alloc, base, reading, tasks)?;
+    }
+    Ok(())
+}
+
+/// The slots of what goes and of what comes.
+fn slots_turned(alloc: Global, base: &Rulebase, next: &Relisted<'_>) -> Result<List<Slot>, NoMemory>
+    ensures { IfOk result (λ slots. HaveTurned base.now next.now.case.now (relisted_case next.now) (pairs_of slots)) }
+{
+    let mut slots = List::new(alloc);
+    let went = next.went();
+    add_each(alloc, base, went, &mut slots)?;
+    let came = next.came();
+    add_each(alloc, base, came, &mut slots)?;
+    Ok(slots)
+}
+
+/// Adds the slots of instances.
+fn add_each(
+    alloc: Global,
+    base: &Rulebase,
+    instances: &[(InstanceId, InstanceId)],
+    slots: &mut List<Slot>,
+) -> Result<(), NoMemory>
+    ensures { OnOk result (pairs_of slots.new ≡ pairs_of slots.old ++ slots_at_each base.now instances.now) }
+{
+    let mut owned = owned_by(alloc, base, 0)?;
+    for (inst, _) in instances {
+        turn_to(alloc, base, inst.entity.0, &mut owned)?;
+        let attrs = owned.attrs.as_slice();
+        add_slots(alloc, attrs, inst, slots)?;
+    }
+    Ok(())
+}
+
+fn add_slots(
+    alloc: Global,
+    attrs: &[AttrId],
+    inst: &InstanceId,
+    slots: &mut List<Slot>,
+) -> Result<(), NoMemory>
+    ensures { OnOk result (pairs_of slots.new ≡ pairs_of slots.old ++ map (λ a. (a, inst.now)) attrs.now) }
+{
+    for attr in attrs {
+        let inst = inst.copy(alloc)?;
+        slots.push(Slot { attr: *attr, inst })?;
+    }
+    Ok(())
+}
+
+fn owned_by(alloc: Global, base: &Rulebase, entity: u32) -> Result<Owned, NoMemory>
+    ensures owned { IfOk result (IsOwned base.now) }
+    ensures entity { IfOk result (λ owned. owned.entity ≡ entity) }
+{
+    let mut attrs = List::new(alloc);
+    for rule in base.rules.as_slice() {
+        add_attr(base, rule, entity, &mut attrs)?;
+    }
+    Ok(Owned { entity, attrs })
+}
+
+fn add_attr(
+    base: &Rulebase,
+    rule: &Rule,
+    entity: u32,
+    attrs: &mut List<AttrId>,
+) -> Result<(), NoMemory>
+    ensures { OnOk result (attrs.new ≡ attrs.old ++ cond (entity_of (shape_of base.now.model) rule.now.attr == entity) (rule.now.attr ∷ []) []) }
+{
+    if owner_of(&base.model, rule.attr) == entity {
+        attrs.push(rule.attr)?;
+    }
+    Ok(())
+}
+
+/// The same for another entity.
+fn turn_to(alloc: Global, base: &Rulebase, entity: u32, owned: &mut Owned) -> Result<(), NoMemory>
+    requires { IsOwned base.now owned.old }
+    ensures owned { OnOk result (IsOwned base.now owned.new) }
+    ensures entity { OnOk result (owned.new.entity ≡ entity) }
+{
+    if owned.entity == entity {
+        return Ok(());
+    }
+    *owned = owned_by(alloc, base, entity)?;
+    Ok(())
+}
