@@ -1,6 +1,6 @@
 -- A line is refused for one reason.
-use Rattle.std.proofs.Common.{◌≡◌, ℕ, Bool, true, false, List, refl, subst}
-use Rattle.std.specs.Prelude.{Option, None, Some, codes, if◌then◌else◌}
+use Rattle.std.proofs.Common.{ℕ, List, refl, subst}
+use Rattle.std.specs.Prelude.{codes}
 use Rattle.std.specs.Str.{bytes_eq}
 use Rattle.opa_model.specs.declared.lists.Lists.{Lists}
 use Rattle.opa_words.specs.Pieces.{Piece}
@@ -8,24 +8,12 @@ use Rattle.opa_script.specs.declared.fault.CmdFault.TheVariants as fault
 use Rattle.opa_script.specs.Shapes.{HasShape, verb_named}
 use Rattle.opa_script.specs.Commands.{HasSort, AreNone, IsNoCommand}
 use Rattle.opa_script.proofs.LawsHold.{same_tokens, same_begin, moved}
+use Rattle.opa_script.proofs.VerbWords.{OfWord, either, said}
 use Rattle.opa_decided.specs.Laws.{OneCommandFault}
 
 -- ---- what has the sort has the shape
 
--- The verbs of commands have no names outside of the crate that reads them: what is said of each is said of each word that is one.
-module _ {V : Type 0} (Q : V → Type 0) where
-  abbrev Says : Option V → Type 0
-  Says None = Unit {0}
-  Says (Some v) = Q v
-
-  either : (b : Bool) (x y : Option V) → Says x → Says y → Says (if b then x else y)
-  either true x y p q = p
-  either false x y p q = q
-
-  said : (o : Option V) (v : V) → o ≡ Some v → Says o → Q v
-  said o v e h = subst Says e h
-
-word_sort : (w : List ℕ) → Says (λ v. (m : Lists) (ps : List Piece) → HasSort m v ps → HasShape v ps) (verb_named w)
+word_sort : (w : List ℕ) → OfWord (λ v. (m : Lists) (ps : List Piece) → HasSort m v ps → HasShape v ps) (verb_named w)
 word_sort w =
     either _ (bytes_eq w (codes "answer")) _ _ (λ m ps h. (h.0, h.1, h.2))
     (either _ (bytes_eq w (codes "withdraw")) _ _ (λ m ps h. (h.0, h.1))

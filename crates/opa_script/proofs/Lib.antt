@@ -8,3 +8,4 @@ pub mod OneCommand
 pub mod ExampleLaws
 pub mod Ranges
 pub mod ReplyLaws
+pub mod VerbWords

@@ -1,6 +1,6 @@
 -- What commands and replies say is clean.
 use Rattle.std.proofs.Common.{◌≡◌, inl, inr, ◌<◌, ◌≤◌, ℕ, ℤ, neg_ℤ, Bool, true, false, cond, List, [], ◌∷◌, ◌++◌, None, Some, Option, Ok, refl, sym, ◌∙◌, ap, subst, arith}
-use Rattle.std.specs.Prelude.{MatchOption, nat_le, codes, if◌then◌else◌}
+use Rattle.std.specs.Prelude.{MatchOption, nat_le, codes}
 use Rattle.std.specs.Str.{bytes_eq}
 use Rattle.opa_date.specs.declared.TheConstants.{DAYS}
 use Rattle.opa_value.specs.declared.value.Value.{Value}
@@ -23,6 +23,7 @@ use Rattle.opa_text.specs.Spelled.{SpellsNumber, SpellsValue, SpellsChanges, Spe
 use Rattle.opa_case.specs.declared.change.ChangeCommand.{ChangeCommand}
 use Rattle.opa_case.specs.declared.question.Question.{Question}
 use Rattle.opa_case.specs.declared.question.Question.TheVariants as question
+use Rattle.opa_script.proofs.VerbWords.{OfWord, either, said}
 use Rattle.opa_script.specs.declared.command.Command.{Command}
 use Rattle.opa_script.specs.declared.command.Command.TheVariants as command
 use Rattle.opa_script.specs.Commands.{Says, Shows, IsCommand}
@@ -160,20 +161,7 @@ same_clean c d e h = subst SaysClean (sym e) h
 behind_given : (front after ps : List Piece) → ps ≡ front ++ symbol (codes "=") ∷ after → Each PieceIsClean ps → Each PieceIsClean after
 behind_given front after ps e clean = (each_parts PieceIsClean front (symbol (codes "=") ∷ after) (subst (Each PieceIsClean) e clean)).1.1
 
--- The verbs of commands have no names outside of the crate that reads them: what is said of each is said of each word that is one.
-module _ {V : Type 0} (Q : V → Type 0) where
-  abbrev Of : Option V → Type 0
-  Of None = Unit {0}
-  Of (Some v) = Q v
-
-  either : (b : Bool) (x y : Option V) → Of x → Of y → Of (if b then x else y)
-  either true x y p q = p
-  either false x y p q = q
-
-  said : (o : Option V) (v : V) → o ≡ Some v → Of o → Q v
-  said o v e h = subst Of e h
-
-word_clean : (w : List ℕ) → Of (λ v. (m : Lists) (ps : List Piece) (c : Command) → Each PieceIsClean ps → Says m v ps c → SaysClean c) (verb_named w)
+word_clean : (w : List ℕ) → OfWord (λ v. (m : Lists) (ps : List Piece) (c : Command) → Each PieceIsClean ps → Says m v ps c → SaysClean c) (verb_named w)
 word_clean w =
     either _ (bytes_eq w (codes "answer")) _ _ (λ m ps c clean h. let given = h.5 in same_clean c _ h.8 (λ formed. line_clean h.4 h.1 formed (behind_given given.0 h.1 ps given.2 clean) h.7))
     (either _ (bytes_eq w (codes "withdraw")) _ _ (λ m ps c clean h. same_clean c _ h.5 (λ formed. tt))
