@@ -4,5 +4,6 @@ mod Found
 mod Heard
 pub mod Kinded
 mod Known
+mod Relisted
 mod Staged
 mod Unanswered

@@ -1,17 +1,14 @@
--- The case that comes by a command.
+-- Which answers can be set, or taken away.
 use Rattle.std.specs.Prelude.{◌≡◌, false, IfSome, Option}
 use Rattle.opa_model.specs.declared.ids.AttrId.{AttrId}
 use Rattle.opa_model.specs.Models.{HasAttribute}
 use Rattle.opa_cells.specs.declared.instance.InstanceId.{InstanceId}
 use Rattle.opa_case.specs.Cases.{CaseView, Answer}
-use Rattle.opa_case.specs.Fits.{Fits}
 use Rattle.opa_case.specs.Shapes.{shape_of}
 use Rattle.opa_case.specs.Steps.{is_unanswerable, is_unknown_answer}
 use Rattle.opa_mean.specs.Rulebases.{IsOf}
 use Rattle.opa_store.specs.Nexts.{answered}
 use Rattle.opa_tree.specs.declared.rulebase.Rulebase.{Rulebase}
-use Rattle.opa_infer.specs.declared.coming.Coming.{Coming}
-use Rattle.opa_infer.specs.declared.coming.Coming.TheVariants as coming
 
 -- The answer can be set, or taken away, and says something on some day.
 pub record IsAnswerable (r : Rulebase) (c : CaseView) (a : AttrId) (i : InstanceId) (line : Option Answer) : Type 0 where
@@ -19,11 +16,3 @@ pub record IsAnswerable (r : Rulebase) (c : CaseView) (a : AttrId) (i : Instance
   pub free : is_unanswerable (shape_of r.model) r.ruled c a i ≡ false
   pub tells : IfSome line (λ l. is_unknown_answer l ≡ false)
   pub fits : IsOf r (answered c a i line)
-
-abbrev pub case_by : CaseView → Coming → CaseView
-case_by c (coming.Line a i line) = answered c a i line
-case_by c (coming.Whole c') = c'
-
-abbrev pub MayCome : Rulebase → CaseView → Coming → Type 0
-MayCome r c (coming.Line a i line) = IsAnswerable r c a i line
-MayCome r c (coming.Whole c') = Fits (shape_of r.model) r.ruled c'

@@ -8,7 +8,7 @@ ghost use Rattle.opa_case.specs.declared.change.Refusal.TheVariants as refusals;
 ghost use Rattle.opa_infer.specs.Sessions.{rules_of, held_of, reached_of, changed_by, reached, Tells};
 ghost use Rattle.opa_listen.specs.Hearing.{hearer};
 
-use crate::coming::{Coming, coming_by};
+use crate::coming::{coming_answer, coming_withdrawal};
 use crate::session::Session;
 use opa_case::{ChangeCommand, Refusal};
 use opa_io::Steps;
@@ -47,15 +47,23 @@ impl Session {
     {
         // The count shows the model's form.
         let _count = self.base.model.attribute_count();
-        let coming = coming_by(alloc, &self.base, &self.case, command)?;
-        match coming {
-            Coming::Line(attr, inst, line) => {
+        match command {
+            ChangeCommand::Answer(attr, inst, line) => {
+                let line = coming_answer(&self.base, &self.case, attr, &inst, line)?;
                 let count = self.put_line(alloc, attr, &inst, line, listeners, steps)?;
                 Ok(count)
             }
-            Coming::Whole(case) => {
-                let count = self.replace_case(alloc, case, listeners, steps)?;
+            ChangeCommand::Withdraw(attr, inst) => {
+                coming_withdrawal(&self.base, &self.case, attr, &inst)?;
+                let count = self.put_line(alloc, attr, &inst, None, listeners, steps)?;
                 Ok(count)
+            }
+            ChangeCommand::SetList(rel, inst, names) => {
+                let names = Some(names);
+                self.put_names(alloc, rel, &inst, names, listeners, steps)
+            }
+            ChangeCommand::Forget(rel, inst) => {
+                self.put_names(alloc, rel, &inst, None, listeners, steps)
             }
         }
     }

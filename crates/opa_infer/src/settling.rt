@@ -15,6 +15,7 @@ ghost use Rattle.opa_infer.specs.Sessions.{reached};
 use crate::ready::{Ready, made_ready};
 use opa_case::{Case, InstanceId};
 use opa_code::Code;
+use opa_dirty::new_can_tell;
 use opa_io::{NoMemory, Steps};
 use opa_kinds::values_have_kinds;
 use opa_line::Line;
@@ -94,6 +95,7 @@ fn stage_change<L: Ledger>(
     ensures ready { IfOk result (λ ready. IsReady base.now held.now next.now (map (λ l. state l) listeners.old.items) (map (λ l. state l) listeners.new.items) (map (λ v. v.items) ready.lists.items) ready.count) }
     ensures quiet { map (λ l. hearer (state l)) listeners.new.items ≡ map (λ l. hearer (state l)) listeners.old.items }
 {
+    new_can_tell();
     values_have_kinds();
     let tasks = begin(alloc, base, held, next, readers)?;
     settle(alloc, base, code, readers, held, next, store, tasks, steps)?;
