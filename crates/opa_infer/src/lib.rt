@@ -16,5 +16,6 @@ mod session;
 mod settling;
 mod starting;
 mod told;
+mod weighing;
 
 pub use session::Session;

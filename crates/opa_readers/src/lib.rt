@@ -21,6 +21,7 @@ mod renewal;
 mod take;
 mod told;
 mod touched;
+mod weight;
 
 pub use beginning::begin;
 pub use fresh::fresh_slots;
