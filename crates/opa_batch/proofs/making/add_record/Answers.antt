@@ -37,7 +37,7 @@ pub returns-clause-kept : goal.returns-clause-kept
 returns-clause-kept g c = c.in_ok-add_decided.ensures.kept c.requires.kept
 
 pub returns-clause-slots : goal.returns-clause-slots
-returns-clause-slots g c = c.in_ok-add_decided.ensures.slots ∙ c.requires.slots
+returns-clause-slots g c = omega (arith, c.in_ok-add_decided.ensures.slots, c.requires.slots)
 
 pub returns-in_err-add_decided-clause-counts : goal.returns-in_err-add_decided-clause-counts
 returns-in_err-add_decided-clause-counts g c =
