@@ -1,4 +1,4 @@
-use Rattle.std.proofs.Common.{◌∙◌, arith, subst}
+use Rattle.std.proofs.Common.{arith, subst}
 use Rattle.std.specs.Prelude.{◌+◌, Some}
 use Rattle.csv.specs.Records.{Row, fields_of}
 use Rattle.opa_infer.specs.Sessions.{rules_of}
