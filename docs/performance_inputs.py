@@ -119,6 +119,21 @@ for count in (250, 500, 1000):
         file.write("list the groups = " + ", ".join(f'"g{n}"' for n in range(count)) + "\n")
         file.write("".join(f'list the members of "g{n}" = ' + ", ".join(f'"m{n}_{k}"' for k in range(20)) + "\n" for n in range(count)) + "stats\n")
 
+# 900 homes of 20 persons, with ten conclusions a person that read one figure of all, and the list of all persons; then one person
+# leaves each home, all homes go but one, or all persons of each home are others, where a list names nearly all homes
+with open("homes.txt", "w") as file:
+    file.write("global\n  number the figure\n  number the head count\n  reference the chosen: many the home\n  every the whole roll: the person\nentity the home\n  in global: the homes\n  number the size\nentity the person\n  in the home: the residents\n  number the income\n" + "".join(f"  number result {k}\n" for k in range(10)))
+    file.write("the size = InstanceCount(the residents)\nthe head count = InstanceCount(the whole roll)\n" + "".join(f"result {k} = the income + the figure + {k}\n" for k in range(10)))
+moving = 'answer the figure = 5\nlist the homes = ' + ", ".join(f'"h{n}"' for n in range(900)) + "\n" + "".join(f'list the residents of "h{n}" = ' + ", ".join(f'"p{n}_{k}"' for k in range(20)) + "\n" for n in range(900))
+with open("homes_made_input.txt", "w") as file:
+    file.write(moving + "stats\n")
+with open("homes_left_input.txt", "w") as file:
+    file.write(moving + "".join(f'list the residents of "h{n}" = ' + ", ".join(f'"p{n}_{k}"' for k in range(1, 20)) + "\n" for n in range(900)) + "stats\n")
+with open("homes_gone_input.txt", "w") as file:
+    file.write(moving + 'list the homes = "h0"\nstats\n')
+with open("homes_chosen_input.txt", "w") as file:
+    file.write(moving + "list the chosen = " + ", ".join(f'"h{n}"' for n in range(1, 900)) + "\n" + "".join(f'list the residents of "h{n}" = ' + ", ".join(f'"q{n}_{k}"' for k in range(20)) + "\n" for n in range(90)) + "stats\n")
+
 # fifty conclusions a person: 1,000,000 slots for 20,000 persons
 with open("slots.txt", "w") as file:
     file.write("global\n  number the count\nentity the person\n  in global: the persons\n" + "".join(f"  number number {a}\n" for a in "abcde") + "".join(f"  number result {n}\n" for n in range(50)))
