@@ -16,6 +16,5 @@ mod session;
 mod settling;
 mod starting;
 mod told;
-mod weighing;
 
 pub use session::Session;

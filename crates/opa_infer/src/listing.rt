@@ -95,7 +95,7 @@ pub(crate) fn prepare_list<L: Ledger>(
 }
 
 /// The case that comes, which isn't written yet; or the refusal.
-pub(crate) fn coming_list<'a>(
+fn coming_list<'a>(
     base: &'a Rulebase,
     held: &'a Case,
     rel: RelId,

@@ -1,9 +1,7 @@
 // A list is set, or forgotten.
 ghost use Rattle.std.specs.Prelude.{◌≡◌, ◌≢◌, ◌<◌, ◌≤◌, ◌+◌, ◌^◌, [], length, map, Ok, Err, IfOk, IfErr, OnOk, OnErr};
 ghost use Rattle.opa_case.specs.Cases.{CaseView};
-ghost use Rattle.opa_case.specs.Fits.{Fits};
 ghost use Rattle.opa_case.specs.Live.{Population};
-ghost use Rattle.opa_case.specs.Shapes.{shape_of};
 ghost use Rattle.opa_case.specs.Turns.{Turns};
 ghost use Rattle.opa_case.specs.declared.change.Refusal.{Refusal as Refused};
 ghost use Rattle.opa_case.specs.declared.change.Refusal.TheVariants as refusals;
@@ -19,7 +17,6 @@ ghost use Rattle.opa_store.specs.Stores.{kept_of, staged_of};
 
 use crate::listing::{Prepared, prepare_list};
 use crate::session::Session;
-use crate::weighing::is_dear;
 use opa_case::{Case, InstanceId, Refusal};
 use opa_io::{List, NoMemory, Steps, Txt};
 use opa_listen::{Listener, tell};
@@ -33,81 +30,8 @@ use std::sync::ledger::Ledger;
 
 impl Session {
     /// Sets a list, or forgets it where there are no names, and tells each listener of the changes; or refuses it with the session
-    /// and what listeners keep as they were. Where that costs less, by a copy of the case.
+    /// and what listeners keep as they were. No case is copied, and the case is changed last of all that may want memory.
     pub(crate) fn put_names<L: Ledger>(
-        &mut self,
-        alloc: Global,
-        rel: RelId,
-        inst: &InstanceId,
-        names: Option<List<Txt>>,
-        listeners: &mut Vec<Box<dyn Listener>>,
-        steps: &mut Steps<L>,
-    ) -> Result<u32, Refusal>
-        requires declared { HasRelation (rules_of self.old).model rel }
-        requires fewer { length listeners.old.items < 2 ^ 64 }
-        ensures ok { OnOk result (relists (rules_of self.old) (held_of self.old) rel inst.now names ≡ Ok (held_of self.new)) }
-        ensures reached { OnOk result (reached_of self.new ≡ reached (rules_of self.old) (held_of self.old) (held_of self.new)) }
-        ensures told { IfOk result (Tells (rules_of self.old) (held_of self.old) (held_of self.new) (map (λ l. hearer (state l)) listeners.old.items) (map (λ l. hearer (state l)) listeners.new.items)) }
-        ensures err { IfErr result (λ e. e ≢ refusals.NoMemory → relists (rules_of self.old) (held_of self.old) rel inst.now names ≡ Err e) }
-        ensures case { OnErr result (held_of self.new ≡ held_of self.old) }
-        ensures still { OnErr result (reached_of self.new ≡ reached_of self.old) }
-        ensures quiet { OnErr result (map (λ l. hearer (state l)) listeners.new.items ≡ map (λ l. hearer (state l)) listeners.old.items) }
-        ensures base { rules_of self.new ≡ rules_of self.old }
-        ensures counted { OnOk result (steps.new ≡ steps.old + reached (rules_of self.old) (held_of self.old) (held_of self.new)) }
-        ensures bound { (c : CaseView) → relists (rules_of self.old) (held_of self.old) rel inst.now names ≡ Ok c → steps.new ≤ steps.old + reached (rules_of self.old) (held_of self.old) c }
-        ensures uncounted { (e : Refused) → relists (rules_of self.old) (held_of self.old) rel inst.now names ≡ Err e → steps.new ≡ steps.old }
-    {
-        // The count shows the model's form.
-        let _count = self.base.model.attribute_count();
-        let dear = is_dear(
-            alloc,
-            &self.base,
-            &self.readers,
-            &self.case,
-            rel,
-            inst,
-            names.as_ref(),
-        )?;
-        if dear {
-            self.put_copy(alloc, rel, inst, names, listeners, steps)
-        } else {
-            self.put_list(alloc, rel, inst, names, listeners, steps)
-        }
-    }
-
-    /// The same by a copy of the case.
-    fn put_copy<L: Ledger>(
-        &mut self,
-        alloc: Global,
-        rel: RelId,
-        inst: &InstanceId,
-        names: Option<List<Txt>>,
-        listeners: &mut Vec<Box<dyn Listener>>,
-        steps: &mut Steps<L>,
-    ) -> Result<u32, Refusal>
-        requires declared { HasRelation (rules_of self.old).model rel }
-        requires fewer { length listeners.old.items < 2 ^ 64 }
-        ensures ok { OnOk result (relists (rules_of self.old) (held_of self.old) rel inst.now names ≡ Ok (held_of self.new)) }
-        ensures reached { OnOk result (reached_of self.new ≡ reached (rules_of self.old) (held_of self.old) (held_of self.new)) }
-        ensures told { IfOk result (Tells (rules_of self.old) (held_of self.old) (held_of self.new) (map (λ l. hearer (state l)) listeners.old.items) (map (λ l. hearer (state l)) listeners.new.items)) }
-        ensures err { IfErr result (λ e. e ≢ refusals.NoMemory → relists (rules_of self.old) (held_of self.old) rel inst.now names ≡ Err e) }
-        ensures case { OnErr result (held_of self.new ≡ held_of self.old) }
-        ensures still { OnErr result (reached_of self.new ≡ reached_of self.old) }
-        ensures quiet { OnErr result (map (λ l. hearer (state l)) listeners.new.items ≡ map (λ l. hearer (state l)) listeners.old.items) }
-        ensures base { rules_of self.new ≡ rules_of self.old }
-        ensures counted { OnOk result (steps.new ≡ steps.old + reached (rules_of self.old) (held_of self.old) (held_of self.new)) }
-        ensures bound { (c : CaseView) → relists (rules_of self.old) (held_of self.old) rel inst.now names ≡ Ok c → steps.new ≤ steps.old + reached (rules_of self.old) (held_of self.old) c }
-        ensures uncounted { (e : Refused) → relists (rules_of self.old) (held_of self.old) rel inst.now names ≡ Err e → steps.new ≡ steps.old }
-    {
-        // The count shows the model's form.
-        let _count = self.base.model.attribute_count();
-        let next = copy_with(alloc, &self.base, &self.case, rel, inst, names)?;
-        let count = self.replace_case(alloc, next, listeners, steps)?;
-        Ok(count)
-    }
-
-    /// The same without a copy of the case, which is changed last of all that may want memory.
-    fn put_list<L: Ledger>(
         &mut self,
         alloc: Global,
         rel: RelId,
@@ -199,12 +123,12 @@ fn keep_list(
     }
     match write_names(base, case, rel, inst, names) {
         Ok(()) => {
-            readers.take_out(alloc, &prepared.renewal);
+            readers.take_out(&prepared.renewal);
             let dirty = keep_staged(base, store, prepared.went.as_slice());
             Ok(dirty)
         }
         Err(_) => {
-            readers.take_back(alloc, &prepared.renewal);
+            readers.take_back(&prepared.renewal);
             store.abandon();
             Err(NoMemory)
         }
@@ -222,34 +146,6 @@ fn keep_staged(base: &Rulebase, store: &mut Store, went: &[(InstanceId, Instance
     store.commit();
     store.drop_slots(base, went);
     dirty
-}
-
-/// A copy of the case with a list, or without it; or the refusal.
-fn copy_with(
-    alloc: Global,
-    base: &Rulebase,
-    case: &Case,
-    rel: RelId,
-    inst: &InstanceId,
-    names: Option<List<Txt>>,
-) -> Result<Case, Refusal>
-    requires declared { HasRelation base.now.model rel }
-    requires fits { IsOf base.now case.now }
-    ensures ok { IfOk result (λ c. relists base.now case.now rel inst.now names ≡ Ok c) }
-    ensures fits { IfOk result (λ c. Fits (shape_of base.now.model) base.now.ruled c) }
-    ensures err { IfErr result (λ e. e ≢ refusals.NoMemory → relists base.now case.now rel inst.now names ≡ Err e) }
-{
-    let mut next = case.copy(alloc)?;
-    match names {
-        Some(names) => {
-            next.set_list(&base.model, &base.ruled, rel, inst, names)?;
-            Ok(next)
-        }
-        None => {
-            next.forget(&base.model, &base.ruled, rel, inst)?;
-            Ok(next)
-        }
-    }
 }
 
 /// Writes a list, or takes it away.

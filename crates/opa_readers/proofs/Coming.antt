@@ -1,8 +1,8 @@
 -- What waits at first where one list is set or forgotten.
-use Rattle.std.proofs.Common.{◌≡◌, ◌⊎◌, ◌↔◌, inl, inr, ℕ, ◌+◌, ◌<◌, ◌≤◌, Bool, true, false, cond, List, [], ◌∷◌, ◌++◌, length, get_or, take, Contains, None, Some, is_some, refl, sym, ◌∙◌, ap, subst, arith}
+use Rattle.std.proofs.Common.{◌≡◌, ◌⊎◌, ◌↔◌, inl, inr, ℕ, ◌+◌, ◌<◌, Bool, true, false, cond, List, [], ◌∷◌, ◌++◌, length, get_or, take, Contains, None, Some, is_some, refl, sym, ◌∙◌, ap, subst}
 use Rattle.std.specs.Prelude.{◌||◌, ◌&&◌, ◌==◌}
 use Rattle.std.specs.List.{list_any}
-use Rattle.std.proofs.lemmas.Bool.{and_parts, cases_lt, eqb-true}
+use Rattle.std.proofs.lemmas.Bool.{and_parts, eqb-true}
 use Rattle.std.proofs.lemmas.List.{take_more}
 use Rattle.std.proofs.lemmas.List.Elements.{Contains-append_left, Contains-append_right, Contains-append_cases}
 use Rattle.opa_model.specs.declared.ids.AttrId.{AttrId}
@@ -22,7 +22,6 @@ use Rattle.opa_tree.proofs.Members.{none_in, contains_head, contains_cases}
 use Rattle.opa_mean.specs.Places.{owner_of}
 use Rattle.opa_mean.specs.Slots.{is_slot}
 use Rattle.opa_mean.proofs.SameBoth.{both_true}
-use Rattle.opa_mean.proofs.SlotsAre.{ruled_declared}
 use Rattle.opa_dirty.specs.ByLists.{IsByLists, AreListsTold, ReadsTold}
 use Rattle.opa_dirty.specs.Settling.{AreReaders, IsBegun, SamePair, Shift, Waiting}
 use Rattle.opa_dirty.specs.Slots.{pairs_of}
@@ -33,10 +32,9 @@ use Rattle.opa_dirty.proofs.Staging.{still_slot}
 use Rattle.opa_settle.specs.Tasks.{AreRanked, Marks, MarksLive, slots_of}
 use Rattle.opa_settle.specs.declared.task.Task.{Task}
 use Rattle.opa_store.specs.Drops.{has_slot}
-use Rattle.opa_readers.specs.Waits.{WaitsBesides, IsOwnSlot, IsOwnSlotBelow, IsThisSlot, IsSlotOfOne, IsLiveReader}
-
-abbrev attr_at : ℕ → AttrId
-attr_at n = record { 0 = n }
+use Rattle.opa_readers.specs.Touches.{ruled_of}
+use Rattle.opa_readers.specs.Waits.{WaitsBesides, IsOwnSlot, IsOwnSlotAmong, IsThisSlot, IsSlotOfOne, IsLiveReader}
+use Rattle.opa_readers.proofs.Touching.{in_ruled}
 
 module _ (r : Rulebase) where
   -- ---- any slots
@@ -114,31 +112,42 @@ module _ (r : Rulebase) where
   -- ---- the slots of an instance, attribute after attribute
 
   module _ (j : InstanceId) where
-    pub own_none : (tasks : List Task) → WaitsBesides r (IsOwnSlotBelow r j 0) tasks tasks
-    own_none tasks = waits_none (IsOwnSlotBelow r j 0) (λ a i h. let lt = h.0 in omega (arith, lt)) tasks
+    pub own_none : (tasks : List Task) → WaitsBesides r (IsOwnSlotAmong r j []) tasks tasks
+    own_none tasks = waits_none (IsOwnSlotAmong r j []) (λ a i h. none_in a h.0) tasks
 
-    pub own_next : (n : ℕ) (old mid new : List Task) → WaitsBesides r (IsOwnSlotBelow r j n) old mid → WaitsBesides r (IsThisSlot r (attr_at n) j) mid new → WaitsBesides r (IsOwnSlotBelow r j (n + 1)) old new
-    own_next n old mid new m k = waits_both (IsOwnSlotBelow r j n) (IsThisSlot r (attr_at n) j) (IsOwnSlotBelow r j (n + 1)) old mid new m k (λ a i. (out a i, into a i))
+    pub own_next : (attrs : List AttrId) (k : ℕ) (d : AttrId) (old mid new : List Task) → k < length attrs → WaitsBesides r (IsOwnSlotAmong r j (take k attrs)) old mid → WaitsBesides r (IsThisSlot r (get_or attrs k d) j) mid new → WaitsBesides r (IsOwnSlotAmong r j (take (k + 1) attrs)) old new
+    own_next attrs k d old mid new lt m n = waits_both (IsOwnSlotAmong r j (take k attrs)) (IsThisSlot r b j) (IsOwnSlotAmong r j (take (k + 1) attrs)) old mid new m n (λ a i. (out a i, into a i))
       where
-        out : (a : AttrId) (i : InstanceId) → IsOwnSlotBelow r j (n + 1) a i → IsOwnSlotBelow r j n a i ⊎ IsThisSlot r (attr_at n) j a i
-        out a i h = go (cases_lt a.0 n)
+        b : AttrId
+        b = get_or attrs k d
+
+        more : take (k + 1) attrs ≡ take k attrs ++ b ∷ []
+        more = take_more attrs k d lt
+
+        out : (a : AttrId) (i : InstanceId) → IsOwnSlotAmong r j (take (k + 1) attrs) a i → IsOwnSlotAmong r j (take k attrs) a i ⊎ IsThisSlot r b j a i
+        out a i h = go (Contains-append_cases (take k attrs) (b ∷ []) a (subst (λ (xs : List AttrId). Contains xs a) more h.0))
           where
-            go : (a.0 < n) ⊎ (n ≤ a.0) → IsOwnSlotBelow r j n a i ⊎ IsThisSlot r (attr_at n) j a i
-            go (inl lt) = inl (lt, h.1)
-            go (inr le) =
-                let lt = h.0 in
-                let same : n ≡ a.0 = omega (arith, le, lt) in
-                inr (ap (λ (x : ℕ). let b : AttrId = record { 0 = x } in b) same, h.1)
+            last : (b ≡ a) ⊎ Contains [] a → IsOwnSlotAmong r j (take k attrs) a i ⊎ IsThisSlot r b j a i
+            last (inl e) = inr (e, h.1)
+            last (inr none) = absurd (none_in a none)
 
-        into : (a : AttrId) (i : InstanceId) → IsOwnSlotBelow r j n a i ⊎ IsThisSlot r (attr_at n) j a i → IsOwnSlotBelow r j (n + 1) a i
-        into a i (inl h) = let lt = h.0 in (omega (arith, lt), h.1)
-        into a i (inr h) = let same : n ≡ a.0 = ap (λ (x : AttrId). x.0) h.0 in (omega (arith, same), h.1)
+            go : Contains (take k attrs) a ⊎ Contains (b ∷ []) a → IsOwnSlotAmong r j (take k attrs) a i ⊎ IsThisSlot r b j a i
+            go (inl there) = inl (there, h.1)
+            go (inr there) = last (contains_cases b a [] there)
 
-    pub own_all : (n : ℕ) (old new : List Task) → n ≡ length r.model.attributes → WaitsBesides r (IsOwnSlotBelow r j n) old new → WaitsBesides r (IsOwnSlot r j) old new
-    own_all n old new all m = waits_as (IsOwnSlotBelow r j n) (IsOwnSlot r j) old new m (λ a i. (λ h. into a i h, λ h. h.1))
+        into : (a : AttrId) (i : InstanceId) → IsOwnSlotAmong r j (take k attrs) a i ⊎ IsThisSlot r b j a i → IsOwnSlotAmong r j (take (k + 1) attrs) a i
+        into a i (inl h) = (subst (λ (xs : List AttrId). Contains xs a) (sym more) (Contains-append_left (take k attrs) (b ∷ []) a h.0), h.1)
+        into a i (inr h) = (subst (λ (xs : List AttrId). Contains xs a) (sym more) (Contains-append_right (take k attrs) (b ∷ []) a (subst (λ (x : AttrId). Contains (b ∷ []) x) h.0 (contains_head b []))), h.1)
+
+    -- each slot of the instance is of its entity's attributes
+    pub own_all : (attrs : List AttrId) (e : ℕ) (old new : List Task) → attrs ≡ ruled_of r e → e ≡ j.entity.0 → WaitsBesides r (IsOwnSlotAmong r j attrs) old new → WaitsBesides r (IsOwnSlot r j) old new
+    own_all attrs e old new are at m = waits_as (IsOwnSlotAmong r j attrs) (IsOwnSlot r j) old new m (λ a i. (λ h. into a i h, λ h. h.1))
       where
-        into : (a : AttrId) (i : InstanceId) → IsOwnSlot r j a i → IsOwnSlotBelow r j n a i
-        into a i h = let lt : a.0 < length r.model.attributes = ruled_declared r a (and_parts (i.entity.0 == owner_of (shape_of r.model) a) (is_some (rule_of r.rules a)) h.1).1 in (omega (arith, lt, all), h)
+        into : (a : AttrId) (i : InstanceId) → IsOwnSlot r j a i → IsOwnSlotAmong r j attrs a i
+        into a i h =
+            let two = and_parts (i.entity.0 == owner_of (shape_of r.model) a) (is_some (rule_of r.rules a)) h.1 in
+            let owner : e ≡ owner_of (shape_of r.model) a = at ∙ ap (λ (x : InstanceId). x.entity.0) (sym (same_is i j h.0)) ∙ eqb-true i.entity.0 (owner_of (shape_of r.model) a) two.0 in
+            (subst (λ (xs : List AttrId). Contains xs a) (sym are) (in_ruled (shape_of r.model) e a r.rules owner two.1), h)
 
   -- ---- the slots of what comes, one instance after another
 

@@ -1,6 +1,6 @@
 -- An index, as slots are added.
 use Rattle.std.proofs.Common.{◌≡◌, ◌⊎◌, inl, inr, ℕ, ◌+◌, ◌<◌, List, [], ◌∷◌, ◌++◌, length, get_or, take, Option, Contains, sym, ◌∙◌, ap, subst}
-use Rattle.std.specs.Prelude.{unwrap_or}
+use Rattle.std.specs.BTreeSet.{BTreeSet}
 use Rattle.std.specs.FinMap.{empty, get-empty}
 use Rattle.std.proofs.lemmas.List.{take_more}
 use Rattle.std.proofs.lemmas.List.Elements.{Contains-append_left, Contains-append_right, Contains-append_cases}
@@ -13,7 +13,7 @@ use Rattle.opa_case.specs.declared.question.Question.{Question}
 use Rattle.opa_case.specs.declared.question.Question.TheVariants as question
 use Rattle.opa_dirty.specs.Dirty.{slot_reads}
 use Rattle.opa_dirty.specs.Settling.{SamePair, Waiting, AreReaders}
-use Rattle.opa_dirty.specs.Slots.{pairs_of}
+use Rattle.opa_dirty.specs.Slots.{pairs_of, slots_in}
 use Rattle.opa_dirty.specs.declared.slot.Slot.{Slot}
 use Rattle.opa_mean.specs.Changes.{slots}
 use Rattle.opa_mean.specs.Given.{base_of, facts_of}
@@ -25,7 +25,7 @@ use Rattle.opa_readers.specs.Indexes.{Table, slots_at, readers_in, SameKey, Adds
 use Rattle.opa_readers.specs.declared.index.Index.{Index}
 
 nothing : (k : ℕ × InstanceId) → slots_at empty k ≡ []
-nothing k = ap (λ (o : Option (List Slot)). pairs_of (unwrap_or o [])) (get-empty cell_cmp k)
+nothing k = ap (λ (o : Option (BTreeSet Slot)). pairs_of (slots_in o)) (get-empty cell_cmp k)
 
 pub line_added : (old new : Index) (m : AttrId) (k : InstanceId) (a : AttrId) (i : InstanceId) → AddsAt old.lines new.lines (m.0, k) (a, i) → new.lists ≡ old.lists → AddsReads (question.Attr m k ∷ []) a i old new
 line_added old new m k a i adds same (question.Attr b j) x = (λ h. out ((adds (b.0, j) x).0 h), λ h. into h)

@@ -6,5 +6,6 @@ pub mod ListsTold
 pub mod Putting
 pub mod Renewed
 pub mod Sifting
+pub mod SlotSets
 pub mod Taking
 pub mod Touching

@@ -1,6 +1,6 @@
 -- What another case makes new, one by one.
 use Rattle.std.proofs.Common.{◌≡◌, ◌⊎◌, inl, inr, ℕ, ◌+◌, ◌<◌, Bool, true, false, cond, not, List, [], ◌∷◌, ◌++◌, length, get_or, take, map, Option, None, Some, is_some, Contains, refl, sym, ◌∙◌, ap, subst}
-use Rattle.std.specs.Prelude.{◌&&◌, flat_map, unwrap_or}
+use Rattle.std.specs.Prelude.{◌&&◌, flat_map}
 use Rattle.std.specs.FinMap.{get, entries, find, get-entries}
 use Rattle.std.specs.Ordering.{eq_by_cmp}
 use denote.Ref.{Bor}
@@ -19,7 +19,8 @@ use Rattle.opa_case.specs.declared.question.Question.{Question}
 use Rattle.opa_case.specs.declared.question.Question.TheVariants as question
 use Rattle.opa_dirty.specs.Dirty.{is_changed, is_fresh, AnswersDiffer}
 use Rattle.opa_dirty.specs.Settling.{is_given}
-use Rattle.opa_dirty.specs.Slots.{pairs_of}
+use Rattle.opa_dirty.specs.Slots.{pairs_of, slots_in}
+use Rattle.std.specs.BTreeSet.{BTreeSet}
 use Rattle.opa_dirty.specs.declared.slot.Slot.{Slot}
 use Rattle.opa_mean.specs.Changes.{first_difference}
 use Rattle.opa_mean.specs.Given.{line_value}
@@ -32,7 +33,7 @@ use Rattle.opa_tree.proofs.Members.{none_in, contains_head, contains_tail, conta
 use Rattle.opa_readers.specs.Indexes.{Table, slots_at, readers_in}
 use Rattle.opa_readers.specs.Renewing.{fresh_among, attr_at, rel_at, answer_told, list_told, AreGiven}
 use Rattle.opa_readers.specs.declared.index.Index.{Index}
-use Rattle.opa_readers.proofs.Adding.{pairs-append}
+use Rattle.opa_settle.proofs.Marking.{pairs-append}
 
 -- ---- slots
 
@@ -67,10 +68,10 @@ find_in {V} k (e ∷ es) v h = go (eq_by_cmp cell_cmp k e.0) refl h (find_in k e
     go false q g rest = contains_tail e (k, v) es (rest g)
 
 -- where a slot stands, there is an entry
-entry_of : (m : Table) (k : ℕ × InstanceId) (x : AttrId × InstanceId) → Contains (slots_at m k) x → (v : List Slot) × Contains (entries m) (k, v)
+entry_of : (m : Table) (k : ℕ × InstanceId) (x : AttrId × InstanceId) → Contains (slots_at m k) x → (v : BTreeSet Slot) × Contains (entries m) (k, v)
 entry_of m k x h = go (get m k) refl h
   where
-    go : (o : Option (List Slot)) → get m k ≡ o → Contains (pairs_of (unwrap_or o [])) x → (v : List Slot) × Contains (entries m) (k, v)
+    go : (o : Option (BTreeSet Slot)) → get m k ≡ o → Contains (pairs_of (slots_in o)) x → (v : BTreeSet Slot) × Contains (entries m) (k, v)
     go None e g = absurd (none_in x g)
     go (Some v) e g = (v, find_in k (entries m) v (sym (get-entries m k) ∙ e))
 
@@ -109,22 +110,22 @@ module _ (law : AnswersDiffer) (r : Rulebase) (c c' : CaseView) (is : IsOf r c) 
 
   module _ (index : Index) where
     abbrev answers : List Question
-    answers = flat_map (λ (e : (ℕ × InstanceId) × List Slot). answer_told r c c' e.0) (entries index.lines)
+    answers = flat_map (λ (e : (ℕ × InstanceId) × BTreeSet Slot). answer_told r c c' e.0) (entries index.lines)
 
     abbrev lists : List Question
-    lists = flat_map (λ (e : (ℕ × InstanceId) × List Slot). list_told c c' e.0) (entries index.lists)
+    lists = flat_map (λ (e : (ℕ × InstanceId) × BTreeSet Slot). list_told c c' e.0) (entries index.lists)
 
     out : (q : Question) → Contains answers q ⊎ Contains lists q → given_too q
-    out q (inl h) = let e = flat_out (λ (e : (ℕ × InstanceId) × List Slot). answer_told r c c' e.0) (entries index.lines) q h in answer_out e.0.0 q e.1.1
-    out q (inr h) = let e = flat_out (λ (e : (ℕ × InstanceId) × List Slot). list_told c c' e.0) (entries index.lists) q h in list_out e.0.0 q e.1.1
+    out q (inl h) = let e = flat_out (λ (e : (ℕ × InstanceId) × BTreeSet Slot). answer_told r c c' e.0) (entries index.lines) q h in answer_out e.0.0 q e.1.1
+    out q (inr h) = let e = flat_out (λ (e : (ℕ × InstanceId) × BTreeSet Slot). list_told c c' e.0) (entries index.lists) q h in list_out e.0.0 q e.1.1
 
     into : (q : Question) (x : AttrId × InstanceId) → Contains (readers_in index q) x → is_given r q ≡ true → is_changed r c c' q ≡ true → Contains (answers ++ lists) q
     into (question.Attr a i) x there g h =
         let e = entry_of index.lines (a.0, i) x there in
-        Contains-append_left answers lists (question.Attr a i) (flat_in (λ (e : (ℕ × InstanceId) × List Slot). answer_told r c c' e.0) (entries index.lines) ((a.0, i), e.0) (question.Attr a i) e.1 (answer_in a i g h))
+        Contains-append_left answers lists (question.Attr a i) (flat_in (λ (e : (ℕ × InstanceId) × BTreeSet Slot). answer_told r c c' e.0) (entries index.lines) ((a.0, i), e.0) (question.Attr a i) e.1 (answer_in a i g h))
     into (question.Members m i) x there g h =
         let e = entry_of index.lists (m.0, i) x there in
-        Contains-append_right answers lists (question.Members m i) (flat_in (λ (e : (ℕ × InstanceId) × List Slot). list_told c c' e.0) (entries index.lists) ((m.0, i), e.0) (question.Members m i) e.1
+        Contains-append_right answers lists (question.Members m i) (flat_in (λ (e : (ℕ × InstanceId) × BTreeSet Slot). list_told c c' e.0) (entries index.lists) ((m.0, i), e.0) (question.Members m i) e.1
         (if_in (not (same_names (list_of c m i) (list_of c' m i))) (question.Members m i) h))
 
     all_given : (told : List Question) → told ≡ answers ++ lists → AreGiven r c c' (readers_in index) told
@@ -135,12 +136,12 @@ module _ (law : AnswersDiffer) (r : Rulebase) (c c' : CaseView) (is : IsOf r c) 
     }
 
     -- cells that are lent, as entries
-    flat_seen : (f : ℕ × InstanceId → List Question) (cells : List (ℕ × Bor InstanceId × Bor (List Slot))) → flat_map (λ x. f (x.0, x.1.now)) cells ≡ flat_map (λ (e : (ℕ × InstanceId) × List Slot). f e.0) (map seen cells)
+    flat_seen : (f : ℕ × InstanceId → List Question) (cells : List (ℕ × Bor InstanceId × Bor (BTreeSet Slot))) → flat_map (λ x. f (x.0, x.1.now)) cells ≡ flat_map (λ (e : (ℕ × InstanceId) × BTreeSet Slot). f e.0) (map seen cells)
     flat_seen f [] = refl
     flat_seen f (x ∷ cells) = ap (λ qs. f (x.0, x.1.now) ++ qs) (flat_seen f cells)
 
-    pub are_given : (by_line by_list : List (ℕ × Bor InstanceId × Bor (List Slot))) (none mid told : List Question) → map seen by_line ≡ entries index.lines → map seen by_list ≡ entries index.lists → none ≡ []
+    pub are_given : (by_line by_list : List (ℕ × Bor InstanceId × Bor (BTreeSet Slot))) (none mid told : List Question) → map seen by_line ≡ entries index.lines → map seen by_list ≡ entries index.lists → none ≡ []
         → mid ≡ none ++ flat_map (λ x. answer_told r c c' (x.0, x.1.now)) by_line → told ≡ mid ++ flat_map (λ x. list_told c c' (x.0, x.1.now)) by_list → AreGiven r c c' (readers_in index) told
     are_given by_line by_list none mid told el es en em et = all_given told
-        (et ∙ ap (λ qs. mid ++ qs) (flat_seen (list_told c c') by_list ∙ ap (flat_map (λ (e : (ℕ × InstanceId) × List Slot). list_told c c' e.0)) es)
-        ∙ ap (λ qs. qs ++ lists) (em ∙ ap (λ qs. qs ++ flat_map (λ x. answer_told r c c' (x.0, x.1.now)) by_line) en ∙ flat_seen (answer_told r c c') by_line ∙ ap (flat_map (λ (e : (ℕ × InstanceId) × List Slot). answer_told r c c' e.0)) el))
+        (et ∙ ap (λ qs. mid ++ qs) (flat_seen (list_told c c') by_list ∙ ap (flat_map (λ (e : (ℕ × InstanceId) × BTreeSet Slot). list_told c c' e.0)) es)
+        ∙ ap (λ qs. qs ++ lists) (em ∙ ap (λ qs. qs ++ flat_map (λ x. answer_told r c c' (x.0, x.1.now)) by_line) en ∙ flat_seen (answer_told r c c') by_line ∙ ap (flat_map (λ (e : (ℕ × InstanceId) × BTreeSet Slot). answer_told r c c' e.0)) el))

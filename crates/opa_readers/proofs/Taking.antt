@@ -1,6 +1,7 @@
 -- Slots that are taken out of an index.
-use Rattle.std.proofs.Common.{◌≡◌, ◌⊎◌, ◌↔◌, inl, inr, ℕ, ◌+◌, ◌<◌, Bool, true, false, not, cond, List, [], ◌∷◌, ◌++◌, length, get_or, take, drop, Option, None, Some, Contains, refl, sym, ◌∙◌, ap, subst, arith}
-use Rattle.std.specs.Prelude.{unwrap_or, filter, ◌&&◌, Result, Ok, Err, OnErr}
+use Rattle.std.proofs.Common.{◌≡◌, ◌⊎◌, ◌↔◌, inl, inr, ℕ, ◌+◌, ◌<◌, Bool, true, false, cond, List, [], ◌∷◌, ◌++◌, length, get_or, take, drop, Option, None, Some, Contains, refl, sym, ◌∙◌, ap, subst}
+use Rattle.std.specs.BTreeSet.{BTreeSet}
+use Rattle.std.specs.Prelude.{◌&&◌, Result, Ok, Err, OnErr}
 use Rattle.std.specs.FinMap.{get, insert, remove, get-insert, get-remove}
 use Rattle.std.specs.Ordering.{eq_by_cmp}
 use Rattle.std.specs.Cmp.{eq_by_cmp_equiv}
@@ -17,16 +18,12 @@ use Rattle.opa_cells.proofs.Orders.{cell_exact, cell_total, same_is, same_itself
 use Rattle.opa_case.specs.declared.question.Question.{Question}
 use Rattle.opa_case.specs.declared.question.Question.TheVariants as question
 use Rattle.opa_dirty.specs.Settling.{SamePair}
-use Rattle.opa_dirty.specs.Slots.{pairs_of}
+use Rattle.opa_dirty.specs.Slots.{pairs_of, slots_in}
 use Rattle.opa_dirty.specs.declared.slot.Slot.{Slot}
-use Rattle.opa_mean.proofs.Everywhere.{in_map}
-use Rattle.opa_mean.proofs.Filtered.{filter_in, filter_out, map_out}
 use Rattle.opa_tree.proofs.Members.{none_in, contains_head, contains_cases}
 use Rattle.opa_readers.specs.Indexes.{Table, slots_at, readers_in, SameKey, SameTable, SameIndex, TakesSlot, TakesAt, TakesReads, AddsReads, AddsSomeReads, is_slot_of, pair_of}
 use Rattle.opa_readers.specs.declared.index.Index.{Index}
-
-abbrev is_other : AttrId → InstanceId → Slot → Bool
-is_other a i s = not (is_slot_of a i s)
+use Rattle.opa_readers.proofs.SlotSets.{no_pairs}
 
 pub slot_itself : (s : Slot) → is_slot_of s.attr s.inst s ≡ true
 slot_itself s = ap (λ b. b && is_same s.inst s.inst) (eq-eqb s.attr.0 s.attr.0 refl) ∙ same_itself s.inst
@@ -37,37 +34,11 @@ same_slot a i s e =
     sym (ap (λ (k : ℕ). let b : AttrId = record { 0 = k } in let x : AttrId × InstanceId = (b, s.inst) in x) (eqb-true s.attr.0 a.0 two.0)
     ∙ ap (λ (j : InstanceId). let x : AttrId × InstanceId = (a, j) in x) (same_is s.inst i two.1))
 
-not_true : (b : Bool) → not b ≡ true → b ≡ true → ⊥
-not_true true h e = cc h
-not_true false h e = cc e
-
-true_or : (b : Bool) → (b ≡ true → ⊥) → not b ≡ true
-true_or true h = absurd (h refl)
-true_or false h = refl
-
--- those that are left
-pub takes_filtered : (slots left : List Slot) (a : AttrId) (i : InstanceId) → left ≡ filter (is_other a i) slots → TakesSlot slots left (a, i)
-takes_filtered slots left a i is x = (λ h. out (subst (λ (ys : List Slot). Contains (pairs_of ys) x) is h), λ h. subst (λ (ys : List Slot). Contains (pairs_of ys) x) (sym is) (into h.0 h.1))
-  where
-    out : Contains (pairs_of (filter (is_other a i) slots)) x → Contains (pairs_of slots) x × (SamePair (a, i) x → ⊥)
-    out h =
-        let w = map_out (λ (s : Slot). (s.attr, s.inst)) (filter (is_other a i) slots) x h in
-        let two = filter_out (is_other a i) slots w.0 w.1.0 in (
-          subst (λ (y : AttrId × InstanceId). Contains (pairs_of slots) y) w.1.1 (in_map (λ (s : Slot). (s.attr, s.inst)) slots w.0 two.0),
-          λ same. not_true (is_slot_of a i w.0) two.1 (subst (λ (y : AttrId × InstanceId). is_slot_of y.0 y.1 w.0 ≡ true) (w.1.1 ∙ sym same) (slot_itself w.0)),
-        )
-
-    into : Contains (pairs_of slots) x → (SamePair (a, i) x → ⊥) → Contains (pairs_of (filter (is_other a i) slots)) x
-    into h other =
-        let w = map_out (λ (s : Slot). (s.attr, s.inst)) slots x h in
-        subst (λ (y : AttrId × InstanceId). Contains (pairs_of (filter (is_other a i) slots)) y) w.1.1
-        (in_map (λ (s : Slot). (s.attr, s.inst)) (filter (is_other a i) slots) w.0 (filter_in (is_other a i) slots w.0 w.1.0 (true_or (is_slot_of a i w.0) (λ e. other (same_slot a i w.0 e ∙ w.1.1)))))
-
-takes_at : (m : Table) (k : ℕ × InstanceId) (v : List Slot) (s : AttrId × InstanceId) → TakesSlot (unwrap_or (get m k) []) v s → TakesAt m (insert m k v) k s
+takes_at : (m : Table) (k : ℕ × InstanceId) (v : BTreeSet Slot) (s : AttrId × InstanceId) → TakesSlot (slots_in (get m k)) v.keys s → TakesAt m (insert m k v) k s
 takes_at m k v s h j x = go (eq_by_cmp cell_cmp j k) refl
   where
-    at : (t : Bool) → eq_by_cmp cell_cmp j k ≡ t → slots_at (insert m k v) j ≡ pairs_of (unwrap_or (cond t (Some v) (get m j)) [])
-    at t e = ap (λ (o : Option (List Slot)). pairs_of (unwrap_or o [])) (get-insert cell_total m k v j ∙ ap (λ b. cond b (Some v) (get m j)) e)
+    at : (t : Bool) → eq_by_cmp cell_cmp j k ≡ t → slots_at (insert m k v) j ≡ pairs_of (slots_in (cond t (Some v) (get m j)))
+    at t e = ap (λ (o : Option (BTreeSet Slot)). pairs_of (slots_in o)) (get-insert cell_total m k v j ∙ ap (λ b. cond b (Some v) (get m j)) e)
 
     go : (t : Bool) → eq_by_cmp cell_cmp j k ≡ t → Contains (slots_at (insert m k v) j) x ↔ (Contains (slots_at m j) x × (SameKey k j × SamePair s x → ⊥))
     go true e = (
@@ -89,22 +60,22 @@ takes_at m k v s h j x = go (eq_by_cmp cell_cmp j k) refl
     )
 
 -- what is set at a key, and where there is none
-pub take_there : (m new : Table) (k : ℕ × InstanceId) (old slots : List Slot) (s : AttrId × InstanceId) → get m k ≡ Some old → new ≡ insert m k slots → TakesSlot old slots s → TakesAt m new k s
+pub take_there : (m new : Table) (k : ℕ × InstanceId) (old slots : BTreeSet Slot) (s : AttrId × InstanceId) → get m k ≡ Some old → new ≡ insert m k slots → TakesSlot old.keys slots.keys s → TakesAt m new k s
 take_there m new k old slots s at is takes =
-    subst (λ (t : Table). TakesAt m t k s) (sym is) (takes_at m k slots s (subst (λ (o : Option (List Slot)). TakesSlot (unwrap_or o []) slots s) (sym at) takes))
+    subst (λ (t : Table). TakesAt m t k s) (sym is) (takes_at m k slots s (subst (λ (o : Option (BTreeSet Slot)). TakesSlot (slots_in o) slots.keys s) (sym at) takes))
 
 pub take_nowhere : (m : Table) (k : ℕ × InstanceId) (s : AttrId × InstanceId) → get m k ≡ None → TakesAt m m k s
 take_nowhere m k s none j x = (λ h. (h, λ p. gone p.0 h), λ h. h.0)
   where
     gone : SameKey k j → Contains (slots_at m j) x → ⊥
-    gone same h = none_in x (subst (λ (o : Option (List Slot)). Contains (pairs_of (unwrap_or o [])) x) none (subst (λ (y : ℕ × InstanceId). Contains (slots_at m y) x) (sym same) h))
+    gone same h = none_in x (subst (λ (o : Option (BTreeSet Slot)). Contains (pairs_of (slots_in o)) x) none (subst (λ (y : ℕ × InstanceId). Contains (slots_at m y) x) (sym same) h))
 
 -- a key without slots is taken out
 pub empty_gone : (m new : Table) (k : ℕ × InstanceId) → slots_at m k ≡ [] → new ≡ remove m k → SameTable m new
 empty_gone m new k none is j = go (eq_by_cmp cell_cmp j k) refl
   where
-    at : (t : Bool) → eq_by_cmp cell_cmp j k ≡ t → slots_at new j ≡ pairs_of (unwrap_or (cond t None (get m j)) [])
-    at t e = ap (λ (u : Table). slots_at u j) is ∙ ap (λ (o : Option (List Slot)). pairs_of (unwrap_or o [])) (get-remove cell_total m k j ∙ ap (λ b. cond b None (get m j)) e)
+    at : (t : Bool) → eq_by_cmp cell_cmp j k ≡ t → slots_at new j ≡ pairs_of (slots_in (cond t None (get m j)))
+    at t e = ap (λ (u : Table). slots_at u j) is ∙ ap (λ (o : Option (BTreeSet Slot)). pairs_of (slots_in o)) (get-remove cell_total m k j ∙ ap (λ b. cond b None (get m j)) e)
 
     go : (t : Bool) → eq_by_cmp cell_cmp j k ≡ t → slots_at new j ≡ slots_at m j
     go true e = at true e ∙ sym none ∙ ap (λ (y : ℕ × InstanceId). slots_at m y) (sym (tells_apart cell_exact j k e))
@@ -114,12 +85,8 @@ pub takes_then : (m mid new : Table) (k : ℕ × InstanceId) (s : AttrId × Inst
 takes_then m mid new k s takes same j x = (λ h. (takes j x).0 (subst (λ ys. Contains ys x) (same j) h), λ h. subst (λ ys. Contains ys x) (sym (same j)) ((takes j x).1 h))
 
 -- a key without slots in a map
-pub none_there : (m : Table) (k : ℕ × InstanceId) (slots : List Slot) → get m k ≡ Some slots → length slots ≡ 0 → slots_at m k ≡ []
-none_there m k slots at none = ap (λ (o : Option (List Slot)). pairs_of (unwrap_or o [])) at ∙ empty slots none
-  where
-    empty : (xs : List Slot) → length xs ≡ 0 → pairs_of xs ≡ []
-    empty [] e = refl
-    empty (x ∷ xs) e = absurd (omega (arith, e))
+pub none_there : (m : Table) (k : ℕ × InstanceId) (slots : BTreeSet Slot) → get m k ≡ Some slots → length slots.keys ≡ 0 → slots_at m k ≡ []
+none_there m k slots at none = ap (λ (o : Option (BTreeSet Slot)). pairs_of (slots_in o)) at ∙ no_pairs slots.keys none
 
 -- of one question
 pub line_taken : (old new : Index) (m : AttrId) (k : InstanceId) (a : AttrId) (i : InstanceId) → TakesAt old.lines new.lines (m.0, k) (a, i) → new.lists ≡ old.lists → TakesReads (question.Attr m k ∷ []) a i old new
@@ -201,15 +168,15 @@ on_err (Ok x) p = tt
 on_err (Err e) p = p
 
 -- nothing is added
-pub table_same : (m new : Table) (k : ℕ × InstanceId) (old slots : List Slot) → get m k ≡ Some old → new ≡ insert m k slots → slots ≡ old → SameTable m new
+pub table_same : (m new : Table) (k : ℕ × InstanceId) (old slots : BTreeSet Slot) → get m k ≡ Some old → new ≡ insert m k slots → slots.keys ≡ old.keys → SameTable m new
 table_same m new k old slots there is same j = go (eq_by_cmp cell_cmp j k) refl
   where
-    at : (t : Bool) → eq_by_cmp cell_cmp j k ≡ t → slots_at new j ≡ pairs_of (unwrap_or (cond t (Some slots) (get m j)) [])
-    at t e = ap (λ (u : Table). slots_at u j) is ∙ ap (λ (o : Option (List Slot)). pairs_of (unwrap_or o [])) (get-insert cell_total m k slots j ∙ ap (λ b. cond b (Some slots) (get m j)) e)
+    at : (t : Bool) → eq_by_cmp cell_cmp j k ≡ t → slots_at new j ≡ pairs_of (slots_in (cond t (Some slots) (get m j)))
+    at t e = ap (λ (u : Table). slots_at u j) is ∙ ap (λ (o : Option (BTreeSet Slot)). pairs_of (slots_in o)) (get-insert cell_total m k slots j ∙ ap (λ b. cond b (Some slots) (get m j)) e)
 
     go : (t : Bool) → eq_by_cmp cell_cmp j k ≡ t → slots_at new j ≡ slots_at m j
     go true e =
-        at true e ∙ ap pairs_of same ∙ ap (λ (o : Option (List Slot)). pairs_of (unwrap_or o [])) (sym there)
+        at true e ∙ ap pairs_of same ∙ ap (λ (o : Option (BTreeSet Slot)). pairs_of (slots_in o)) (sym there)
         ∙ ap (λ (y : ℕ × InstanceId). slots_at m y) (sym (tells_apart cell_exact j k e))
     go false e = at false e
 

@@ -36,7 +36,7 @@ abbrev owned_attr : Shape → ℕ → Rule → List AttrId
 owned_attr s e rule = cond (owner_of s rule.attr == e) (rule.attr ∷ []) []
 
 -- an attribute of an entity that has a rule
-in_ruled : (s : Shape) (e : ℕ) (a : AttrId) (rules : List Rule) → e ≡ owner_of s a → is_some (find (concludes a) rules) ≡ true → Contains (flat_map (owned_attr s e) rules) a
+pub in_ruled : (s : Shape) (e : ℕ) (a : AttrId) (rules : List Rule) → e ≡ owner_of s a → is_some (find (concludes a) rules) ≡ true → Contains (flat_map (owned_attr s e) rules) a
 in_ruled s e a [] owner h = absurd (cc h)
 in_ruled s e a (r ∷ rules) owner h = go (concludes a r) refl (λ k. in_ruled s e a rules owner k)
   where

@@ -1,5 +1,6 @@
 -- Which slots read a line or a list.
-use Rattle.std.specs.Prelude.{◌≡◌, ◌⊎◌, ◌↔◌, ℕ, Bool, ◌&&◌, ◌==◌, unwrap_or, List, [], Contains}
+use Rattle.std.specs.Prelude.{◌≡◌, ◌⊎◌, ◌↔◌, ℕ, Bool, ◌&&◌, ◌==◌, List, Contains}
+use Rattle.std.specs.BTreeSet.{BTreeSet}
 use Rattle.std.specs.FinMap.{FinMap, get}
 use Rattle.opa_model.specs.declared.ids.AttrId.{AttrId}
 use Rattle.opa_cells.specs.Instances.{is_same}
@@ -10,7 +11,7 @@ use Rattle.opa_case.specs.declared.question.Question.{Question}
 use Rattle.opa_case.specs.declared.question.Question.TheVariants as question
 use Rattle.opa_dirty.specs.Dirty.{slot_reads}
 use Rattle.opa_dirty.specs.Settling.{SamePair, Waiting}
-use Rattle.opa_dirty.specs.Slots.{pairs_of}
+use Rattle.opa_dirty.specs.Slots.{pairs_of, slots_in}
 use Rattle.opa_dirty.specs.declared.slot.Slot.{Slot}
 use Rattle.opa_tree.specs.declared.rulebase.Rulebase.{Rulebase}
 use Rattle.opa_readers.specs.declared.index.Index.{Index}
@@ -22,12 +23,12 @@ pair_of s = (s.attr, s.inst)
 abbrev pub is_slot_of : AttrId → InstanceId → Slot → Bool
 is_slot_of a i s = (s.attr.0 == a.0) && is_same s.inst i
 
--- the slots at each key
+-- the sets of slots at each key
 abbrev pub Table : Type 0
-Table = FinMap cell_cmp (List Slot)
+Table = FinMap cell_cmp (BTreeSet Slot)
 
 abbrev pub slots_at : Table → ℕ × InstanceId → Waiting
-slots_at m k = pairs_of (unwrap_or (get m k) [])
+slots_at m k = pairs_of (slots_in (get m k))
 
 -- the slots that read a question, by an index
 abbrev pub readers_in : Index → Question → Waiting

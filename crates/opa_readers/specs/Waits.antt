@@ -1,5 +1,5 @@
 -- Slots that are added to what waits.
-use Rattle.std.specs.Prelude.{◌≡◌, ◌<◌, ◌⊎◌, ◌↔◌, ℕ, true, List, Contains}
+use Rattle.std.specs.Prelude.{◌≡◌, ◌⊎◌, ◌↔◌, true, List, Contains}
 use Rattle.opa_model.specs.declared.ids.AttrId.{AttrId}
 use Rattle.opa_cells.specs.Instances.{is_same}
 use Rattle.opa_cells.specs.declared.instance.InstanceId.{InstanceId}
@@ -23,9 +23,9 @@ pub record WaitsBesides (r : Rulebase) (those : AttrId → InstanceId → Type 0
 abbrev pub IsOwnSlot : Rulebase → InstanceId → AttrId → InstanceId → Type 0
 IsOwnSlot r j a i = (is_same i j ≡ true) × (has_slot r a i ≡ true)
 
--- one of the first attributes
-abbrev pub IsOwnSlotBelow : Rulebase → InstanceId → ℕ → AttrId → InstanceId → Type 0
-IsOwnSlotBelow r j n a i = (a.0 < n) × IsOwnSlot r j a i
+-- a slot of this instance, of one of these attributes
+abbrev pub IsOwnSlotAmong : Rulebase → InstanceId → List AttrId → AttrId → InstanceId → Type 0
+IsOwnSlotAmong r j attrs a i = Contains attrs a × IsOwnSlot r j a i
 
 -- this very slot
 abbrev pub IsThisSlot : Rulebase → AttrId → InstanceId → AttrId → InstanceId → Type 0

@@ -1,19 +1,19 @@
 // A slot that is added where it reads.
-ghost use Rattle.std.specs.Prelude.{◌≡◌, ◌∷◌, [], true, Contains, IfOk, OnErr, OnOk};
-ghost use Rattle.opa_dirty.specs.Slots.{pairs_of};
+ghost use Rattle.std.specs.Prelude.{◌≡◌, [], IfOk, OnErr, OnOk};
 ghost use Rattle.opa_readers.specs.Indexes.{AddsAt, AddsSlot, SameTable};
 
 use opa_case::InstanceId;
 use opa_cells::Cells;
 use opa_dirty::Slot;
-use opa_io::{List, NoMemory};
+use opa_io::NoMemory;
 use opa_model::AttrId;
 use std::alloc::Global;
+use std::collections::BTreeSet;
 
 /// Adds a slot to those at a key.
 pub(crate) fn add_at(
     alloc: Global,
-    cells: &mut Cells<List<Slot>>,
+    cells: &mut Cells<BTreeSet<Slot>>,
     number: u32,
     key: &InstanceId,
     attr: AttrId,
@@ -36,41 +36,27 @@ pub(crate) fn add_at(
     }
 }
 
-/// Adds a slot that isn't the last one.
+/// Adds a slot, where it isn't there yet.
 fn add_slot(
     alloc: Global,
-    slots: &mut List<Slot>,
+    slots: &mut BTreeSet<Slot>,
     attr: AttrId,
     inst: &InstanceId,
 ) -> Result<(), NoMemory>
-    ensures adds { OnOk result (AddsSlot slots.old slots.new (attr, inst.now)) }
-    ensures err { OnErr result (slots.new ≡ slots.old) }
+    ensures adds { OnOk result (AddsSlot slots.old.keys slots.new.keys (attr, inst.now)) }
+    ensures err { OnErr result (slots.new.keys ≡ slots.old.keys) }
 {
-    if is_last(slots.as_slice(), attr, inst) {
-        Ok(())
-    } else {
-        let inst = inst.copy(alloc)?;
-        slots.push(Slot { attr, inst })?;
-        Ok(())
-    }
-}
-
-/// Whether the slot is the last one. All questions of a slot are added before those of the next one, so that it stands once
-/// at each.
-fn is_last(slots: &[Slot], attr: AttrId, inst: &InstanceId) -> bool
-    ensures { result ≡ true → Contains (pairs_of slots.now) (attr, inst.now) }
-{
-    match slots.last() {
-        Some(slot) => slot.attr.0 == attr.0 && slot.inst.equals(inst),
-        None => false,
-    }
-}
-
-fn only(alloc: Global, attr: AttrId, inst: &InstanceId) -> Result<List<Slot>, NoMemory>
-    ensures { IfOk result (λ slots. pairs_of slots ≡ (attr, inst.now) ∷ []) }
-{
-    let mut slots = List::new(alloc);
     let inst = inst.copy(alloc)?;
-    slots.push(Slot { attr, inst })?;
+    match slots.insert(Slot { attr, inst }) {
+        Ok(_) => Ok(()),
+        Err(_) => Err(NoMemory),
+    }
+}
+
+fn only(alloc: Global, attr: AttrId, inst: &InstanceId) -> Result<BTreeSet<Slot>, NoMemory>
+    ensures { IfOk result (λ slots. AddsSlot [] slots.keys (attr, inst.now)) }
+{
+    let mut slots = BTreeSet::new(alloc);
+    add_slot(alloc, &mut slots, attr, inst)?;
     Ok(slots)
 }

@@ -12,6 +12,7 @@ use opa_io::{List, NoMemory};
 use opa_model::{AttrId, RelId};
 use opa_tree::Rulebase;
 use std::alloc::Global;
+use std::collections::BTreeSet;
 
 /// The questions of the index that no rule gives and that differ in the two cases: lists, and answers of attributes without a
 /// rule. None that differs and that a slot of the index reads is missing.
@@ -41,7 +42,7 @@ fn add_answers(
     base: &Rulebase,
     old: &Case,
     new: &Case,
-    cells: &[(u32, &InstanceId, &List<Slot>)],
+    cells: &[(u32, &InstanceId, &BTreeSet<Slot>)],
     told: &mut List<Question>,
 ) -> Result<(), NoMemory>
     ensures { OnOk result (told.new ≡ told.old ++ flat_map (λ x. answer_told base.now old.now new.now (x.0, x.1.now)) cells.now) }
@@ -82,7 +83,7 @@ fn add_lists(
     alloc: Global,
     old: &Case,
     new: &Case,
-    cells: &[(u32, &InstanceId, &List<Slot>)],
+    cells: &[(u32, &InstanceId, &BTreeSet<Slot>)],
     told: &mut List<Question>,
 ) -> Result<(), NoMemory>
     ensures { OnOk result (told.new ≡ told.old ++ flat_map (λ x. list_told old.now new.now (x.0, x.1.now)) cells.now) }

@@ -2,11 +2,11 @@
 
 use opa_cells::Cells;
 use opa_dirty::Slot;
-use opa_io::List;
+use std::collections::BTreeSet;
 
 /// For each line and each list the slots that read it.
 #[derive(Drop)]
 pub struct Index {
-    pub(crate) lines: Cells<List<Slot>>,
-    pub(crate) lists: Cells<List<Slot>>,
+    pub(crate) lines: Cells<BTreeSet<Slot>>,
+    pub(crate) lists: Cells<BTreeSet<Slot>>,
 }

@@ -14,6 +14,7 @@ mod index;
 mod laws;
 mod listing;
 mod owned;
+mod owning;
 mod put;
 mod readers;
 mod renew;
@@ -21,7 +22,6 @@ mod renewal;
 mod take;
 mod told;
 mod touched;
-mod weight;
 
 pub use beginning::begin;
 pub use fresh::fresh_slots;

@@ -1,13 +1,16 @@
 // What waits before anything is derived, where one list is set or forgotten.
-ghost use Rattle.std.specs.Prelude.{IfOk, OnOk};
+ghost use Rattle.std.specs.Prelude.{◌≡◌, IfOk, OnOk};
 ghost use Rattle.opa_case.specs.Overlays.{relisted_case};
 ghost use Rattle.opa_dirty.specs.ByLists.{AreListsTold, IsByLists};
 ghost use Rattle.opa_dirty.specs.Settling.{AreReaders, IsBegun, shift};
 ghost use Rattle.opa_readers.specs.Indexes.{readers_in};
+ghost use Rattle.opa_readers.specs.Touches.{IsOwned};
 ghost use Rattle.opa_readers.specs.Waits.{IsLiveReader, IsOwnSlot, IsSlotOfOne, IsThisSlot, WaitsBesides};
 ghost use Rattle.opa_settle.specs.Tasks.{AreRanked, slots_of};
 
 use crate::index::Index;
+use crate::owned::Owned;
+use crate::owning::{owned_by, turn_to};
 use opa_case::{InstanceId, Question, Relisted};
 use opa_dirty::Slot;
 use opa_io::NoMemory;
@@ -49,26 +52,29 @@ fn mark_came(
 ) -> Result<(), NoMemory>
     ensures { OnOk result (WaitsBesides base.now (IsSlotOfOne base.now came.now) tasks.old tasks.new) }
 {
+    let mut owned = owned_by(alloc, base, 0)?;
     for (inst, _) in came {
-        mark_slots_of(alloc, base, inst, tasks)?;
+        turn_to(alloc, base, inst.entity.0, &mut owned)?;
+        mark_slots_of(alloc, base, &owned, inst, tasks)?;
     }
     Ok(())
 }
 
-/// The slots of an instance wait besides.
+/// The slots of an instance wait besides, by the attributes of its entity.
 fn mark_slots_of(
     alloc: Global,
     base: &Rulebase,
+    owned: &Owned,
     inst: &InstanceId,
     tasks: &mut Tasks,
 ) -> Result<(), NoMemory>
+    requires owned { IsOwned base.now owned.now }
+    requires entity { owned.now.entity ≡ inst.now.entity.0 }
     ensures { OnOk result (WaitsBesides base.now (IsOwnSlot base.now inst.now) tasks.old tasks.new) }
 {
-    let count = base.model.attribute_count();
-    let mut number = 0;
-    while number < count {
-        mark_slot(alloc, base, AttrId(number), inst, tasks)?;
-        number += 1;
+    let attrs = owned.attrs.as_slice();
+    for attr in attrs {
+        mark_slot(alloc, base, *attr, inst, tasks)?;
     }
     Ok(())
 }

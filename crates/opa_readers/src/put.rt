@@ -20,24 +20,24 @@ impl Index {
         match add_more(alloc, renewal.slots.as_slice(), self) {
             Ok(()) => Ok(()),
             Err(_) => {
-                take_more(alloc, renewal.slots.as_slice(), self);
+                take_more(renewal.slots.as_slice(), self);
                 Err(NoMemory)
             }
         }
     }
 
     /// Takes back what was added. It takes no memory.
-    pub fn take_back(&mut self, alloc: Global, renewal: &Renewal)
+    pub fn take_back(&mut self, renewal: &Renewal)
         ensures { TakesBack renewal.now (readers_in self.old) (readers_in self.new) }
     {
-        take_more(alloc, renewal.slots.as_slice(), self);
+        take_more(renewal.slots.as_slice(), self);
     }
 
     /// Takes out what is read no more. It takes no memory.
-    pub fn take_out(&mut self, alloc: Global, renewal: &Renewal)
+    pub fn take_out(&mut self, renewal: &Renewal)
         ensures { TakesOut renewal.now (readers_in self.old) (readers_in self.new) }
     {
-        take_lost(alloc, renewal.slots.as_slice(), self);
+        take_lost(renewal.slots.as_slice(), self);
     }
 }
 
@@ -53,22 +53,20 @@ fn add_more(alloc: Global, slots: &[Renewed], index: &mut Index) -> Result<(), N
     Ok(())
 }
 
-fn take_more(alloc: Global, slots: &[Renewed], index: &mut Index)
+fn take_more(slots: &[Renewed], index: &mut Index)
     ensures { TakesMore slots.now (readers_in index.old) (readers_in index.new) }
 {
     for renewed in slots {
         let more = renewed.more.as_slice();
-        let slot = &renewed.slot;
-        take_questions(alloc, more, slot.attr, &slot.inst, index);
+        take_questions(more, &renewed.slot, index);
     }
 }
 
-fn take_lost(alloc: Global, slots: &[Renewed], index: &mut Index)
+fn take_lost(slots: &[Renewed], index: &mut Index)
     ensures { TakesLost slots.now (readers_in index.old) (readers_in index.new) }
 {
     for renewed in slots {
         let lost = renewed.lost.as_slice();
-        let slot = &renewed.slot;
-        take_questions(alloc, lost, slot.attr, &slot.inst, index);
+        take_questions(lost, &renewed.slot, index);
     }
 }

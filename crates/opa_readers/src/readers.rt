@@ -1,25 +1,24 @@
 // The readers of a question, looked up.
-ghost use Rattle.std.specs.Prelude.{◌≡◌, unwrap_or, []};
-ghost use Rattle.std.specs.FinMap as map;
+ghost use Rattle.std.specs.Prelude.{◌≡◌};
+ghost use Rattle.std.specs.Option.{option_copied};
 ghost use Rattle.opa_case.specs.declared.question.Question.TheVariants as questions;
-ghost use Rattle.opa_dirty.specs.Slots.{pairs_of};
+ghost use Rattle.opa_dirty.specs.Slots.{pairs_of, slots_in};
 ghost use Rattle.opa_readers.specs.Indexes.{readers_in};
 
 use crate::index::Index;
 use opa_case::{InstanceId, Question};
-use opa_cells::Cells;
 use opa_dirty::{Readers, Slot};
-use opa_io::List;
 use opa_model::{AttrId, RelId};
 use opa_settle::Reading;
+use std::collections::BTreeSet;
 
 impl Readers for Index {
     ghost use Rattle.opa_readers.specs.Indexes.{readers_in};
 
     ghost readers = { readers_in };
 
-    fn of_line(&self, attr: AttrId, inst: &InstanceId) -> &[Slot] {
-        slots_at(&self.lines, attr.0, inst)
+    fn of_line(&self, attr: AttrId, inst: &InstanceId) -> Option<&BTreeSet<Slot>> {
+        self.lines.get(attr.0, inst)
     }
 }
 
@@ -28,7 +27,7 @@ impl Reading for Index {
 
     ghost reading = { readers_in };
 
-    fn of(&self, question: &Question) -> &[Slot] {
+    fn of(&self, question: &Question) -> Option<&BTreeSet<Slot>> {
         match question {
             Question::Attr(attr, inst) => self.of_line(*attr, inst),
             Question::Members(rel, inst) => self.of_list(*rel, inst),
@@ -37,19 +36,10 @@ impl Reading for Index {
 }
 
 impl Index {
-    /// The slots that read a list.
-    pub fn of_list(&self, rel: RelId, inst: &InstanceId) -> &[Slot]
-        ensures { pairs_of result.now ≡ readers_in self.now (questions.Members rel inst.now) }
+    /// The slots that read a list. There is no set where none does.
+    pub fn of_list(&self, rel: RelId, inst: &InstanceId) -> Option<&BTreeSet<Slot>>
+        ensures { pairs_of (slots_in (option_copied result)) ≡ readers_in self.now (questions.Members rel inst.now) }
     {
-        slots_at(&self.lists, rel.0, inst)
-    }
-}
-
-fn slots_at<'a>(cells: &'a Cells<List<Slot>>, number: u32, inst: &InstanceId) -> &'a [Slot]
-    ensures { result.now ≡ unwrap_or (map.get cells.now (number, inst.now)) [] }
-{
-    match cells.get(number, inst) {
-        Some(slots) => slots.as_slice(),
-        None => &[],
+        self.lists.get(rel.0, inst)
     }
 }

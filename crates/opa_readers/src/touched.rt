@@ -1,24 +1,21 @@
 // The slots whose reads a change of a list may change.
-ghost use Rattle.std.specs.Prelude.{◌≡◌, ◌++◌, cond, ◌==◌, [], ◌∷◌, flat_map, map, IfOk, OnOk};
+ghost use Rattle.std.specs.Prelude.{◌≡◌, ◌++◌, map, IfOk, OnOk};
 ghost use Rattle.opa_case.specs.Overlays.{relisted_case};
-ghost use Rattle.opa_case.specs.Shapes.{shape_of};
 ghost use Rattle.opa_dirty.specs.Slots.{pairs_of};
-ghost use Rattle.opa_mean.specs.Places.{owner_of as entity_of};
 ghost use Rattle.opa_readers.specs.Indexes.{readers_in};
 ghost use Rattle.opa_readers.specs.Renewals.{relisting};
-ghost use Rattle.opa_readers.specs.Touches.{AreTouched, HaveTurned, IsOwned, slots_at_each};
+ghost use Rattle.opa_readers.specs.Touches.{AreTouched, HaveTurned, slots_at_each};
 ghost use Rattle.opa_settle.specs.Starts.{MarksReaders};
 ghost use Rattle.opa_settle.specs.Tasks.{slots_of};
 
 use crate::index::Index;
-use crate::owned::Owned;
+use crate::owning::{owned_by, turn_to};
 use opa_case::{InstanceId, Question, Relisted};
 use opa_dirty::Slot;
 use opa_io::{List, NoMemory};
-use opa_mean::owner_of;
 use opa_model::AttrId;
-use opa_settle::{Reading, Tasks, mark};
-use opa_tree::{Rule, Rulebase};
+use opa_settle::{Reading, Tasks, mark, mark_set};
+use opa_tree::Rulebase;
 use std::alloc::Global;
 
 /// The slots of what goes and of what comes, and the readers of these questions, each once.
@@ -50,7 +47,7 @@ fn mark_readers(
 {
     for question in told {
         let reading = index.of(question);
-        mark(alloc, base, reading, tasks)?;
+        mark_set(alloc, base, reading, tasks)?;
     }
     Ok(())
 }
@@ -97,43 +94,5 @@ fn add_slots(
         let inst = inst.copy(alloc)?;
         slots.push(Slot { attr: *attr, inst })?;
     }
-    Ok(())
-}
-
-fn owned_by(alloc: Global, base: &Rulebase, entity: u32) -> Result<Owned, NoMemory>
-    ensures owned { IfOk result (IsOwned base.now) }
-    ensures entity { IfOk result (λ owned. owned.entity ≡ entity) }
-{
-    let mut attrs = List::new(alloc);
-    for rule in base.rules.as_slice() {
-        add_attr(base, rule, entity, &mut attrs)?;
-    }
-    Ok(Owned { entity, attrs })
-}
-
-fn add_attr(
-    base: &Rulebase,
-    rule: &Rule,
-    entity: u32,
-    attrs: &mut List<AttrId>,
-) -> Result<(), NoMemory>
-    ensures { OnOk result (attrs.new ≡ attrs.old ++ cond (entity_of (shape_of base.now.model) rule.now.attr == entity) (rule.now.attr ∷ []) []) }
-{
-    if owner_of(&base.model, rule.attr) == entity {
-        attrs.push(rule.attr)?;
-    }
-    Ok(())
-}
-
-/// The same for another entity.
-fn turn_to(alloc: Global, base: &Rulebase, entity: u32, owned: &mut Owned) -> Result<(), NoMemory>
-    requires { IsOwned base.now owned.old }
-    ensures owned { OnOk result (IsOwned base.now owned.new) }
-    ensures entity { OnOk result (owned.new.entity ≡ entity) }
-{
-    if owned.entity == entity {
-        return Ok(());
-    }
-    *owned = owned_by(alloc, base, entity)?;
     Ok(())
 }

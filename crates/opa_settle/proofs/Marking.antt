@@ -76,32 +76,42 @@ module _ (r : Rulebase) where
       only a i (inl h) = h
       only a i (inr none) = absurd (none_in (a, i) none)
 
-  pub marks_more : (xs : List Slot) (y : Slot) (old mid new : List Task) → Marks r xs old mid → Marks r (y ∷ []) mid new → Marks r (xs ++ y ∷ []) old new
-  marks_more xs y old mid new m n = record {
+  pub marks_both : (xs ys : List Slot) (old mid new : List Task) → Marks r xs old mid → Marks r ys mid new → Marks r (xs ++ ys) old new
+  marks_both xs ys old mid new m n = record {
     ranked = λ ranked. n.ranked (m.ranked ranked);
     waits = λ a i. (λ h. marks a i ((n.waits a i).0 h), λ k. marked a i k);
   }
     where
-      put : (a : AttrId) (i : InstanceId) → Contains (pairs_of xs) (a, i) ⊎ Contains (pairs_of (y ∷ [])) (a, i) → Contains (pairs_of (xs ++ y ∷ [])) (a, i)
-      put a i (inl h) = subst (λ ps. Contains ps (a, i)) (sym (pairs-append xs (y ∷ []))) (Contains-append_left (pairs_of xs) (pairs_of (y ∷ [])) (a, i) h)
-      put a i (inr h) = subst (λ ps. Contains ps (a, i)) (sym (pairs-append xs (y ∷ []))) (Contains-append_right (pairs_of xs) (pairs_of (y ∷ [])) (a, i) h)
+      put : (a : AttrId) (i : InstanceId) → Contains (pairs_of xs) (a, i) ⊎ Contains (pairs_of ys) (a, i) → Contains (pairs_of (xs ++ ys)) (a, i)
+      put a i (inl h) = subst (λ ps. Contains ps (a, i)) (sym (pairs-append xs ys)) (Contains-append_left (pairs_of xs) (pairs_of ys) (a, i) h)
+      put a i (inr h) = subst (λ ps. Contains ps (a, i)) (sym (pairs-append xs ys)) (Contains-append_right (pairs_of xs) (pairs_of ys) (a, i) h)
 
-      marked : (a : AttrId) (i : InstanceId) → Contains (slots_of old) (a, i) ⊎ Contains (pairs_of (xs ++ y ∷ [])) (a, i) → Contains (slots_of new) (a, i)
+      marked : (a : AttrId) (i : InstanceId) → Contains (slots_of old) (a, i) ⊎ Contains (pairs_of (xs ++ ys)) (a, i) → Contains (slots_of new) (a, i)
       marked a i (inl h) = (n.waits a i).1 (inl ((m.waits a i).1 (inl h)))
-      marked a i (inr h) = go (Contains-append_cases (pairs_of xs) (pairs_of (y ∷ [])) (a, i) (subst (λ ps. Contains ps (a, i)) (pairs-append xs (y ∷ [])) h))
+      marked a i (inr h) = go (Contains-append_cases (pairs_of xs) (pairs_of ys) (a, i) (subst (λ ps. Contains ps (a, i)) (pairs-append xs ys) h))
         where
-          go : Contains (pairs_of xs) (a, i) ⊎ Contains (pairs_of (y ∷ [])) (a, i) → Contains (slots_of new) (a, i)
+          go : Contains (pairs_of xs) (a, i) ⊎ Contains (pairs_of ys) (a, i) → Contains (slots_of new) (a, i)
           go (inl k) = (n.waits a i).1 (inl ((m.waits a i).1 (inr k)))
           go (inr k) = (n.waits a i).1 (inr k)
 
-      marks : (a : AttrId) (i : InstanceId) → Contains (slots_of mid) (a, i) ⊎ Contains (pairs_of (y ∷ [])) (a, i) → Contains (slots_of old) (a, i) ⊎ Contains (pairs_of (xs ++ y ∷ [])) (a, i)
+      marks : (a : AttrId) (i : InstanceId) → Contains (slots_of mid) (a, i) ⊎ Contains (pairs_of ys) (a, i) → Contains (slots_of old) (a, i) ⊎ Contains (pairs_of (xs ++ ys)) (a, i)
       marks a i (inr h) = inr (put a i (inr h))
       marks a i (inl h) = go ((m.waits a i).0 h)
         where
-          go : Contains (slots_of old) (a, i) ⊎ Contains (pairs_of xs) (a, i) → Contains (slots_of old) (a, i) ⊎ Contains (pairs_of (xs ++ y ∷ [])) (a, i)
+          go : Contains (slots_of old) (a, i) ⊎ Contains (pairs_of xs) (a, i) → Contains (slots_of old) (a, i) ⊎ Contains (pairs_of (xs ++ ys)) (a, i)
           go (inl k) = inl k
           go (inr k) = inr (put a i (inl k))
 
   pub marks_next : (xs : List Slot) (k : ℕ) (y : Slot) (old mid new : List Task) → k < length xs → y ≡ get_or xs k y → Marks r (take k xs) old mid → Marks r (y ∷ []) mid new → Marks r (take (k + 1) xs) old new
   marks_next xs k y old mid new lt is m n =
-      subst (λ ys. Marks r ys old new) (sym (take_more xs k y lt ∙ ap (λ z. take k xs ++ z ∷ []) (sym is))) (marks_more (take k xs) y old mid new m n)
+      subst (λ ys. Marks r ys old new) (sym (take_more xs k y lt ∙ ap (λ z. take k xs ++ z ∷ []) (sym is))) (marks_both (take k xs) (y ∷ []) old mid new m n)
+
+  -- of a set what the whole makes wait, the rest of it makes wait besides what those behind did
+  abbrev pub MarksOnward : List Slot → List Slot → List Task → List Task → Type 0
+  MarksOnward all rest old now = (after : List Task) → Marks r rest now after → Marks r all old after
+
+  pub onward_next : (all : List Slot) (y : Slot) (rest xs : List Slot) (old mid new : List Task) → xs ≡ y ∷ rest → MarksOnward all xs old mid → Marks r (y ∷ []) mid new → MarksOnward all rest old new
+  onward_next all y rest xs old mid new is goes m after n = goes after (subst (λ zs. Marks r zs mid after) (sym is) (marks_both (y ∷ []) rest mid new after m n))
+
+  pub onward_end : (all xs : List Slot) (old new : List Task) → xs ≡ [] → MarksOnward all xs old new → Marks r all old new
+  onward_end all xs old new none goes = goes new (subst (λ zs. Marks r zs new new) (sym none) (marks_start new))

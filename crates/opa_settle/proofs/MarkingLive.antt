@@ -1,6 +1,5 @@
 -- Slots of what is live that are added to what waits.
-use Rattle.std.proofs.Common.{◌≡◌, ◌⊎◌, inl, inr, ℕ, ◌+◌, ◌<◌, false, List, [], ◌∷◌, ◌++◌, length, get_or, take, Contains, sym, ◌∙◌, ap, subst}
-use Rattle.std.proofs.lemmas.List.{take_more}
+use Rattle.std.proofs.Common.{◌≡◌, ◌⊎◌, inl, inr, false, List, [], ◌∷◌, ◌++◌, Contains, sym, ap, subst}
 use Rattle.std.proofs.lemmas.List.Elements.{Contains-append_left, Contains-append_right, Contains-append_cases}
 use Rattle.opa_model.specs.declared.ids.AttrId.{AttrId}
 use Rattle.opa_cells.specs.declared.instance.InstanceId.{InstanceId}
@@ -49,34 +48,40 @@ module _ (r : Rulebase) (c : CaseView) where
       only a i (inl h) = h
       only a i (inr h) = absurd (cc (dead, subst (IsLive c) (sym (only_slot s a i h.1)) h.0))
 
-  pub live_more : (xs : List Slot) (y : Slot) (old mid new : List Task) → MarksLive r c xs old mid → MarksLive r c (y ∷ []) mid new → MarksLive r c (xs ++ y ∷ []) old new
-  live_more xs y old mid new m n = record {
+  pub live_both : (xs ys : List Slot) (old mid new : List Task) → MarksLive r c xs old mid → MarksLive r c ys mid new → MarksLive r c (xs ++ ys) old new
+  live_both xs ys old mid new m n = record {
     ranked = λ ranked. n.ranked (m.ranked ranked);
     waits = λ a i. (λ h. marks a i ((n.waits a i).0 h), λ k. marked a i k);
   }
     where
-      first : (a : AttrId) (i : InstanceId) → Contains (pairs_of xs) (a, i) → Contains (pairs_of (xs ++ y ∷ [])) (a, i)
-      first a i h = subst (λ ps. Contains ps (a, i)) (sym (pairs-append xs (y ∷ []))) (Contains-append_left (pairs_of xs) (pairs_of (y ∷ [])) (a, i) h)
+      first : (a : AttrId) (i : InstanceId) → Contains (pairs_of xs) (a, i) → Contains (pairs_of (xs ++ ys)) (a, i)
+      first a i h = subst (λ ps. Contains ps (a, i)) (sym (pairs-append xs ys)) (Contains-append_left (pairs_of xs) (pairs_of ys) (a, i) h)
 
-      last : (a : AttrId) (i : InstanceId) → Contains (pairs_of (y ∷ [])) (a, i) → Contains (pairs_of (xs ++ y ∷ [])) (a, i)
-      last a i h = subst (λ ps. Contains ps (a, i)) (sym (pairs-append xs (y ∷ []))) (Contains-append_right (pairs_of xs) (pairs_of (y ∷ [])) (a, i) h)
+      last : (a : AttrId) (i : InstanceId) → Contains (pairs_of ys) (a, i) → Contains (pairs_of (xs ++ ys)) (a, i)
+      last a i h = subst (λ ps. Contains ps (a, i)) (sym (pairs-append xs ys)) (Contains-append_right (pairs_of xs) (pairs_of ys) (a, i) h)
 
-      put : (a : AttrId) (i : InstanceId) → IsLive c i → Contains (pairs_of xs) (a, i) ⊎ Contains (pairs_of (y ∷ [])) (a, i) → Contains (slots_of new) (a, i)
+      put : (a : AttrId) (i : InstanceId) → IsLive c i → Contains (pairs_of xs) (a, i) ⊎ Contains (pairs_of ys) (a, i) → Contains (slots_of new) (a, i)
       put a i live (inl k) = (n.waits a i).1 (inl ((m.waits a i).1 (inr (live, k))))
       put a i live (inr k) = (n.waits a i).1 (inr (live, k))
 
-      marked : (a : AttrId) (i : InstanceId) → Contains (slots_of old) (a, i) ⊎ (IsLive c i × Contains (pairs_of (xs ++ y ∷ [])) (a, i)) → Contains (slots_of new) (a, i)
+      marked : (a : AttrId) (i : InstanceId) → Contains (slots_of old) (a, i) ⊎ (IsLive c i × Contains (pairs_of (xs ++ ys)) (a, i)) → Contains (slots_of new) (a, i)
       marked a i (inl h) = (n.waits a i).1 (inl ((m.waits a i).1 (inl h)))
-      marked a i (inr h) = put a i h.0 (Contains-append_cases (pairs_of xs) (pairs_of (y ∷ [])) (a, i) (subst (λ ps. Contains ps (a, i)) (pairs-append xs (y ∷ [])) h.1))
+      marked a i (inr h) = put a i h.0 (Contains-append_cases (pairs_of xs) (pairs_of ys) (a, i) (subst (λ ps. Contains ps (a, i)) (pairs-append xs ys) h.1))
 
-      before : (a : AttrId) (i : InstanceId) → Contains (slots_of old) (a, i) ⊎ (IsLive c i × Contains (pairs_of xs) (a, i)) → Contains (slots_of old) (a, i) ⊎ (IsLive c i × Contains (pairs_of (xs ++ y ∷ [])) (a, i))
+      before : (a : AttrId) (i : InstanceId) → Contains (slots_of old) (a, i) ⊎ (IsLive c i × Contains (pairs_of xs) (a, i)) → Contains (slots_of old) (a, i) ⊎ (IsLive c i × Contains (pairs_of (xs ++ ys)) (a, i))
       before a i (inl k) = inl k
       before a i (inr k) = inr (k.0, first a i k.1)
 
-      marks : (a : AttrId) (i : InstanceId) → Contains (slots_of mid) (a, i) ⊎ (IsLive c i × Contains (pairs_of (y ∷ [])) (a, i)) → Contains (slots_of old) (a, i) ⊎ (IsLive c i × Contains (pairs_of (xs ++ y ∷ [])) (a, i))
+      marks : (a : AttrId) (i : InstanceId) → Contains (slots_of mid) (a, i) ⊎ (IsLive c i × Contains (pairs_of ys) (a, i)) → Contains (slots_of old) (a, i) ⊎ (IsLive c i × Contains (pairs_of (xs ++ ys)) (a, i))
       marks a i (inr h) = inr (h.0, last a i h.1)
       marks a i (inl h) = before a i ((m.waits a i).0 h)
 
-  pub live_next : (xs : List Slot) (k : ℕ) (y : Slot) (old mid new : List Task) → k < length xs → y ≡ get_or xs k y → MarksLive r c (take k xs) old mid → MarksLive r c (y ∷ []) mid new → MarksLive r c (take (k + 1) xs) old new
-  live_next xs k y old mid new lt is m n =
-      subst (λ ys. MarksLive r c ys old new) (sym (take_more xs k y lt ∙ ap (λ z. take k xs ++ z ∷ []) (sym is))) (live_more (take k xs) y old mid new m n)
+  -- of a set what the whole makes wait, the rest of it makes wait besides what those behind did
+  abbrev pub LiveOnward : List Slot → List Slot → List Task → List Task → Type 0
+  LiveOnward all rest old now = (after : List Task) → MarksLive r c rest now after → MarksLive r c all old after
+
+  pub live_next : (all : List Slot) (y : Slot) (rest xs : List Slot) (old mid new : List Task) → xs ≡ y ∷ rest → LiveOnward all xs old mid → MarksLive r c (y ∷ []) mid new → LiveOnward all rest old new
+  live_next all y rest xs old mid new is goes m after n = goes after (subst (λ zs. MarksLive r c zs mid after) (sym is) (live_both (y ∷ []) rest mid new after m n))
+
+  pub live_end : (all xs : List Slot) (old new : List Task) → xs ≡ [] → LiveOnward all xs old new → MarksLive r c all old new
+  live_end all xs old new none goes = goes new (subst (λ zs. MarksLive r c zs new new) (sym none) (live_start new))

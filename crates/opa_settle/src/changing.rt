@@ -1,26 +1,29 @@
 // What waits at first after any change: what is fresh, and what reads a list or an answer that differs.
 ghost use Rattle.std.specs.Prelude.{◌≡◌, ◌∷◌, [], IfOk, OnOk};
+ghost use Rattle.std.specs.Option.{option_copied};
 ghost use Rattle.opa_case.specs.declared.question.Question.{Question as QuestionView};
 ghost use Rattle.opa_dirty.specs.Settling.{AreReaders, IsBegun, Waiting, shift};
-ghost use Rattle.opa_dirty.specs.Slots.{pairs_of};
+ghost use Rattle.opa_dirty.specs.Slots.{pairs_of, slots_in};
 ghost use Rattle.opa_mean.specs.Rulebases.{IsOf};
 ghost use Rattle.opa_settle.specs.Starts.{AreTold, MarksReaders, fresh_slots};
 ghost use Rattle.opa_settle.specs.Tasks.{AreRanked, slots_of};
 
-use crate::starting::mark;
+use crate::starting::{mark, mark_set};
 use crate::tasks::Tasks;
 use opa_case::{Case, Question};
 use opa_dirty::Slot;
 use opa_io::NoMemory;
 use opa_tree::Rulebase;
 use std::alloc::Global;
+use std::collections::BTreeSet;
 
 /// What tells the slots that read a question, a line or a list.
 pub trait Reading {
     ghost reading: { Self → QuestionView → Waiting };
 
-    fn of(&self, question: &Question) -> &[Slot]
-        ensures { pairs_of result.now ≡ reading self.now question.now };
+    /// There is no set where none does.
+    fn of(&self, question: &Question) -> Option<&BTreeSet<Slot>>
+        ensures { pairs_of (slots_in (option_copied result)) ≡ reading self.now question.now };
 }
 
 /// What any change reaches at first: the fresh slots, and the readers of the told questions. Both cases are there for the
@@ -72,6 +75,6 @@ fn mark_question<R: Reading>(
 ) -> Result<(), NoMemory>
     ensures { OnOk result (MarksReaders base.now (R.reading reading.now) (question.now ∷ []) tasks.old tasks.new) }
 {
-    mark(alloc, base, reading.of(question), tasks)?;
+    mark_set(alloc, base, reading.of(question), tasks)?;
     Ok(())
 }

@@ -15,6 +15,6 @@ pub use changing::{Reading, start_change};
 pub use laws::same_are_current;
 pub use living::mark_live;
 pub use settling::settle;
-pub use starting::{mark, mark_one, start_answer};
+pub use starting::{mark, mark_one, mark_set, start_answer};
 pub use task::Task;
 pub use tasks::Tasks;

@@ -1,5 +1,7 @@
 // Slots of what is live in the coming case wait besides.
 ghost use Rattle.std.specs.Prelude.{◌∷◌, [], OnOk};
+ghost use Rattle.std.specs.Option.{option_copied};
+ghost use Rattle.opa_dirty.specs.Slots.{slots_in};
 ghost use Rattle.opa_settle.specs.Tasks.{MarksLive};
 
 use crate::starting::mark_one;
@@ -9,16 +11,36 @@ use opa_io::NoMemory;
 use opa_store::Next;
 use opa_tree::Rulebase;
 use std::alloc::Global;
+use std::collections::BTreeSet;
 
-/// The slots of what is live in the coming case wait besides: one look for each.
+/// Of a set of slots those of what is live in the coming case wait besides: one look for each.
 pub fn mark_live<N: Next>(
     alloc: Global,
     base: &Rulebase,
     next: &N,
-    slots: &[Slot],
+    set: Option<&BTreeSet<Slot>>,
     tasks: &mut Tasks,
 ) -> Result<(), NoMemory>
-    ensures { OnOk result (MarksLive base.now (N.next next.now) slots.now tasks.old tasks.new) }
+    ensures { OnOk result (MarksLive base.now (N.next next.now) (slots_in (option_copied set.entry))
+        tasks.old tasks.new) }
+{
+    match set {
+        Some(slots) => {
+            mark_each_live(alloc, base, next, slots, tasks)?;
+            Ok(())
+        }
+        None => Ok(()),
+    }
+}
+
+fn mark_each_live<N: Next>(
+    alloc: Global,
+    base: &Rulebase,
+    next: &N,
+    slots: &BTreeSet<Slot>,
+    tasks: &mut Tasks,
+) -> Result<(), NoMemory>
+    ensures { OnOk result (MarksLive base.now (N.next next.now) slots.now.keys tasks.old tasks.new) }
 {
     for slot in slots {
         mark_if_live(alloc, base, next, slot, tasks)?;

@@ -1,6 +1,8 @@
 // What waits before anything is derived.
 ghost use Rattle.std.specs.Prelude.{◌≡◌, ◌∷◌, [], false, is_some, IfOk, OnOk};
+ghost use Rattle.std.specs.Option.{option_copied};
 ghost use Rattle.opa_dirty.specs.Settling.{AreReaders, IsBegun, shift};
+ghost use Rattle.opa_dirty.specs.Slots.{slots_in};
 ghost use Rattle.opa_mean.specs.Rulebases.{IsOf};
 ghost use Rattle.opa_settle.specs.Tasks.{AddsTask, AreRanked, Marks, slots_of};
 ghost use Rattle.opa_store.specs.Nexts.{case_with};
@@ -15,6 +17,7 @@ use opa_model::AttrId;
 use opa_store::{Answered, lines_differ};
 use opa_tree::Rulebase;
 use std::alloc::Global;
+use std::collections::BTreeSet;
 
 /// The slots wait besides.
 pub fn mark(
@@ -24,6 +27,38 @@ pub fn mark(
     tasks: &mut Tasks,
 ) -> Result<(), NoMemory>
     ensures { OnOk result (Marks base.now slots.now tasks.old tasks.new) }
+{
+    for slot in slots {
+        mark_one(alloc, base, slot, tasks)?;
+    }
+    Ok(())
+}
+
+/// The slots of a set wait besides.
+pub fn mark_set(
+    alloc: Global,
+    base: &Rulebase,
+    set: Option<&BTreeSet<Slot>>,
+    tasks: &mut Tasks,
+) -> Result<(), NoMemory>
+    ensures { OnOk result (Marks base.now (slots_in (option_copied set.entry)) tasks.old tasks.new) }
+{
+    match set {
+        Some(slots) => {
+            mark_each(alloc, base, slots, tasks)?;
+            Ok(())
+        }
+        None => Ok(()),
+    }
+}
+
+fn mark_each(
+    alloc: Global,
+    base: &Rulebase,
+    slots: &BTreeSet<Slot>,
+    tasks: &mut Tasks,
+) -> Result<(), NoMemory>
+    ensures { OnOk result (Marks base.now slots.now.keys tasks.old tasks.new) }
 {
     for slot in slots {
         mark_one(alloc, base, slot, tasks)?;
@@ -81,7 +116,7 @@ pub fn start_answer<R: Readers>(
     let differs = lines_differ(alloc, next.case.answer_of(next.attr, next.inst), next.line)?;
     if differs {
         let reading = readers.of_line(next.attr, next.inst);
-        mark(alloc, base, reading, &mut tasks)?;
+        mark_set(alloc, base, reading, &mut tasks)?;
         Ok(tasks)
     } else {
         Ok(tasks)

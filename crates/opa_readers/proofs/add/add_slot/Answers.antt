@@ -1,10 +1,10 @@
-use Rattle.std.proofs.Common.{◌∙◌, ◌++◌, ◌∷◌, [], ap}
-use Rattle.opa_cells.specs.declared.instance.InstanceId.{InstanceId}
-use Rattle.opa_dirty.specs.declared.slot.Slot.{Slot}
-use Rattle.opa_readers.proofs.Adding.{adds_last}
+use Rattle.opa_settle.proofs.Adding.{no_ok}
+use Rattle.opa_readers.proofs.SlotSets.{set_added_ok}
 use Rattle.opa_readers.proofs.add.add_slot.Goals as goal
+use Rattle.opa_readers.proofs.add.add_slot.Goals.{in-Ok, in-Err}
 
-pub returns-in_ok-push-clause-adds : goal.returns-in_ok-push-clause-adds
-returns-in_ok-push-clause-adds c =
-    adds_last c.args.slots.now c.push.new.self (record { attr = c.args.attr; inst = c.args.inst.now })
-    (c.in_ok-push.ensures.ok ∙ ap (λ (i : InstanceId). let s : Slot = record { attr = c.args.attr; inst = i } in c.args.slots.now ++ s ∷ []) c.in_ok-inst.ensures)
+pub returns-clause-adds : goal.returns-clause-adds
+returns-clause-adds c = elim c.match-insert.branch [
+  | in-Ok w ↦ set_added_ok c.match-insert.result c.args.slots.now c.insert.new.self c.args.attr c.args.inst.now c.in_ok-inst.inst c.in_ok-inst.ensures w.in-Ok.ensures.updates.0
+  | in-Err w ↦ no_ok c.match-insert.result _ _ w.result-is
+]

@@ -1,17 +1,18 @@
-use Rattle.std.proofs.Common.{◌≡◌, length, arith}
+use Rattle.std.proofs.Common.{List, ◌∙◌, subst}
+use Rattle.opa_changes.proofs.Reached.{all_taken}
+use Rattle.opa_model.specs.declared.ids.AttrId.{AttrId}
+use Rattle.opa_readers.specs.Waits.{IsOwnSlotAmong, WaitsBesides}
 use Rattle.opa_readers.proofs.Coming.{own_none, own_next, own_all}
 use Rattle.opa_readers.proofs.listing.mark_slots_of.Goals as goal
 
-pub loop-number-init : goal.loop-number-init
-loop-number-init c = (own_none c.args.base.now c.args.inst.now c.args.tasks.now, omega arith)
+pub loop-attr-init : goal.loop-attr-init
+loop-attr-init c = own_none c.args.base.now c.args.inst.now c.args.tasks.now
 
-pub loop-number-preserved : goal.loop-number-preserved
-loop-number-preserved c = (
-  own_next c.args.base.now c.args.inst.now c.loop-number.number c.args.tasks.now c.loop-number.tasks c.mark_slot.new.tasks c.loop-number.invariant.0 c.in_ok-mark_slot.ensures,
-  omega (arith, c.loop-number-test.true),
-)
+pub loop-attr-preserved : goal.loop-attr-preserved
+loop-attr-preserved c =
+    own_next c.args.base.now c.args.inst.now c.as_slice-attrs.result.now c.loop-attr.attr-index _ c.args.tasks.now c.loop-attr.tasks c.mark_slot.new.tasks c.loop-attr-test.true c.loop-attr.invariant c.in_ok-mark_slot.ensures
 
 pub returns : goal.returns
 returns c =
-    let all : c.loop-number.number ≡ length c.args.base.now.model.attributes = omega (arith, c.loop-number.invariant.1, c.loop-number-test.false, c.attribute_count-count.ensures.count) in
-    own_all c.args.base.now c.args.inst.now c.loop-number.number c.args.tasks.now c.loop-number.tasks all c.loop-number.invariant.0
+    own_all c.args.base.now c.args.inst.now c.as_slice-attrs.result.now c.args.owned.now.entity c.args.tasks.now c.loop-attr.tasks (c.as_slice-attrs.ensures ∙ c.requires.owned) c.requires.entity
+    (subst (λ (xs : List AttrId). WaitsBesides c.args.base.now (IsOwnSlotAmong c.args.base.now c.args.inst.now xs) c.args.tasks.now c.loop-attr.tasks) (all_taken c.as_slice-attrs.result.now c.loop-attr.attr-index c.loop-attr-test.false) c.loop-attr.invariant)

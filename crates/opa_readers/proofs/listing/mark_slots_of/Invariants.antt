@@ -1,9 +1,6 @@
-use Rattle.std.proofs.Common.{◌-◌, ◌≤◌}
-use Rattle.opa_readers.specs.Waits.{IsOwnSlotBelow, WaitsBesides}
+use Rattle.std.proofs.Common.{take}
+use Rattle.opa_readers.specs.Waits.{IsOwnSlotAmong, WaitsBesides}
 use Rattle.opa_readers.proofs.listing.mark_slots_of.Given as goal
 
-abbrev pub invariant-loop-number : goal.invariant-loop-number
-invariant-loop-number l = WaitsBesides l.base (IsOwnSlotBelow l.base l.inst l.number) l.initial.tasks l.tasks × (l.number ≤ l.count)
-
-abbrev pub decreases-loop-number : goal.decreases-loop-number
-decreases-loop-number l = l.count - l.number
+abbrev pub invariant-loop-attr : goal.invariant-loop-attr
+invariant-loop-attr l = WaitsBesides l.base (IsOwnSlotAmong l.base l.inst (take l.attr-index l.attrs)) l.initial.tasks l.tasks

@@ -1,5 +1,7 @@
 use Rattle.std.proofs.Common.{List, subst}
+use Rattle.std.specs.Option.{option_copied}
 use Rattle.opa_case.specs.Overlays.{relisted_case}
+use Rattle.opa_dirty.specs.Slots.{slots_in}
 use Rattle.opa_case.specs.declared.question.Question.{Question}
 use Rattle.opa_changes.proofs.Reached.{all_taken}
 use Rattle.opa_readers.specs.Indexes.{readers_in}
@@ -12,7 +14,7 @@ loop-question-init c = told_none c.args.base.now (relisted_case c.args.next.now)
 
 pub loop-question-preserved : goal.loop-question-preserved
 loop-question-preserved c =
-    told_next c.args.base.now (relisted_case c.args.next.now) (readers_in c.args.index.now) c.args.told.now c.loop-question.question-index c.question-item.result c.of-reading.result.now c.args.tasks.now c.loop-question.tasks c.mark_live.new.tasks
+    told_next c.args.base.now (relisted_case c.args.next.now) (readers_in c.args.index.now) c.args.told.now c.loop-question.question-index c.question-item.result (slots_in (option_copied c.of-reading.result)) c.args.tasks.now c.loop-question.tasks c.mark_live.new.tasks
     c.loop-question-test.true c.question-item.is c.of-reading.ensures c.loop-question.invariant c.in_ok-mark_live.ensures
 
 pub returns : goal.returns

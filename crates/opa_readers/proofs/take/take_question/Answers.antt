@@ -8,9 +8,9 @@ use Rattle.opa_readers.proofs.take.take_question.Goals as goal
 pub returns-in-Attr : goal.returns-in-Attr
 returns-in-Attr c =
     let old = c.args.index.now in let new : Index = record { lines = c.take_at.new.cells; lists = c.args.index.now.lists } in
-    subst (λ (q : Question). TakesReads (q ∷ []) c.args.attr c.args.inst.now old new) (sym c.in-Attr.is) (line_taken old new c.in-Attr.read c.in-Attr.at c.args.attr c.args.inst.now c.take_at.ensures refl)
+    subst (λ (q : Question). TakesReads (q ∷ []) c.args.slot.now.attr c.args.slot.now.inst old new) (sym c.in-Attr.is) (line_taken old new c.in-Attr.read c.in-Attr.at c.args.slot.now.attr c.args.slot.now.inst c.take_at.ensures refl)
 
 pub returns-in-Members : goal.returns-in-Members
 returns-in-Members c =
     let old = c.args.index.now in let new : Index = record { lines = c.args.index.now.lines; lists = c.take_at-in-Members.new.cells } in
-    subst (λ (q : Question). TakesReads (q ∷ []) c.args.attr c.args.inst.now old new) (sym c.in-Members.is) (list_taken old new c.in-Members.rel c.in-Members.at c.args.attr c.args.inst.now c.take_at-in-Members.ensures refl)
+    subst (λ (q : Question). TakesReads (q ∷ []) c.args.slot.now.attr c.args.slot.now.inst old new) (sym c.in-Members.is) (list_taken old new c.in-Members.rel c.in-Members.at c.args.slot.now.attr c.args.slot.now.inst c.take_at-in-Members.ensures refl)

@@ -1,5 +1,7 @@
 use Rattle.std.proofs.Common.{subst}
+use Rattle.std.specs.Option.{option_copied}
 use Rattle.opa_changes.proofs.Reached.{all_taken}
+use Rattle.opa_dirty.specs.Slots.{slots_in}
 use Rattle.opa_settle.specs.Starts.{MarksReaders}
 use Rattle.opa_settle.proofs.Changed.{readers_start, readers_one, readers_next}
 use Rattle.opa_readers.specs.Indexes.{readers_in}
@@ -10,8 +12,8 @@ loop-question-init c = readers_start c.args.base.now (readers_in c.args.index.no
 
 pub loop-question-preserved : goal.loop-question-preserved
 loop-question-preserved c =
-    readers_next c.args.base.now (readers_in c.args.index.now) c.args.told.now c.loop-question.question-index c.question-item.result _ c.loop-question.tasks c.mark.new.tasks c.loop-question-test.true c.question-item.is c.loop-question.invariant
-    (readers_one c.args.base.now (readers_in c.args.index.now) c.question-item.result c.of-reading.result.now c.of-reading.ensures c.loop-question.tasks c.mark.new.tasks c.in_ok-mark.ensures)
+    readers_next c.args.base.now (readers_in c.args.index.now) c.args.told.now c.loop-question.question-index c.question-item.result _ c.loop-question.tasks c.mark_set.new.tasks c.loop-question-test.true c.question-item.is c.loop-question.invariant
+    (readers_one c.args.base.now (readers_in c.args.index.now) c.question-item.result (slots_in (option_copied c.of-reading.result)) c.of-reading.ensures c.loop-question.tasks c.mark_set.new.tasks c.in_ok-mark_set.ensures)
 
 pub returns : goal.returns
 returns c = subst (λ qs. MarksReaders c.args.base.now (readers_in c.args.index.now) qs c.args.tasks.now c.loop-question.tasks) (all_taken c.args.told.now c.loop-question.question-index c.loop-question-test.false) c.loop-question.invariant

@@ -1,5 +1,7 @@
 use Rattle.std.proofs.Common.{refl, sym, subst}
+use Rattle.std.specs.Option.{option_copied}
 use Rattle.opa_dirty.specs.Settling.{shift}
+use Rattle.opa_dirty.specs.Slots.{slots_in}
 use Rattle.opa_settle.specs.Tasks.{AreInOrder}
 use Rattle.opa_settle.proofs.Settles.{may_code, fewer, counted, listed_counted, after_same, after_changed, ranked_rest, in_order, stand_same, stand_changed}
 use Rattle.opa_store.specs.Stores.{StoreView, kept_of, staged_of}
@@ -23,7 +25,7 @@ returns-in_err-mark_live-clause-counted g c =
 
 pub returns-in_ok-mark_live-clause-settling : goal.returns-in_ok-mark_live-clause-settling
 returns-in_ok-mark_live-clause-settling g c =
-    let d = c.in_ok-differs.ensures.derived in after_changed (shift c.args.base.now c.args.held.now (g.N.Next.next c.args.next.now)) (kept_of c.args.store.now) (g.R.Readers.readers c.args.readers.now) c.requires.can (staged_of c.args.store.now) c.args.task c.args.tasks.now c.requires.ranked c.requires.first c.requires.once c.requires.settling (g.D.Derive.stands_for c.args.code.now) c.requires.code d.0 d.1 (staged_of c.derive.new.self) d.2 c.in_ok-differs.differs d.3 c.if-differs.true c.of_line-reading.result.now c.of_line-reading.ensures c.mark_live.new.tasks c.in_ok-mark_live.ensures
+    let d = c.in_ok-differs.ensures.derived in after_changed (shift c.args.base.now c.args.held.now (g.N.Next.next c.args.next.now)) (kept_of c.args.store.now) (g.R.Readers.readers c.args.readers.now) c.requires.can (staged_of c.args.store.now) c.args.task c.args.tasks.now c.requires.ranked c.requires.first c.requires.once c.requires.settling (g.D.Derive.stands_for c.args.code.now) c.requires.code d.0 d.1 (staged_of c.derive.new.self) d.2 c.in_ok-differs.differs d.3 c.if-differs.true (slots_in (option_copied c.of_line-reading.result)) c.of_line-reading.ensures c.mark_live.new.tasks c.in_ok-mark_live.ensures
 
 pub returns-in_ok-mark_live-clause-ranked : goal.returns-in_ok-mark_live-clause-ranked
 returns-in_ok-mark_live-clause-ranked g c =
@@ -31,7 +33,7 @@ returns-in_ok-mark_live-clause-ranked g c =
 
 pub returns-in_ok-mark_live-clause-before : goal.returns-in_ok-mark_live-clause-before
 returns-in_ok-mark_live-clause-before g c =
-    stand_changed (shift c.args.base.now c.args.held.now (g.N.Next.next c.args.next.now)) (kept_of c.args.store.now) (g.R.Readers.readers c.args.readers.now) c.requires.can (staged_of c.args.store.now) c.args.task c.args.tasks.now c.requires.ranked c.requires.first c.requires.once c.requires.settling c.args.store.now.slots c.derive.new.self.slots (record { attr = c.args.task.attr; inst = c.args.task.inst }) refl c.in_ok-differs.ensures.slots c.requires.before c.of_line-reading.result.now c.of_line-reading.ensures c.mark_live.new.tasks c.in_ok-mark_live.ensures
+    stand_changed (shift c.args.base.now c.args.held.now (g.N.Next.next c.args.next.now)) (kept_of c.args.store.now) (g.R.Readers.readers c.args.readers.now) c.requires.can (staged_of c.args.store.now) c.args.task c.args.tasks.now c.requires.ranked c.requires.first c.requires.once c.requires.settling c.args.store.now.slots c.derive.new.self.slots (record { attr = c.args.task.attr; inst = c.args.task.inst }) refl c.in_ok-differs.ensures.slots c.requires.before (slots_in (option_copied c.of_line-reading.result)) c.of_line-reading.ensures c.mark_live.new.tasks c.in_ok-mark_live.ensures
 
 pub returns-in_ok-mark_live-clause-order : goal.returns-in_ok-mark_live-clause-order
 returns-in_ok-mark_live-clause-order g c =
