@@ -18,6 +18,7 @@ ghost use Rattle.opa_mean.specs.Rulebases.{IsOf};
 ghost use Rattle.opa_model.specs.Models.{HasRelation};
 ghost use Rattle.opa_readers.specs.Indexes.{readers_in};
 ghost use Rattle.opa_readers.specs.Renewals.{IsRenewal};
+ghost use Rattle.opa_store.specs.Owners.{AreOwners};
 ghost use Rattle.opa_store.specs.Stores.{kept_of, staged_of};
 
 use crate::ready::{Ready, made_ready};
@@ -32,7 +33,7 @@ use opa_listen::Listener;
 use opa_model::RelId;
 use opa_readers::{Index, Renewal, begin_list, lists_told};
 use opa_settle::settle;
-use opa_store::Store;
+use opa_store::{Owners, Store};
 use opa_tree::Rulebase;
 use std::alloc::Global;
 use std::sync::ledger::Ledger;
@@ -50,6 +51,7 @@ pub(crate) struct Prepared {
 pub(crate) fn prepare_list<L: Ledger>(
     alloc: Global,
     base: &Rulebase,
+    owners: &Owners,
     code: &Code,
     readers: &Index,
     held: &Case,
@@ -60,6 +62,7 @@ pub(crate) fn prepare_list<L: Ledger>(
     steps: &mut Steps<L>,
     listeners: &mut Vec<Box<dyn Listener>>,
 ) -> Result<Prepared, Refusal>
+    requires owners { AreOwners base.now owners.now }
     requires code { rulebase_of code.now ≡ base.now }
     requires before { IsOf base.now held.now }
     requires declared { HasRelation base.now.model rel }
@@ -84,7 +87,7 @@ pub(crate) fn prepare_list<L: Ledger>(
     relisted_is_by_lists();
     let next = coming_list(base, held, rel, inst, names)?;
     match stage_list(
-        alloc, base, code, readers, held, &next, store, steps, listeners,
+        alloc, base, owners, code, readers, held, &next, store, steps, listeners,
     ) {
         Ok(prepared) => Ok(prepared),
         Err(_) => {
@@ -125,6 +128,7 @@ fn coming_list<'a>(
 fn stage_list<L: Ledger>(
     alloc: Global,
     base: &Rulebase,
+    owners: &Owners,
     code: &Code,
     readers: &Index,
     held: &Case,
@@ -133,6 +137,7 @@ fn stage_list<L: Ledger>(
     steps: &mut Steps<L>,
     listeners: &mut Vec<Box<dyn Listener>>,
 ) -> Result<Prepared, NoMemory>
+    requires owners { AreOwners base.now owners.now }
     requires code { rulebase_of code.now ≡ base.now }
     requires case { held.now ≡ next.now.case.now }
     requires lists { IsByLists (shift base.now next.now.case.now (relisted_case next.now)) }
@@ -154,9 +159,9 @@ fn stage_list<L: Ledger>(
     held_can_tell();
     let told = lists_told(alloc, base, held, next)?;
     let questions = told.as_slice();
-    let tasks = begin_list(alloc, base, next, readers, questions)?;
+    let tasks = begin_list(alloc, base, owners, next, readers, questions)?;
     settle(alloc, base, code, readers, held, next, store, tasks, steps)?;
-    let renewal = readers.renewal(alloc, base, held, next, questions)?;
+    let renewal = readers.renewal(alloc, base, owners, held, next, questions)?;
     let _came = next.came();
     let went = copied(alloc, next.went())?;
     let ready = made_ready(alloc, base, held, next, store, listeners)?;

@@ -13,6 +13,7 @@ ghost use Rattle.opa_listen.specs.Hearing.{hearer};
 ghost use Rattle.opa_mean.specs.Rulebases.{IsOf};
 ghost use Rattle.opa_model.specs.Models.{HasRelation};
 ghost use Rattle.opa_readers.specs.Indexes.{readers_in};
+ghost use Rattle.opa_store.specs.Owners.{AreOwners};
 ghost use Rattle.opa_store.specs.Stores.{kept_of, staged_of};
 
 use crate::listing::{Prepared, prepare_list};
@@ -23,7 +24,7 @@ use opa_listen::{Listener, tell};
 use opa_model::RelId;
 use opa_readers::{Index, same_are_readers};
 use opa_settle::same_are_current;
-use opa_store::{Store, dropped_are_current};
+use opa_store::{Owners, Store, dropped_are_current};
 use opa_tree::Rulebase;
 use std::alloc::Global;
 use std::sync::ledger::Ledger;
@@ -60,6 +61,7 @@ impl Session {
         let prepared = prepare_list(
             alloc,
             &self.base,
+            &self.owners,
             &self.code,
             &self.readers,
             &self.case,
@@ -73,6 +75,7 @@ impl Session {
         let dirty = keep_list(
             alloc,
             &self.base,
+            &self.owners,
             &mut self.case,
             &mut self.readers,
             rel,
@@ -92,6 +95,7 @@ impl Session {
 fn keep_list(
     alloc: Global,
     base: &Rulebase,
+    owners: &Owners,
     case: &mut Case,
     readers: &mut Index,
     rel: RelId,
@@ -102,6 +106,7 @@ fn keep_list(
 ) -> Result<u64, NoMemory>
     requires declared { HasRelation base.now.model rel }
     requires fits { IsOf base.now case.old }
+    requires owners { AreOwners base.now owners.now }
     requires exact { AreReaders base.now case.old (readers_in readers.old) }
     requires held { AreCurrent base.now case.old (kept_of store.old) }
     requires prepared { IsPrepared base.now case.old rel inst.now names (readers_in readers.old) (staged_of store.old) prepared.now.went prepared.now.renewal }
@@ -124,7 +129,7 @@ fn keep_list(
     match write_names(base, case, rel, inst, names) {
         Ok(()) => {
             readers.take_out(&prepared.renewal);
-            let dirty = keep_staged(base, store, prepared.went.as_slice());
+            let dirty = keep_staged(base, owners, store, prepared.went.as_slice());
             Ok(dirty)
         }
         Err(_) => {
@@ -136,7 +141,13 @@ fn keep_list(
 }
 
 /// Keeps what is staged, and drops the lines of what goes. It takes no memory, and tells how many slots were staged.
-fn keep_staged(base: &Rulebase, store: &mut Store, went: &[(InstanceId, InstanceId)]) -> u64
+fn keep_staged(
+    base: &Rulebase,
+    owners: &Owners,
+    store: &mut Store,
+    went: &[(InstanceId, InstanceId)],
+) -> u64
+    requires { AreOwners base.now owners.now }
     ensures current { (s : Shift) (come : Population) (i : InstanceView) → s.rules ≡ base.now → IsShift s → Turns s.old.live s.new.live went.now come i → AreCurrent s.rules s.old (kept_of store.old) → AreSettled s (staged_of store.old) → AreCurrent s.rules s.new (kept_of store.new) }
     ensures dirty { result ≡ length store.old.slots }
     ensures empty { store.new.slots ≡ [] }
@@ -144,7 +155,7 @@ fn keep_staged(base: &Rulebase, store: &mut Store, went: &[(InstanceId, Instance
     dropped_are_current();
     let dirty = store.slots().len() as u64;
     store.commit();
-    store.drop_slots(base, went);
+    store.drop_slots(base, owners, went);
     dirty
 }
 

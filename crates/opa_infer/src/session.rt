@@ -9,7 +9,9 @@ ghost use Rattle.opa_code.specs.Rulebases.{rulebase_of};
 ghost use Rattle.opa_dirty.specs.Settling.{AreCurrent, AreReaders};
 ghost use Rattle.opa_dirty.specs.contracts.slot.Slot as slot;
 ghost use Rattle.opa_goals.specs.Rulebases.{rulebase_of as freed_by};
+ghost use Rattle.opa_model.specs.contracts.ids.AttrId as attribute;
 ghost use Rattle.opa_readers.specs.Indexes.{readers_in};
+ghost use Rattle.opa_store.specs.Owners.{AreOwners};
 ghost use Rattle.opa_store.specs.Stores.{kept_of};
 ghost use Rattle.opa_value.specs.contracts.value.Value as each;
 ghost use Rattle.opa_value.specs.declared.value.Value.TheVariants.{Unknown};
@@ -19,7 +21,7 @@ use opa_code::Code;
 use opa_goals::Frees;
 use opa_line::Line;
 use opa_readers::Index;
-use opa_store::Store;
+use opa_store::{Owners, Store};
 use opa_tree::Rulebase;
 use opa_value::Value;
 
@@ -29,6 +31,7 @@ use opa_value::Value;
 #[derive(Drop)]
 pub struct Session {
     pub(crate) base: Rulebase,
+    pub(crate) owners: Owners,
     pub(crate) code: Code,
     pub(crate) frees: Frees,
     pub(crate) unknown: Line<Value>,
@@ -36,6 +39,7 @@ pub struct Session {
     pub(crate) store: Store,
     pub(crate) readers: Index,
     pub(crate) dirty: u64,
+    ghost owned: { AreOwners base owners } by { Prim.hlevel (props, attribute.the_row.coded) },
     ghost coded: { rulebase_of code ≡ base },
     ghost freed: { freed_by frees ≡ base },
     ghost nothing: { unknown ≡ (0, Unknown) ∷ [] } by { Prim.hlevel (props, each.the_row.coded) },

@@ -6,6 +6,7 @@ ghost use Rattle.opa_dirty.specs.Settling.{AreCurrent, AreReaders};
 ghost use Rattle.opa_goals.specs.Rulebases.{rulebase_of as freed_by};
 ghost use Rattle.opa_mean.specs.Rulebases.{IsOf};
 ghost use Rattle.opa_readers.specs.Indexes.{readers_in};
+ghost use Rattle.opa_store.specs.Owners.{AreOwners};
 ghost use Rattle.opa_store.specs.Stores.{kept_of};
 ghost use Rattle.opa_value.specs.declared.value.Value.TheVariants.{Unknown};
 ghost use Rattle.opa_infer.specs.Sessions.{rules_of, held_of, reached_of, first_slots};
@@ -18,7 +19,7 @@ use opa_goals::Frees;
 use opa_io::{NoMemory, Steps};
 use opa_line::Line;
 use opa_readers::Index;
-use opa_store::Store;
+use opa_store::{Owners, Store, owners_of};
 use opa_tree::Rulebase;
 use opa_value::Value;
 use std::alloc::Global;
@@ -45,6 +46,7 @@ impl Session {
 /// What is made of a rulebase once.
 #[derive(Drop)]
 struct Made {
+    owners: Owners,
     code: Code,
     frees: Frees,
     unknown: Line<Value>,
@@ -59,14 +61,17 @@ struct First {
 }
 
 fn made_of(alloc: Global, base: &Rulebase) -> Result<Made, NoMemory>
+    ensures owned { IfOk result (λ m. AreOwners base.now m.owners) }
     ensures coded { IfOk result (λ m. rulebase_of m.code ≡ base.now) }
     ensures freed { IfOk result (λ m. freed_by m.frees ≡ base.now) }
     ensures nothing { IfOk result (λ m. m.unknown ≡ (0, Unknown) ∷ []) }
 {
+    let owners = owners_of(alloc, base)?;
     let code = compile(alloc, base)?;
     let frees = Frees::of(alloc, base)?;
     let unknown = Line::constant(alloc, Value::Unknown)?;
     Ok(Made {
+        owners,
         code,
         frees,
         unknown,
@@ -98,6 +103,7 @@ fn first_state<L: Ledger>(
 }
 
 fn begun(base: Rulebase, made: Made, first: First) -> Session
+    requires owned { AreOwners base made.owners }
     requires coded { rulebase_of made.code ≡ base }
     requires freed { freed_by made.frees ≡ base }
     requires nothing { made.unknown ≡ (0, Unknown) ∷ [] }
@@ -110,6 +116,7 @@ fn begun(base: Rulebase, made: Made, first: First) -> Session
     ensures reached { reached_of result ≡ 0 }
 {
     let Made {
+        owners,
         code,
         frees,
         unknown,
@@ -121,6 +128,7 @@ fn begun(base: Rulebase, made: Made, first: First) -> Session
     } = first;
     Session {
         base,
+        owners,
         code,
         frees,
         unknown,

@@ -32,9 +32,9 @@ use Rattle.opa_dirty.proofs.Staging.{still_slot}
 use Rattle.opa_settle.specs.Tasks.{AreRanked, Marks, MarksLive, slots_of}
 use Rattle.opa_settle.specs.declared.task.Task.{Task}
 use Rattle.opa_store.specs.Drops.{has_slot}
-use Rattle.opa_readers.specs.Touches.{ruled_of}
+use Rattle.opa_store.specs.Owners.{ruled_of}
+use Rattle.opa_store.proofs.Owning.{in_ruled}
 use Rattle.opa_readers.specs.Waits.{WaitsBesides, IsOwnSlot, IsOwnSlotAmong, IsThisSlot, IsSlotOfOne, IsLiveReader}
-use Rattle.opa_readers.proofs.Touching.{in_ruled}
 
 module _ (r : Rulebase) where
   -- ---- any slots

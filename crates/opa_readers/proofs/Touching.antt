@@ -30,22 +30,9 @@ use Rattle.opa_tree.specs.Rules.{concludes}
 use Rattle.opa_tree.specs.declared.rulebase.Rulebase.{Rulebase}
 use Rattle.opa_tree.specs.declared.rules.Rule.{Rule}
 use Rattle.opa_tree.proofs.Members.{contains_head, flat_in}
-use Rattle.opa_readers.specs.Touches.{AreTouched, HaveTurned, ruled_of, slots_at_one, slots_at_each}
-
-abbrev owned_attr : Shape → ℕ → Rule → List AttrId
-owned_attr s e rule = cond (owner_of s rule.attr == e) (rule.attr ∷ []) []
-
--- an attribute of an entity that has a rule
-pub in_ruled : (s : Shape) (e : ℕ) (a : AttrId) (rules : List Rule) → e ≡ owner_of s a → is_some (find (concludes a) rules) ≡ true → Contains (flat_map (owned_attr s e) rules) a
-in_ruled s e a [] owner h = absurd (cc h)
-in_ruled s e a (r ∷ rules) owner h = go (concludes a r) refl (λ k. in_ruled s e a rules owner k)
-  where
-    here : r.attr ≡ a → Contains (owned_attr s e r) a
-    here same = subst (λ b. Contains (cond b (r.attr ∷ []) []) a) (sym (eq-eqb (owner_of s r.attr) e (ap (owner_of s) same ∙ sym owner))) (subst (λ (x : AttrId). Contains (r.attr ∷ []) x) same (contains_head r.attr []))
-
-    go : (b : Bool) → concludes a r ≡ b → (is_some (find (concludes a) rules) ≡ true → Contains (flat_map (owned_attr s e) rules) a) → Contains (owned_attr s e r ++ flat_map (owned_attr s e) rules) a
-    go true is rest = Contains-append_left (owned_attr s e r) (flat_map (owned_attr s e) rules) a (here (ap (λ (n : ℕ). let x : AttrId = record { 0 = n } in x) (eqb-true r.attr.0 a.0 is)))
-    go false is rest = Contains-append_right (owned_attr s e r) (flat_map (owned_attr s e) rules) a (rest (sym (ap (λ b. is_some (cond b (Some r) (find (concludes a) rules))) is) ∙ h))
+use Rattle.opa_store.specs.Owners.{ruled_of}
+use Rattle.opa_store.proofs.Owning.{in_ruled}
+use Rattle.opa_readers.specs.Touches.{AreTouched, HaveTurned, slots_at_one, slots_at_each}
 
 -- a slot of one of these instances
 in_each : (r : Rulebase) (a : AttrId) (i : InstanceId) (instances : Population) → is_among instances i ≡ true → Contains (ruled_of r i.entity.0) a → Contains (slots_at_each r instances) (a, i)

@@ -11,12 +11,11 @@ use Rattle.opa_case.specs.declared.question.Question.TheVariants as question
 use Rattle.opa_dirty.specs.ByLists.{ReadsTold}
 use Rattle.opa_dirty.specs.Dirty.{slot_reads}
 use Rattle.opa_dirty.specs.Settling.{Shift, Waiting}
-use Rattle.opa_mean.specs.Places.{owner_of}
 use Rattle.opa_mean.specs.Slots.{is_slot}
 use Rattle.opa_tree.specs.declared.rulebase.Rulebase.{Rulebase}
 use Rattle.opa_readers.specs.Indexes.{pair_of}
+use Rattle.opa_store.specs.Owners.{ruled_of}
 use Rattle.opa_readers.specs.declared.asked.Asked.{Asked}
-use Rattle.opa_readers.specs.declared.owned.Owned.{Owned}
 use Rattle.opa_readers.specs.declared.renewal.Renewed.{Renewed}
 
 -- two questions are one
@@ -77,13 +76,6 @@ pub record HaveTurned (r : Rulebase) (c c' : CaseView) (slots : Waiting) : Type 
 pub record AreTouched (s : Shift) (readers : Question → Waiting) (told : List Question) (slots : Waiting) : Type 0 where
   pub turned : HaveTurned s.rules s.old s.new slots
   pub reading : (a : AttrId) (i : InstanceId) → ReadsTold readers told a i → Contains slots (a, i)
-
--- the attributes of an entity that have a rule, as rules tell them
-abbrev pub ruled_of : Rulebase → ℕ → List AttrId
-ruled_of r e = flat_map (λ rule. cond (owner_of (shape_of r.model) rule.attr == e) (rule.attr ∷ []) []) r.rules
-
-abbrev pub IsOwned : Rulebase → Owned → Type 0
-IsOwned r owned = owned.attrs ≡ ruled_of r owned.entity
 
 -- the slots of an instance, and of instances
 abbrev pub slots_at_one : Rulebase → InstanceId → Waiting

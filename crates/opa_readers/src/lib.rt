@@ -13,8 +13,6 @@ mod given;
 mod index;
 mod laws;
 mod listing;
-mod owned;
-mod owning;
 mod put;
 mod readers;
 mod renew;

@@ -4,19 +4,17 @@ ghost use Rattle.opa_case.specs.Overlays.{relisted_case};
 ghost use Rattle.opa_dirty.specs.ByLists.{AreListsTold, IsByLists};
 ghost use Rattle.opa_dirty.specs.Settling.{AreReaders, IsBegun, shift};
 ghost use Rattle.opa_readers.specs.Indexes.{readers_in};
-ghost use Rattle.opa_readers.specs.Touches.{IsOwned};
 ghost use Rattle.opa_readers.specs.Waits.{IsLiveReader, IsOwnSlot, IsSlotOfOne, IsThisSlot, WaitsBesides};
 ghost use Rattle.opa_settle.specs.Tasks.{AreRanked, slots_of};
+ghost use Rattle.opa_store.specs.Owners.{AreOwners};
 
 use crate::index::Index;
-use crate::owned::Owned;
-use crate::owning::{owned_by, turn_to};
 use opa_case::{InstanceId, Question, Relisted};
 use opa_dirty::Slot;
 use opa_io::NoMemory;
 use opa_model::AttrId;
 use opa_settle::{Reading, Tasks, mark_live, mark_one};
-use opa_store::has_slot;
+use opa_store::{Owners, has_slot};
 use opa_tree::Rulebase;
 use std::alloc::Global;
 
@@ -25,10 +23,12 @@ use std::alloc::Global;
 pub fn begin_list(
     alloc: Global,
     base: &Rulebase,
+    owners: &Owners,
     next: &Relisted<'_>,
     index: &Index,
     told: &[Question],
 ) -> Result<Tasks, NoMemory>
+    requires owners { AreOwners base.now owners.now }
     requires lists { IsByLists (shift base.now next.now.case.now (relisted_case next.now)) }
     requires readers { AreReaders base.now next.now.case.now (readers_in index.now) }
     requires told { AreListsTold (shift base.now next.now.case.now (relisted_case next.now)) told.now }
@@ -38,7 +38,7 @@ pub fn begin_list(
 {
     let came = next.came();
     let mut tasks = Tasks::new(alloc);
-    mark_came(alloc, base, came, &mut tasks)?;
+    mark_came(alloc, base, owners, came, &mut tasks)?;
     mark_told(alloc, base, next, index, told, &mut tasks)?;
     Ok(tasks)
 }
@@ -47,15 +47,15 @@ pub fn begin_list(
 fn mark_came(
     alloc: Global,
     base: &Rulebase,
+    owners: &Owners,
     came: &[(InstanceId, InstanceId)],
     tasks: &mut Tasks,
 ) -> Result<(), NoMemory>
+    requires { AreOwners base.now owners.now }
     ensures { OnOk result (WaitsBesides base.now (IsSlotOfOne base.now came.now) tasks.old tasks.new) }
 {
-    let mut owned = owned_by(alloc, base, 0)?;
     for (inst, _) in came {
-        turn_to(alloc, base, inst.entity.0, &mut owned)?;
-        mark_slots_of(alloc, base, &owned, inst, tasks)?;
+        mark_slots_of(alloc, base, owners, inst, tasks)?;
     }
     Ok(())
 }
@@ -64,15 +64,14 @@ fn mark_came(
 fn mark_slots_of(
     alloc: Global,
     base: &Rulebase,
-    owned: &Owned,
+    owners: &Owners,
     inst: &InstanceId,
     tasks: &mut Tasks,
 ) -> Result<(), NoMemory>
-    requires owned { IsOwned base.now owned.now }
-    requires entity { owned.now.entity ≡ inst.now.entity.0 }
+    requires { AreOwners base.now owners.now }
     ensures { OnOk result (WaitsBesides base.now (IsOwnSlot base.now inst.now) tasks.old tasks.new) }
 {
-    let attrs = owned.attrs.as_slice();
+    let attrs = owners.attributes(inst.entity.0);
     for attr in attrs {
         mark_slot(alloc, base, *attr, inst, tasks)?;
     }

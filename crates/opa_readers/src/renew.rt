@@ -8,6 +8,7 @@ ghost use Rattle.opa_readers.specs.Indexes.{readers_in};
 ghost use Rattle.opa_readers.specs.Renewals.{IsRenewal, relisting};
 ghost use Rattle.opa_readers.specs.Touches.{AreRenewed, IsRenewed, reads_in};
 ghost use Rattle.opa_settle.specs.Tasks.{slots_of};
+ghost use Rattle.opa_store.specs.Owners.{AreOwners};
 
 use crate::difference::without;
 use crate::index::Index;
@@ -19,6 +20,7 @@ use opa_io::{List, NoMemory};
 use opa_mean::{is_slot, owner_of, reads_over};
 use opa_model::AttrId;
 use opa_settle::Tasks;
+use opa_store::Owners;
 use opa_tree::Rulebase;
 use std::alloc::Global;
 
@@ -29,17 +31,19 @@ impl Index {
         &self,
         alloc: Global,
         base: &Rulebase,
+        owners: &Owners,
         held: &Case,
         next: &Relisted<'_>,
         told: &[Question],
     ) -> Result<Renewal, NoMemory>
+        requires owners { AreOwners base.now owners.now }
         requires held { held.now ≡ next.now.case.now }
         requires lists { IsByLists (relisting base.now next.now) }
         requires exact { AreReaders base.now next.now.case.now (readers_in self.now) }
         requires told { AreListsTold (relisting base.now next.now) told.now }
         ensures { IfOk result (IsRenewal (relisting base.now next.now) (readers_in self.now)) }
     {
-        let tasks = slots_touched(alloc, base, self, next, told)?;
+        let tasks = slots_touched(alloc, base, owners, self, next, told)?;
         let slots = renewed_each(alloc, base, held, next, tasks)?;
         Ok(Renewal { slots })
     }

@@ -7,14 +7,15 @@ ghost use Rattle.opa_readers.specs.Renewals.{relisting};
 ghost use Rattle.opa_readers.specs.Touches.{AreTouched, HaveTurned, slots_at_each};
 ghost use Rattle.opa_settle.specs.Starts.{MarksReaders};
 ghost use Rattle.opa_settle.specs.Tasks.{slots_of};
+ghost use Rattle.opa_store.specs.Owners.{AreOwners};
 
 use crate::index::Index;
-use crate::owning::{owned_by, turn_to};
 use opa_case::{InstanceId, Question, Relisted};
 use opa_dirty::Slot;
 use opa_io::{List, NoMemory};
 use opa_model::AttrId;
 use opa_settle::{Reading, Tasks, mark, mark_set};
+use opa_store::Owners;
 use opa_tree::Rulebase;
 use std::alloc::Global;
 
@@ -22,13 +23,15 @@ use std::alloc::Global;
 pub(crate) fn slots_touched(
     alloc: Global,
     base: &Rulebase,
+    owners: &Owners,
     index: &Index,
     next: &Relisted<'_>,
     told: &[Question],
 ) -> Result<Tasks, NoMemory>
+    requires { AreOwners base.now owners.now }
     ensures { IfOk result (λ tasks. AreTouched (relisting base.now next.now) (readers_in index.now) told.now (slots_of tasks)) }
 {
-    let turned = slots_turned(alloc, base, next)?;
+    let turned = slots_turned(alloc, base, owners, next)?;
     let slots = turned.as_slice();
     let mut tasks = Tasks::new(alloc);
     mark(alloc, base, slots, &mut tasks)?;
@@ -53,14 +56,20 @@ fn mark_readers(
 }
 
 /// The slots of what goes and of what comes.
-fn slots_turned(alloc: Global, base: &Rulebase, next: &Relisted<'_>) -> Result<List<Slot>, NoMemory>
+fn slots_turned(
+    alloc: Global,
+    base: &Rulebase,
+    owners: &Owners,
+    next: &Relisted<'_>,
+) -> Result<List<Slot>, NoMemory>
+    requires { AreOwners base.now owners.now }
     ensures { IfOk result (λ slots. HaveTurned base.now next.now.case.now (relisted_case next.now) (pairs_of slots)) }
 {
     let mut slots = List::new(alloc);
     let went = next.went();
-    add_each(alloc, base, went, &mut slots)?;
+    add_each(alloc, base, owners, went, &mut slots)?;
     let came = next.came();
-    add_each(alloc, base, came, &mut slots)?;
+    add_each(alloc, base, owners, came, &mut slots)?;
     Ok(slots)
 }
 
@@ -68,15 +77,15 @@ fn slots_turned(alloc: Global, base: &Rulebase, next: &Relisted<'_>) -> Result<L
 fn add_each(
     alloc: Global,
     base: &Rulebase,
+    owners: &Owners,
     instances: &[(InstanceId, InstanceId)],
     slots: &mut List<Slot>,
 ) -> Result<(), NoMemory>
+    requires { AreOwners base.now owners.now }
     ensures { OnOk result (pairs_of slots.new ≡ pairs_of slots.old ++ slots_at_each base.now instances.now) }
 {
-    let mut owned = owned_by(alloc, base, 0)?;
     for (inst, _) in instances {
-        turn_to(alloc, base, inst.entity.0, &mut owned)?;
-        let attrs = owned.attrs.as_slice();
+        let attrs = owners.attributes(inst.entity.0);
         add_slots(alloc, attrs, inst, slots)?;
     }
     Ok(())

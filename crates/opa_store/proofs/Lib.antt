@@ -3,5 +3,6 @@ pub mod Entering
 pub mod Leaving
 pub mod Listing
 pub mod Nexting
+pub mod Owning
 pub mod Storing
 pub mod Telling

@@ -1,5 +1,6 @@
 -- Slots of what goes.
-use Rattle.std.specs.Prelude.{◌≡◌, ℕ, Bool, cond, ◌&&◌, ◌==◌, is_some, None}
+use Rattle.std.specs.Prelude.{◌≡◌, ℕ, Bool, List, cond, ◌&&◌, ◌==◌, is_some, None}
+use Rattle.std.specs.List.{list_any}
 use Rattle.opa_model.specs.declared.ids.AttrId.{AttrId}
 use Rattle.opa_cells.specs.Instances.{is_same}
 use Rattle.opa_cells.specs.declared.instance.InstanceId.{InstanceId}
@@ -9,6 +10,8 @@ use Rattle.opa_case.specs.Turns.{Turns, is_among}
 use Rattle.opa_tree.specs.declared.rulebase.Rulebase.{Rulebase}
 use Rattle.opa_tree.specs.Rules.{rule_of}
 use Rattle.opa_mean.specs.Places.{owner_of}
+use Rattle.opa_store.specs.Owners.{owned_in}
+use Rattle.opa_store.specs.declared.owners.Owners.{Owners}
 use Rattle.opa_dirty.specs.Settling.{Lines, Shift, IsShift, AreCurrent, AreSettled, SameLines, laid}
 
 -- the attribute is of the instance's entity, and has a rule
@@ -18,6 +21,14 @@ has_slot r a i = (i.entity.0 == owner_of (shape_of r.model) a) && is_some (rule_
 -- it is a slot of this very instance
 abbrev pub slot_at : Rulebase → InstanceId → ℕ → InstanceId → Bool
 slot_at r i a j = has_slot r (record { 0 = a }) j && is_same j i
+
+-- the attribute is among those
+abbrev pub is_named : List AttrId → ℕ → Bool
+is_named attrs a = list_any (λ b. a == b.0) attrs
+
+-- it is a slot of this very instance, and of its entity's attributes
+abbrev pub goes_at : Rulebase → Owners → InstanceId → ℕ → InstanceId → Bool
+goes_at r owners i a j = is_named (owned_in owners i.entity.0) a && slot_at r i a j
 
 -- the lines of the slots of what goes are taken out
 abbrev pub AreDropped : Rulebase → Population → Lines → Lines → Type 0

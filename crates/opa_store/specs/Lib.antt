@@ -1,4 +1,5 @@
 pub mod Drops
 pub mod Entries
 pub mod Nexts
+pub mod Owners
 pub mod Stores

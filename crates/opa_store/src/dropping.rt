@@ -1,13 +1,14 @@
 // Lines of the slots of what goes are dropped.
-ghost use Rattle.std.specs.Prelude.{◌≡◌, ◌==◌, ◌&&◌, nat_lt, ℕ, [], None, cond};
+ghost use Rattle.std.specs.Prelude.{◌≡◌, ◌==◌, ◌&&◌, ℕ, [], None, cond};
 ghost use Rattle.std.specs.List.{list_any};
 ghost use Rattle.std.specs.FinMap as map;
-ghost use Rattle.opa_case.specs.Shapes.{shape_of};
 ghost use Rattle.opa_cells.specs.declared.instance.InstanceId.{InstanceId as Instance};
-ghost use Rattle.opa_store.specs.Drops.{has_slot, slot_at, AreDropped};
+ghost use Rattle.opa_store.specs.Drops.{goes_at, has_slot, slot_at, AreDropped};
+ghost use Rattle.opa_store.specs.Owners.{AreOwners};
 ghost use Rattle.opa_store.specs.Stores.{kept_of};
 
 use crate::entry::Entry;
+use crate::owners::Owners;
 use crate::store::Store;
 use opa_cells::{Cells, InstanceId};
 use opa_mean::owner_of;
@@ -16,33 +17,42 @@ use opa_tree::Rulebase;
 
 impl Store {
     /// Takes out the lines of what goes, slot by slot. It takes no memory.
-    pub fn drop_slots(&mut self, base: &Rulebase, went: &[(InstanceId, InstanceId)])
-        requires { self.old.slots ≡ [] }
+    pub fn drop_slots(
+        &mut self,
+        base: &Rulebase,
+        owners: &Owners,
+        went: &[(InstanceId, InstanceId)],
+    )
+        requires staged { self.old.slots ≡ [] }
+        requires owners { AreOwners base.now owners.now }
         ensures kept { AreDropped base.now went.now (kept_of self.old) (kept_of self.new) }
         ensures staged { self.new.slots ≡ [] }
     {
-        drop_all(base, &mut self.entries, went);
+        drop_all(base, owners, &mut self.entries, went);
     }
 }
 
 /// Takes out the entries of what goes.
-fn drop_all(base: &Rulebase, entries: &mut Cells<Entry>, went: &[(InstanceId, InstanceId)])
-    ensures { (a : ℕ) (j : Instance) → map.get entries.new (a, j) ≡ cond (nat_lt a (shape_of base.now.model).attributes && list_any (λ g. slot_at base.now g.0 a j) went.now) None (map.get entries.old (a, j)) }
+fn drop_all(
+    base: &Rulebase,
+    owners: &Owners,
+    entries: &mut Cells<Entry>,
+    went: &[(InstanceId, InstanceId)],
+)
+    ensures { (a : ℕ) (j : Instance) → map.get entries.new (a, j) ≡ cond (list_any (λ g. goes_at base.now owners.now g.0 a j) went.now) None (map.get entries.old (a, j)) }
 {
     for (inst, _) in went {
-        drop_of(base, entries, inst);
+        drop_of(base, owners, entries, inst);
     }
 }
 
 /// Takes out the entries of one instance.
-fn drop_of(base: &Rulebase, entries: &mut Cells<Entry>, inst: &InstanceId)
-    ensures { (a : ℕ) (j : Instance) → map.get entries.new (a, j) ≡ cond (nat_lt a (shape_of base.now.model).attributes && slot_at base.now inst.now a j) None (map.get entries.old (a, j)) }
+fn drop_of(base: &Rulebase, owners: &Owners, entries: &mut Cells<Entry>, inst: &InstanceId)
+    ensures { (a : ℕ) (j : Instance) → map.get entries.new (a, j) ≡ cond (goes_at base.now owners.now inst.now a j) None (map.get entries.old (a, j)) }
 {
-    let count = base.model.attribute_count();
-    let mut number = 0;
-    while number < count {
-        drop_slot(base, entries, AttrId(number), inst);
-        number += 1;
+    let attrs = owners.attributes(inst.entity.0);
+    for attr in attrs {
+        drop_slot(base, entries, *attr, inst);
     }
 }
 

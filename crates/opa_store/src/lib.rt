@@ -7,6 +7,7 @@ mod entry;
 mod gone;
 mod laws;
 mod next;
+mod owners;
 mod relisted;
 mod store;
 
@@ -16,4 +17,5 @@ pub use laws::dropped_are_current;
 pub use next::{Answered, Next};
 pub use opa_case::Relisted;
 pub use opa_dirty::Slot;
+pub use owners::{Owners, owners_of};
 pub use store::Store;
