@@ -1,9 +1,8 @@
 -- The slots that a change of a list touches.
-use Rattle.std.proofs.Common.{◌≡◌, inl, inr, ℕ, Bool, true, false, not, cond, List, [], ◌∷◌, ◌++◌, None, Some, is_some, Contains, refl, sym, ◌∙◌, ap, subst}
-use Rattle.std.specs.Prelude.{◌||◌, ◌==◌, find, flat_map}
+use Rattle.std.proofs.Common.{◌≡◌, inl, inr, Bool, true, false, not, cond, List, [], ◌∷◌, ◌++◌, None, Some, Contains, refl, sym, ◌∙◌, ap, subst}
+use Rattle.std.specs.Prelude.{◌||◌}
 use Rattle.std.specs.List.{list_any}
 use Rattle.std.specs.Map.{lookup}
-use Rattle.std.proofs.lemmas.Bool.{eqb-true, eq-eqb}
 use Rattle.std.proofs.lemmas.List.Elements.{Contains-append_left, Contains-append_right}
 use Rattle.opa_model.specs.declared.ids.AttrId.{AttrId}
 use Rattle.opa_cells.specs.Instances.{is_same, global}
@@ -11,7 +10,7 @@ use Rattle.opa_cells.specs.declared.instance.InstanceId.{InstanceId}
 use Rattle.opa_cells.proofs.Orders.{same_is}
 use Rattle.opa_case.specs.Cases.{CaseView}
 use Rattle.opa_case.specs.Live.{Population, is_live, container_of}
-use Rattle.opa_case.specs.Shapes.{Shape, shape_of}
+use Rattle.opa_case.specs.Shapes.{shape_of}
 use Rattle.opa_case.specs.Turns.{Turns, is_among}
 use Rattle.opa_case.specs.declared.question.Question.{Question}
 use Rattle.opa_case.proofs.Stands.{lookup_found}
@@ -20,16 +19,13 @@ use Rattle.opa_dirty.specs.Slots.{pairs_of}
 use Rattle.opa_dirty.specs.declared.slot.Slot.{Slot}
 use Rattle.opa_dirty.proofs.Causes.{witness}
 use Rattle.opa_dirty.proofs.Parted.{parts_of}
-use Rattle.opa_mean.specs.Places.{owner_of}
 use Rattle.opa_mean.specs.Slots.{is_slot}
 use Rattle.opa_mean.proofs.Everywhere.{in_map}
 use Rattle.opa_settle.specs.Starts.{MarksReaders}
 use Rattle.opa_settle.specs.Tasks.{Marks, slots_of}
 use Rattle.opa_settle.specs.declared.task.Task.{Task}
-use Rattle.opa_tree.specs.Rules.{concludes}
 use Rattle.opa_tree.specs.declared.rulebase.Rulebase.{Rulebase}
-use Rattle.opa_tree.specs.declared.rules.Rule.{Rule}
-use Rattle.opa_tree.proofs.Members.{contains_head, flat_in}
+use Rattle.opa_tree.proofs.Members.{flat_in}
 use Rattle.opa_store.specs.Owners.{ruled_of}
 use Rattle.opa_store.proofs.Owning.{in_ruled}
 use Rattle.opa_readers.specs.Touches.{AreTouched, HaveTurned, slots_at_one, slots_at_each}

@@ -1,11 +1,10 @@
 -- Which slots a change of a list touches, and what each of them reads besides and no more.
-use Rattle.std.specs.Prelude.{◌≡◌, ◌⊎◌, ◌↔◌, ℕ, Bool, true, false, ◌==◌, cond, is_some, List, [], ◌∷◌, ◌++◌, map, flat_map, Contains}
+use Rattle.std.specs.Prelude.{◌≡◌, ◌⊎◌, ◌↔◌, Bool, true, false, cond, is_some, List, [], ◌∷◌, ◌++◌, map, flat_map, Contains}
 use Rattle.std.specs.FinMap.{get}
 use Rattle.opa_model.specs.declared.ids.AttrId.{AttrId}
 use Rattle.opa_cells.specs.declared.instance.InstanceId.{InstanceId}
 use Rattle.opa_case.specs.Cases.{CaseView}
 use Rattle.opa_case.specs.Live.{Population, is_live}
-use Rattle.opa_case.specs.Shapes.{shape_of}
 use Rattle.opa_case.specs.declared.question.Question.{Question}
 use Rattle.opa_case.specs.declared.question.Question.TheVariants as question
 use Rattle.opa_dirty.specs.ByLists.{ReadsTold}

@@ -21,6 +21,7 @@ pub invariant_of-self-2 : goal.invariant_of-self-2
 invariant_of-self-2 g c =
     let s = c.args.self.now in
     record {
+      owned = s.owned;
       coded = s.coded;
       freed = s.freed;
       nothing = s.nothing;
@@ -39,6 +40,7 @@ pub invariant_of-self-in-Break-branch-2 : goal.invariant_of-self-in-Break-branch
 invariant_of-self-in-Break-branch-2 g c =
     let s = c.args.self.now in
     record {
+      owned = s.owned;
       coded = s.coded;
       freed = s.freed;
       nothing = s.nothing;
