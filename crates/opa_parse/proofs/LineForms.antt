@@ -38,7 +38,7 @@ use Rattle.opa_sentence.specs.declared.class.Class.{Class}
 use Rattle.opa_sentence.specs.declared.class.Class.TheVariants as class
 use Rattle.opa_sentence.specs.Lexemes.{Lexeme, lexemes, class_of, word_class, symbol_class, function_class}
 use Rattle.opa_sentence.specs.Phrases.{longest, past_words, is_word, is_wordlike}
-use Rattle.opa_sentence.specs.Quoted.{unquoted}
+use Rattle.opa_words.specs.Quoted.{unquoted}
 use Rattle.opa_sentence.specs.Table.{relation_at, relation_found, past_found}
 use Rattle.opa_sentence.specs.Measures.{Bounds}
 use Rattle.opa_sentence.specs.Readings as says
