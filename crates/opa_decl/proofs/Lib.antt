@@ -1,4 +1,3 @@
-pub mod QuotedLaws
 pub mod HeadLaws
 pub mod CutBlockLaws
 pub mod LimitLaws

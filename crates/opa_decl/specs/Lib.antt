@@ -1,7 +1,6 @@
 pub mod Heads
 pub mod Cutting
 pub mod Steps
-pub mod Quoted
 pub mod Pieces
 pub mod Limits
 pub mod Lines

@@ -8,7 +8,7 @@ use Rattle.opa_words.specs.declared.kinds.TokenKind.{TokenKind}
 use Rattle.opa_words.specs.declared.kinds.TokenKind.TheVariants as kind
 use Rattle.opa_words.specs.Places.{token_text}
 use Rattle.opa_words.specs.Reserved.{is_word_kind, are_phrase, phrase_text}
-use Rattle.opa_decl.specs.Quoted.{unquoted}
+use Rattle.opa_words.specs.Quoted.{unquoted}
 
 abbrev pub is_text_kind : TokenKind → Bool
 is_text_kind kind.Text = true

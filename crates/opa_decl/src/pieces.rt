@@ -114,7 +114,7 @@ pub fn is_number(kind: TokenKind) -> bool
 }
 
 /// What the one Text stands for.
-#[tactic(auto, using(crate::proofs::QuotedLaws::unquoted_is))]
+#[tactic(auto, using(opa_words::proofs::QuotedLaws::unquoted_is))]
 pub fn quoted_text(alloc: Global, text: &str, tokens: &[Token]) -> Result<Option<Txt>, NoMemory>
     requires within { All (IsWithin text.now) tokens.now }
     requires kinds { All (IsOfKind text.now) tokens.now }

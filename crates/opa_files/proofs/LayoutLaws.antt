@@ -11,19 +11,6 @@ use Rattle.opa_files.specs.Layouts.{AreBlocksOf, AreLaid, IsShort, faults_in, fa
 
 -- ---- short lines
 
-left : (xs ys : List BlockLine) → All IsShort (xs ++ ys) → All IsShort xs
-left [] ys h = All-nil IsShort
-left (x ∷ xs) ys h = All-cons IsShort x xs (All-head IsShort x (xs ++ ys) h) (left xs ys (All-tail IsShort x (xs ++ ys) h))
-
-right : (xs ys : List BlockLine) → All IsShort (xs ++ ys) → All IsShort ys
-right [] ys h = h
-right (x ∷ xs) ys h = right xs ys (All-tail IsShort x (xs ++ ys) h)
-
--- the lines of each block are short where all lines are
-pub short_blocks : (bs : List Block) → All IsShort (lines_of bs) → All (λ (b : Block). All IsShort b.lines) bs
-short_blocks [] h = All-nil (λ (b : Block). All IsShort b.lines)
-short_blocks (b ∷ bs) h = All-cons (λ (c : Block). All IsShort c.lines) b bs (left b.lines (lines_of bs) h) (short_blocks bs (right b.lines (lines_of bs) h))
-
 pub short_more : (old more new : List Block) → new ≡ old ++ more → All IsShort (lines_of old) → All IsShort (lines_of more) → All IsShort (lines_of new)
 short_more old more new e h k = subst (All IsShort) (sym (ap lines_of e ∙ lines_of-append old more)) (All-append IsShort (lines_of old) (lines_of more) h k)
 

@@ -1,16 +1,17 @@
 -- How many lines a text has, and how long they are.
-use Rattle.std.proofs.Common.{◌≡◌, ℕ, ◌+◌, ◌<◌, ◌≤◌, List, [], ◌∷◌, length, Bool, true, false, cond, refl, sym, ap, subst, ◌∙◌, arith}
+use Rattle.std.proofs.Common.{◌≡◌, ℕ, ◌+◌, ◌<◌, ◌≤◌, List, [], ◌∷◌, ◌++◌, length, Bool, true, false, cond, refl, sym, ap, subst, ◌∙◌, arith}
 use Rattle.std.specs.Prelude.{◌==◌, ◌-◌, ◌^◌, take, drop, slice_index, slice_index_or}
 use Rattle.std.specs.List.{slice_split, onto_first, All, AllByRecursion}
 use Rattle.std.specs.Str.{bytes_eq}
 use Rattle.std.proofs.lemmas.List.{length-take, length-drop}
-use Rattle.std.proofs.lemmas.List.Elements.{All-from_recursion}
+use Rattle.std.proofs.lemmas.List.Elements.{All-from_recursion, All-nil, All-cons, All-head, All-tail}
 use Rattle.std.specs.Str.Lines.{strip_carriage_return}
 use Rattle.std.proofs.lemmas.List.Splits.{slice_split-cons_no, slice_split-cons_yes, length-slice_split}
+use Rattle.opa_layout.specs.declared.block.Block.{Block}
 use Rattle.opa_layout.specs.declared.block.BlockLine.{BlockLine}
 use Rattle.opa_layout.specs.Lines.{Row, numbered, without_mark, rows}
 use Rattle.opa_layout.specs.Indents.{is_passed, is_blank, past_blanks}
-use Rattle.opa_layout.specs.Blocks.{kept, line_of, block_lines}
+use Rattle.opa_layout.specs.Blocks.{kept, line_of, lines_of, block_lines}
 
 -- the bytes of parts and those between them
 abbrev weight : List (List ℕ) → ℕ
@@ -114,3 +115,24 @@ lines_short ls bs e h = subst (All (λ l. length l.text < 2 ^ 32)) (sym e) (λ k
 
 pub lines_few : (ls : List BlockLine) (bs : List ℕ) → ls ≡ block_lines bs → length bs < 2 ^ 32 → length ls < 2 ^ 32
 lines_few ls bs e h = omega (arith, ap length e, block_lines-few bs, h)
+
+-- ---- blocks
+
+abbrev Fits : BlockLine → Type 0
+Fits l = length l.text < 2 ^ 32
+
+left : (xs ys : List BlockLine) → All Fits (xs ++ ys) → All Fits xs
+left [] ys h = All-nil Fits
+left (x ∷ xs) ys h = All-cons Fits x xs (All-head Fits x (xs ++ ys) h) (left xs ys (All-tail Fits x (xs ++ ys) h))
+
+right : (xs ys : List BlockLine) → All Fits (xs ++ ys) → All Fits ys
+right [] ys h = h
+right (x ∷ xs) ys h = right xs ys (All-tail Fits x (xs ++ ys) h)
+
+abbrev AllFit : Block → Type 0
+AllFit b = All Fits b.lines
+
+-- the lines of blocks are short enough to be cut, where all of them are
+pub short_blocks : (bs : List Block) → All (λ (l : BlockLine). length l.text < 2 ^ 32) (lines_of bs) → All (λ (b : Block). All (λ (l : BlockLine). length l.text < 2 ^ 32) b.lines) bs
+short_blocks [] h = All-nil AllFit
+short_blocks (b ∷ bs) h = All-cons AllFit b bs (left b.lines (lines_of bs) h) (short_blocks bs (right b.lines (lines_of bs) h))

@@ -1,5 +1,5 @@
 -- What is read of a block is what it spells.
-use Rattle.std.proofs.Common.{◌≡◌, ℕ, List, [], ◌∷◌, Bool, true, false, Option, Some, None, option_map, refl, sym, ap, subst, ◌∙◌, length}
+use Rattle.std.proofs.Common.{◌≡◌, ℕ, List, [], ◌∷◌, true, false, Option, Some, None, option_map, refl, sym, ap, subst, ◌∙◌, length}
 use Rattle.std.specs.Str.{chars}
 use Rattle.opa_model.specs.declared.ids.AttrId.{AttrId}
 use Rattle.opa_model.specs.declared.lists.Lists.{Lists}
@@ -18,7 +18,6 @@ use Rattle.opa_parse.specs.declared.block.Membership.{Membership}
 use Rattle.opa_parse.specs.declared.block.Opening.{Opening}
 use Rattle.opa_parse.specs.declared.block.Opening.TheVariants as opens
 use Rattle.opa_parse.specs.declared.block.Statement.{Statement}
-use Rattle.opa_parse.specs.declared.group.Front.TheVariants as front
 use Rattle.opa_parse.specs.declared.group.Group.{Group}
 use Rattle.opa_parse.specs.declared.group.Said.{Said}
 use Rattle.opa_parse.specs.declared.group.Sort.{Sort}
@@ -31,7 +30,7 @@ use Rattle.opa_parse.specs.Groups.{Grouped, AllCases}
 use Rattle.opa_parse.specs.GroupTable.{Reads, IsReadAs, production, resume}
 use Rattle.opa_parse.specs.Lines.{IsCut, AreLines, ending_of}
 use Rattle.opa_parse.specs.Openings.{opening, past_equals, heading}
-use Rattle.opa_parse.specs.Sayings.{of_line, single}
+use Rattle.opa_parse.specs.Sayings.{single}
 use Rattle.opa_parse.specs.Statements.{is_over, below_first, IsSaid, IsLineSaid}
 use Rattle.opa_parse.proofs.CutOnce.{one_words, same_lines}
 use Rattle.opa_parse.proofs.GroupsMeant.{grouped_means, cases_mean}

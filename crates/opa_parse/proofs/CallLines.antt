@@ -1,5 +1,5 @@
 -- How many lines stand in a call of a function.
-use Rattle.std.proofs.Common.{◌≡◌, ℕ, ◌+◌, ◌-◌, ◌==◌, ◌<◌, ◌≤◌, min, nat_lt, List, [], ◌∷◌, ◌++◌, length, Bool, true, false, cond, if◌then◌else◌, Option, Some, None, refl, sym, ap, ◌∙◌, arith}
+use Rattle.std.proofs.Common.{◌≡◌, ℕ, ◌+◌, ◌-◌, ◌==◌, ◌<◌, ◌≤◌, min, nat_lt, List, [], ◌∷◌, ◌++◌, length, Bool, true, false, if◌then◌else◌, Some, None, refl, sym, ap, ◌∙◌, arith}
 use Rattle.opa_tree.specs.declared.kinds.OpKind.TheVariants as op
 use Rattle.opa_tree.specs.Trees.{op_arity, quant_arity, window_arity}
 use Rattle.opa_sentence.specs.declared.functions.Argument.{Argument}

@@ -1,13 +1,11 @@
 -- A text is cut in one way, and a line of a block is one line.
-use Rattle.std.proofs.Common.{◌≡◌, ◌⊎◌, inl, inr, ℕ, ◌-◌, List, [], ◌∷◌, ◌++◌, length, Bool, true, false, Option, Some, None, refl, sym, ap, subst, ◌∙◌}
+use Rattle.std.proofs.Common.{◌≡◌, ℕ, ◌-◌, List, [], ◌∷◌, ◌++◌, length, Bool, true, false, Option, Some, None, refl, sym, ap, subst, ◌∙◌}
 use Rattle.std.specs.Str.{chars}
 use Rattle.opa_words.specs.declared.kinds.TokenKind.{TokenKind}
-use Rattle.opa_words.specs.declared.kinds.Token.{Token}
 use Rattle.opa_words.specs.Characters.{width, is_blank}
 use Rattle.opa_words.specs.Kinds.{IsLongest, BeginsNone}
 use Rattle.opa_words.specs.Cuts as c
 use Rattle.opa_words.specs.Cuts.{Cuts, Stuck}
-use Rattle.opa_words.specs.Places.{token_text}
 use Rattle.opa_words.proofs.OneCut.{one_cut_holds, cut_or_stuck_holds, one_longest_holds}
 use Rattle.opa_layout.specs.declared.block.BlockLine.{BlockLine}
 use Rattle.opa_sentence.specs.declared.names.Names.{Names}

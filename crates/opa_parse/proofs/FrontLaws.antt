@@ -1,11 +1,11 @@
 -- The first word of a text.
-use Rattle.std.proofs.Common.{◌≡◌, ◌⊎◌, inl, inr, ℕ, List, [], ◌∷◌, length, take, Option, Some, None, refl, sym, ap, subst, ◌∙◌}
+use Rattle.std.proofs.Common.{◌≡◌, inl, inr, ℕ, List, [], ◌∷◌, length, take, Some, None, sym, ap, subst, ◌∙◌}
 use Rattle.std.specs.Str.{chars}
 use Rattle.opa_words.specs.declared.kinds.Token.{Token}
-use Rattle.opa_words.specs.Cuts.{Cuts, Stuck}
+use Rattle.opa_words.specs.Cuts.{Cuts}
 use Rattle.opa_words.specs.Places.{token_text}
 use Rattle.opa_words.proofs.OneCut.{one_cut_holds, cut_or_stuck_holds}
-use Rattle.opa_parse.specs.Fronts.{Stands, IsFront}
+use Rattle.opa_parse.specs.Fronts.{Stands}
 use Rattle.opa_parse.specs.Openings.{IsFirst}
 use Rattle.opa_parse.proofs.CutOnce.{one_place}
 

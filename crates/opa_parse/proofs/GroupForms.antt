@@ -17,7 +17,6 @@ use Rattle.opa_sentence.specs.declared.names.Relation.{Relation}
 use Rattle.opa_sentence.specs.declared.names.Relation.TheVariants as relation
 use Rattle.opa_sentence.specs.declared.reading.Reading.{Reading}
 use Rattle.opa_sentence.specs.declared.reading.Parts.{Parts}
-use Rattle.opa_sentence.specs.Bounding.{bound}
 use Rattle.opa_sentence.specs.Lexemes.{Lexeme}
 use Rattle.opa_sentence.specs.Measured.{Tells}
 use Rattle.opa_sentence.specs.Measures.{beside, above, fits, capped, unbounded, bounded}
@@ -37,7 +36,7 @@ use Rattle.opa_parse.specs.declared.line.Head.TheVariants as head
 use Rattle.opa_parse.specs.declared.line.Line.{Line}
 use Rattle.opa_parse.specs.Groups as g
 use Rattle.opa_parse.specs.Groups.{Item, Grouped, More, Case, MoreCases, AllCases}
-use Rattle.opa_parse.specs.Sayings.{of_line, head_reading, headed, one_item, with_item, joined, single, several, no_cases, row_of, with_row, row_measure, cases_measure, with_case, table_of, table_measure, tabled}
+use Rattle.opa_parse.specs.Sayings.{of_line, head_reading, joined, row_of, with_row, row_measure, cases_measure, with_case, table_of, table_measure, tabled}
 use Rattle.opa_parse.proofs.LineForms.{both, below, Form, OfForm, KeepsForm, formed, formed_last, length_last, all_form, any_form, listed_form, not_form, MemberForm, MembersForm, AreReal, form_of}
 
 -- ---- measures that fit

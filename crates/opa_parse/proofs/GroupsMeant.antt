@@ -1,5 +1,5 @@
 -- What the table of groups reads is spelled by the grammar.
-use Rattle.std.proofs.Common.{◌≡◌, ◌⊎◌, inl, inr, ℕ, ◌+◌, List, [], ◌∷◌, Bool, true, false, ◌==◌, Option, Some, None, if◌then◌else◌, nat_lt, refl, sym, subst, ◌∙◌, arith}
+use Rattle.std.proofs.Common.{◌≡◌, ◌⊎◌, inl, inr, ℕ, ◌+◌, List, [], ◌∷◌, Bool, true, false, ◌==◌, Option, Some, None, if◌then◌else◌, nat_lt, refl, sym, subst, arith}
 use Rattle.opa_sentence.specs.declared.names.Names.{Names}
 use Rattle.opa_sentence.specs.declared.reading.Reading.{Reading}
 use Rattle.opa_sentence.specs.Moves.{fail, done, next, call, stops, moves, goes}
@@ -8,8 +8,6 @@ use Rattle.opa_parse.specs.declared.line.Ending.TheVariants as ending
 use Rattle.opa_parse.specs.declared.line.Head.{Head}
 use Rattle.opa_parse.specs.declared.line.Line.{Line}
 use Rattle.opa_parse.specs.declared.group.Cases.{Cases}
-use Rattle.opa_parse.specs.declared.group.Frame.{Frame}
-use Rattle.opa_parse.specs.declared.group.Frame.TheVariants as frame
 use Rattle.opa_parse.specs.declared.group.Front.{Front}
 use Rattle.opa_parse.specs.declared.group.Front.TheVariants as front
 use Rattle.opa_parse.specs.declared.group.Group.{Group}
@@ -22,8 +20,8 @@ use Rattle.opa_parse.specs.declared.group.Sort.{Sort}
 use Rattle.opa_parse.specs.declared.group.Sort.TheVariants as sort
 use Rattle.opa_parse.specs.Groups.{is_deeper, is_above, written, Item, Grouped, More, Case, MoreCases, AllCases}
 use Rattle.opa_parse.specs.Groups as g
-use Rattle.opa_parse.specs.GroupTable.{Step, Reads, items, ended, same, extended, go_on, after_line, line_item, head_item, item, connector, after_group, case_line, first_case, last_line, next_case, production, resume}
-use Rattle.opa_parse.specs.Sayings.{of_line, headed, takes, one_item, with_item, single, several, no_cases, with_case, tabled}
+use Rattle.opa_parse.specs.GroupTable.{Step, Reads, items, ended, extended, go_on, after_line, line_item, head_item, item, connector, after_group, case_line, last_line, production, resume}
+use Rattle.opa_parse.specs.Sayings.{of_line, headed, takes, one_item, with_item, single, several, no_cases, tabled}
 
 level_is : (m n : ℕ) → (m == n) ≡ true → m ≡ n
 level_is m n p = grind (arith, p)

@@ -1,14 +1,12 @@
 -- What the grammar of groups spells is read by its table.
-use Rattle.std.proofs.Common.{◌≡◌, ℕ, ◌+◌, ◌<◌, List, [], ◌∷◌, Bool, true, false, ◌==◌, Option, Some, None, if◌then◌else◌, nat_lt, refl, sym, ap, subst, ◌∙◌, eq-eqb, arith}
+use Rattle.std.proofs.Common.{◌≡◌, ℕ, ◌+◌, List, [], ◌∷◌, Bool, true, false, ◌==◌, Option, Some, None, if◌then◌else◌, nat_lt, refl, sym, ap, subst, ◌∙◌, eq-eqb, arith}
 use Rattle.opa_sentence.specs.declared.names.Names.{Names}
 use Rattle.opa_sentence.specs.declared.reading.Reading.{Reading}
-use Rattle.opa_sentence.specs.Moves.{fail, done, next, call, stops, moves, goes}
-use Rattle.opa_parse.specs.declared.line.Ending.{Ending}
+use Rattle.opa_sentence.specs.Moves.{done, call, stops, moves, goes}
 use Rattle.opa_parse.specs.declared.line.Ending.TheVariants as ending
 use Rattle.opa_parse.specs.declared.line.Head.{Head}
 use Rattle.opa_parse.specs.declared.line.Line.{Line}
 use Rattle.opa_parse.specs.declared.group.Cases.{Cases}
-use Rattle.opa_parse.specs.declared.group.Frame.{Frame}
 use Rattle.opa_parse.specs.declared.group.Frame.TheVariants as frame
 use Rattle.opa_parse.specs.declared.group.Front.{Front}
 use Rattle.opa_parse.specs.declared.group.Front.TheVariants as front
@@ -22,7 +20,7 @@ use Rattle.opa_parse.specs.declared.group.Sort.{Sort}
 use Rattle.opa_parse.specs.declared.group.Sort.TheVariants as sort
 use Rattle.opa_parse.specs.Groups.{is_deeper, is_above, written, Item, Grouped, More, Case, MoreCases, AllCases}
 use Rattle.opa_parse.specs.Groups as g
-use Rattle.opa_parse.specs.GroupTable.{Step, Reads, items, ended, extended, go_on, after_line, line_item, head_item, item, connector, after_group, case_line, first_case, last_line, next_case, production, resume}
+use Rattle.opa_parse.specs.GroupTable.{Step, Reads, items, ended, extended, go_on, after_line, line_item, head_item, item, connector, after_group, case_line, first_case, last_line, next_case, production}
 use Rattle.opa_parse.specs.Sayings.{of_line, headed, takes, one_item, with_item, single, several, no_cases, with_case, tabled}
 
 -- ---- branches

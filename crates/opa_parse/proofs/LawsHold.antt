@@ -1,5 +1,5 @@
 -- The laws of what is read.
-use Rattle.std.proofs.Common.{◌≡◌, ℕ, List, [], ◌∷◌, length, true, false, Option, Some, refl, sym, ap, subst, ◌∙◌}
+use Rattle.std.proofs.Common.{◌≡◌, ℕ, List, [], ◌∷◌, length, true, false, Some, refl, sym, ap, subst, ◌∙◌}
 use Rattle.std.specs.Str.{chars}
 use Rattle.opa_model.specs.declared.lists.Lists.{Lists}
 use Rattle.opa_words.specs.declared.kinds.Token.{Token}

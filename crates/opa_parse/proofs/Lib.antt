@@ -13,4 +13,3 @@ pub mod LineForms
 pub mod GroupForms
 pub mod Handing
 pub mod LawsHold
-pub mod ShortLaws

@@ -1,7 +1,6 @@
 -- Membership blocks are taken one after another.
 use Rattle.std.proofs.Common.{◌≡◌, ℕ, ◌+◌, min, List, [], ◌∷◌, ◌++◌, Bool, true, false, not, ◌||◌, nat_lt, length, if◌then◌else◌, Option, Some, None, refl, sym, ap, ap₂, subst, ◌∙◌, append_assoc, arith, rules}
 use Rattle.std.specs.Prelude.{is_none}
-use Rattle.std.specs.List.{list_any}
 use Rattle.std.specs.Str.{bytes_eq}
 use Rattle.std.proofs.lemmas.List.{append-nil}
 use Rattle.std.proofs.lemmas.Slice.Eq.{bytes_eq-Decides}
@@ -20,7 +19,7 @@ use Rattle.opa_parse.specs.declared.block.MemberBlock.{MemberBlock}
 use Rattle.opa_parse.specs.declared.block.Membership.{Membership}
 use Rattle.opa_io.specs.declared.limits.TheConstants.{MOST_PHRASE}
 use Rattle.opa_parse.specs.declared.members.Gathered.{Gathered}
-use Rattle.opa_parse.specs.RuleFaults.{fault_at, when, marked, passes, size_faults}
+use Rattle.opa_parse.specs.RuleFaults.{fault_at, when, marked}
 use Rattle.opa_parse.specs.Rules.{IsPassed}
 use Rattle.opa_parse.specs.MemberFaults.{is_taken, membership_faults, spelled_faults, block_faults, is_taken_by, membership_nodes, phrase_by, faults_from}
 use Rattle.opa_parse.specs.Memberships as x

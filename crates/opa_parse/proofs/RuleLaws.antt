@@ -18,7 +18,7 @@ use Rattle.opa_parse.specs.declared.block.Statement.{Statement}
 use Rattle.opa_io.specs.declared.limits.TheConstants.{MOST_RULES}
 use Rattle.opa_parse.specs.declared.rules.Taken.{Taken}
 use Rattle.opa_parse.specs.Naming.{names_in, member_of}
-use Rattle.opa_parse.specs.RuleFaults.{fault_at, when, marked, passes, size_faults, statement_faults, spelled_faults, block_faults, statement_nodes, faults_from}
+use Rattle.opa_parse.specs.RuleFaults.{fault_at, when, marked, passes, statement_faults, spelled_faults, block_faults, statement_nodes, faults_from}
 use Rattle.opa_parse.specs.Rules as r
 use Rattle.opa_parse.specs.Rules.{IsRuleBlock, IsPassed, AreRuleBlocks, rule_in, rules_in, inferred_nodes, rule_faults, AreRules, AreRefused}
 use Rattle.opa_parse.specs.Runs.{nodes_in, IsTaken, Takes, Goes, IsRun, TakesAll}

@@ -1,5 +1,5 @@
 -- Each move leaves fewer lines, or no more where something was read.
-use Rattle.std.proofs.Common.{◌≡◌, ℕ, ◌+◌, ◌<◌, ◌≤◌, List, [], ◌∷◌, length, Bool, true, false, ◌==◌, Option, Some, None, if◌then◌else◌, nat_lt, subst, arith}
+use Rattle.std.proofs.Common.{◌≡◌, ℕ, ◌<◌, ◌≤◌, List, [], ◌∷◌, length, Bool, true, false, ◌==◌, Option, Some, None, if◌then◌else◌, nat_lt, subst, arith}
 use Rattle.opa_sentence.specs.declared.reading.Reading.{Reading}
 use Rattle.opa_sentence.specs.Moves.{fail, done, next, call}
 use Rattle.opa_parse.specs.declared.line.Ending.{Ending}
@@ -15,7 +15,7 @@ use Rattle.opa_parse.specs.declared.group.Said.{Said}
 use Rattle.opa_parse.specs.declared.group.Sort.{Sort}
 use Rattle.opa_parse.specs.declared.group.Sort.TheVariants as sort
 use Rattle.opa_parse.specs.Groups.{is_deeper}
-use Rattle.opa_parse.specs.GroupTable.{Step, extended, go_on, after_line, line_item, head_item, item, connector, after_group, case_line, first_case, last_line, next_case, production}
+use Rattle.opa_parse.specs.GroupTable.{Step, go_on, after_line, line_item, head_item, item, connector, after_group, case_line, first_case, last_line, next_case, production}
 use Rattle.opa_parse.specs.Sayings.{of_line, no_cases}
 
 -- a move over so many lines leaves fewer, or no more where it is done

@@ -1,5 +1,5 @@
 -- The grammar of groups as a table: what is read next, by the line that stands there.
-use Rattle.std.specs.Prelude.{◌≡◌, ℕ, ◌+◌, Bool, true, false, ◌==◌, nat_lt, List, [], ◌∷◌, Option, Some, None, if◌then◌else◌}
+use Rattle.std.specs.Prelude.{ℕ, ◌+◌, Bool, true, false, ◌==◌, nat_lt, List, [], ◌∷◌, Option, Some, None, if◌then◌else◌}
 use Rattle.opa_sentence.specs.declared.names.Names.{Names}
 use Rattle.opa_sentence.specs.declared.reading.Reading.{Reading}
 use Rattle.opa_sentence.specs.Moves.{Move, fail, done, next, call}
@@ -18,7 +18,6 @@ use Rattle.opa_parse.specs.declared.group.Items.{Items}
 use Rattle.opa_parse.specs.declared.group.Joint.{Joint}
 use Rattle.opa_parse.specs.declared.group.Joint.TheVariants as joint
 use Rattle.opa_parse.specs.declared.group.Said.{Said}
-use Rattle.opa_parse.specs.declared.group.Several.{Several}
 use Rattle.opa_parse.specs.declared.group.Sort.{Sort}
 use Rattle.opa_parse.specs.declared.group.Sort.TheVariants as sort
 use Rattle.opa_parse.specs.Groups.{is_deeper}

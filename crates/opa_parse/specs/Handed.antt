@@ -1,5 +1,5 @@
 -- What is handed on of the rules and of the inferred relations that are read.
-use Rattle.std.specs.Prelude.{ℕ, ◌≤◌, ◌<◌, Bool, List, length, IsTrue, All}
+use Rattle.std.specs.Prelude.{ℕ, ◌<◌, Bool, List, IsTrue, All}
 use Rattle.opa_model.specs.declared.lists.Lists.{Lists}
 use Rattle.opa_model.specs.Models.{HasAttribute}
 use Rattle.opa_layout.specs.declared.block.Block.{Block}

@@ -1,5 +1,5 @@
 -- What lines and groups say: trees, their measures, and the faults that lines have by themselves.
-use Rattle.std.specs.Prelude.{ℕ, ◌+◌, Bool, true, false, not, ◌&&◌, ◌||◌, nat_lt, List, [], ◌∷◌, ◌++◌, Option, Some, None, slice_get, is_some, if◌then◌else◌}
+use Rattle.std.specs.Prelude.{ℕ, Bool, true, false, not, ◌||◌, nat_lt, List, [], ◌∷◌, ◌++◌, Option, Some, None, slice_get, is_some, if◌then◌else◌}
 use Rattle.opa_tree.specs.declared.kinds.Quant.TheVariants as quant
 use Rattle.opa_tree.specs.declared.expr.Expr.{Expr}
 use Rattle.opa_tree.specs.declared.expr.Expr.TheVariants as expr
@@ -18,8 +18,6 @@ use Rattle.opa_sentence.specs.Readings as says
 use Rattle.opa_parse.specs.declared.line.Head.{Head}
 use Rattle.opa_parse.specs.declared.line.Head.TheVariants as head
 use Rattle.opa_parse.specs.declared.group.Cases.{Cases}
-use Rattle.opa_parse.specs.declared.group.Front.{Front}
-use Rattle.opa_parse.specs.declared.group.Front.TheVariants as front
 use Rattle.opa_parse.specs.declared.group.Group.{Group}
 use Rattle.opa_parse.specs.declared.group.Joint.{Joint}
 use Rattle.opa_parse.specs.declared.group.Joint.TheVariants as joint

@@ -1,5 +1,4 @@
 pub mod SizeLaws
-pub mod QuotedLaws
 pub mod LongestLaws
 pub mod LineLaws
 pub mod Machine

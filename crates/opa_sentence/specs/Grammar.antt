@@ -17,7 +17,7 @@ use Rattle.opa_sentence.specs.Lexemes.{Lexeme}
 use Rattle.opa_sentence.specs.Literals.{number_in, negative_in, day_in}
 use Rattle.opa_sentence.specs.Measures.{Bounds}
 use Rattle.opa_sentence.specs.Phrases.{longest, past_words}
-use Rattle.opa_sentence.specs.Quoted.{unquoted}
+use Rattle.opa_words.specs.Quoted.{unquoted}
 use Rattle.opa_sentence.specs.Readings as says
 use Rattle.opa_sentence.specs.Table.{relation_at}
 

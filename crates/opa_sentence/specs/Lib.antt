@@ -5,7 +5,6 @@ pub mod Rows
 pub mod Readings
 pub mod Phrases
 pub mod Cursors
-pub mod Quoted
 pub mod Moves
 pub mod Literals
 pub mod Table

@@ -23,7 +23,7 @@ use Rattle.opa_sentence.specs.Literals.{number_in, number_literal, negative_lite
 use Rattle.opa_sentence.specs.Measures.{Bounds}
 use Rattle.opa_sentence.specs.Moves.{Move, fail, done, next, call}
 use Rattle.opa_sentence.specs.Phrases.{longest, past_words, is_word}
-use Rattle.opa_sentence.specs.Quoted.{unquoted}
+use Rattle.opa_words.specs.Quoted.{unquoted}
 use Rattle.opa_sentence.specs.Readings.{literal, unnamed, operand, denial, nested, operation, one_part, with_part, all, any, between, call_of, no_arguments}
 
 abbrev pub Step : Type 0

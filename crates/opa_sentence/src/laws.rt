@@ -1,7 +1,6 @@
 // What holds of the grammar of a line.
 ghost use Rattle.opa_sentence.specs.Laws.{OneReading, IsRead, IsGrammatical, OneMeaning};
 ghost use Rattle.opa_sentence.specs.Measured.{IsMeasured};
-ghost use Rattle.opa_sentence.specs.Quoted.{ReadsQuoted};
 
 /// The grammar in its own words and its table are one: what it spells is read, and what is read it spells. Tokens are
 /// read as one thing at most, so they spell one thing at most.
@@ -11,12 +10,6 @@ pub fn one_meaning()
     ensures read { IsRead }
     ensures grammatical { IsGrammatical }
     ensures meaning { OneMeaning }
-{}
-
-/// A text between quotes is read as that text.
-#[tactic(auto, using(crate::proofs::QuotedLaws::reads_quoted_holds))]
-pub fn quoted_texts_are_read()
-    ensures { ReadsQuoted }
 {}
 
 /// Without bounds, what is spelled has a tree exactly where all in it is named, and its measure is that of the tree.

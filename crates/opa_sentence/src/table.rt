@@ -14,13 +14,13 @@ ghost use Rattle.opa_sentence.specs.declared.sorts.Frame.TheVariants as frame;
 use crate::calls::call;
 use crate::functions::argument_at;
 use crate::literals::{date_literal, negative_literal, number_in, number_literal};
-use crate::quotes::unquoted;
 use crate::{
     Argument, Arguments, Class, Cursor, Frame, Function, Names, Parts, Reading, Relation, Sort,
 };
 use opa_io::NoMemory;
 use opa_tree::OpKind;
 use opa_value::Value;
+use opa_words::unquoted;
 use std::alloc::Global;
 
 /// What stands at the front of tokens.

@@ -16,8 +16,8 @@ use Rattle.opa_words.specs.Kinds.{quoted}
 use Rattle.opa_words.specs.Pieces.{Piece, piece, pieces, word, number, date, symbol, text}
 use Rattle.opa_words.specs.Places.{token_text}
 use Rattle.opa_sentence.specs.Lexemes.{lexemes, class_of}
-use Rattle.opa_sentence.specs.Quoted.{unquoted}
-use Rattle.opa_sentence.proofs.QuotedLaws.{reads_quoted_holds}
+use Rattle.opa_words.specs.Quoted.{unquoted}
+use Rattle.opa_words.proofs.QuotedLaws.{reads_quoted_holds}
 use Rattle.opa_text.specs.Laws.{CanBeQuoted}
 use Rattle.opa_text.specs.Spelled.{SpellsNumber, SpellsValue, SpellsChanges, SpellsPairs, SpellsLine, SpellsMore, SpellsNames}
 use Rattle.opa_case.specs.declared.change.ChangeCommand.{ChangeCommand}

@@ -21,9 +21,9 @@ use Rattle.opa_sentence.specs.Measures.{unbounded}
 use Rattle.opa_sentence.specs.Readings as says
 use Rattle.opa_sentence.specs.Grammar.{FACTOR, Spells}
 use Rattle.opa_sentence.specs.Grammar as g
-use Rattle.opa_sentence.specs.Quoted.{unquoted}
+use Rattle.opa_words.specs.Quoted.{unquoted}
 use Rattle.opa_words.specs.Kinds.{quoted}
-use Rattle.opa_sentence.proofs.QuotedLaws.{reads_quoted_holds}
+use Rattle.opa_words.proofs.QuotedLaws.{reads_quoted_holds}
 use Rattle.opa_text.specs.Laws.{CanBeWritten}
 use Rattle.opa_wording.specs.Wordings.{literal, alike, date_text}
 use Rattle.opa_wording.specs.Told.{all_told}

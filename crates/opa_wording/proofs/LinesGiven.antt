@@ -35,7 +35,7 @@ use Rattle.opa_sentence.specs.Functions.{argument_at}
 use Rattle.opa_sentence.specs.Lexemes.{Lexeme}
 use Rattle.opa_sentence.specs.Measures.{Bounds}
 use Rattle.opa_sentence.specs.Phrases.{longest, past_words, is_word, is_wordlike}
-use Rattle.opa_sentence.specs.Quoted.{unquoted}
+use Rattle.opa_words.specs.Quoted.{unquoted}
 use Rattle.opa_sentence.specs.Readings as says
 use Rattle.opa_sentence.specs.Readings.{with_tree, but_last, kept, days, days_of_count}
 use Rattle.opa_sentence.specs.Table.{relation_at, relation_found, past_found, related_or_none}

@@ -35,8 +35,8 @@ use Rattle.opa_sentence.specs.declared.functions.Function.{Function}
 use Rattle.opa_sentence.specs.Functions.{function_named}
 use Rattle.opa_sentence.specs.Lexemes.{Lexeme, lexemes, class_of, word_class, symbol_class, function_class}
 use Rattle.opa_sentence.specs.Literals.{number_in, number_or_none, negative_in, day_in, day_or_none}
-use Rattle.opa_sentence.specs.Quoted.{unquoted}
-use Rattle.opa_sentence.proofs.QuotedLaws.{reads_quoted_holds}
+use Rattle.opa_words.specs.Quoted.{unquoted}
+use Rattle.opa_words.proofs.QuotedLaws.{reads_quoted_holds}
 use Rattle.opa_wording.specs.Grammatical.{is_round}
 use Rattle.opa_wording.specs.Told.{is_sign}
 use Rattle.opa_wording.proofs.PhrasePieces.{of_number}

@@ -9,6 +9,7 @@ pub mod ResultLaws
 pub mod PhraseLaws
 pub mod JoinedLaws
 pub mod FoundLaws
+pub mod QuotedLaws
 pub mod QuoteLaws
 pub mod FrontLaws
 pub mod Separate

@@ -1,13 +1,13 @@
 -- Quotes written twice.
-use Rattle.std.proofs.Common.{◌≡◌, ◌≢◌, ◌<◌, ℕ, suc, List, [], ◌∷◌, ◌++◌, length, get_or, Bool, true, false, cond, refl, sym, ap, subst, ◌∙◌, arith, append_assoc, append-nil, length-append, take}
+use Rattle.std.proofs.Common.{◌≡◌, ◌≢◌, ◌<◌, ℕ, suc, List, [], ◌∷◌, ◌++◌, length, get_or, Bool, true, false, cond, refl, sym, ap, ◌∙◌, arith, append_assoc, append-nil, length-append, take}
 use Rattle.std.proofs.Math.Seq.{take-append_seam}
 use Rattle.std.specs.Prelude.{◌||◌, ◌==◌}
 use Rattle.std.specs.List.{list_any}
 use Rattle.std.specs.Str.{chars, IsUtf8}
 use lib.Utf8.{encode, encodes}
 use Rattle.std.proofs.lemmas.Str.{encodes-chars, encodes-append, inside_one}
-use Rattle.opa_words.specs.Kinds.{doubled, quoted, IsText}
-use Rattle.opa_words.specs.Quotes.{HasNoQuote, SplitsAtQuote, BeginsWithQuote, IsDoubled, IsQuoted, QuotedTellsApart}
+use Rattle.opa_words.specs.Kinds.{doubled, IsText}
+use Rattle.opa_words.specs.Quotes.{HasNoQuote, SplitsAtQuote, IsQuoted, QuotedTellsApart}
 
 not_quote : (b : ℕ) → b ≢ 34 → (b == 34) ≡ false
 not_quote b h = grind (arith, h)
@@ -58,48 +58,8 @@ quote_ends out rest all mid out2 h s m n = n ∙ ap (λ x. x ++ 34 ∷ []) m ∙
 
 -- ---- reading
 
-pub record Second (later : List ℕ) : Type 0 where
-  pub more : List ℕ
-  pub is : later ≡ 34 ∷ more
-  pub doubled : IsDoubled more
-
-second_of : (inner front later : List ℕ) → HasNoQuote front → doubled inner ≡ front ++ 34 ∷ later → Second later
-second_of [] [] later n e = absurd (cc e)
-second_of [] (f ∷ front) later n e = absurd (cc e)
-second_of (c ∷ inner) [] later n e = go (c == 34) refl e
-  where
-    go : (t : Bool) → (c == 34) ≡ t → cond t (34 ∷ 34 ∷ doubled inner) (c ∷ doubled inner) ≡ 34 ∷ later → Second later
-    go true h k = record { more = doubled inner; is = sym (let f : 34 ∷ doubled inner ≡ later = cc k in f); doubled = (inner, refl) }
-    go false h k = absurd (let f : c ≡ 34 = cc k in let g : (c == 34) ≡ true = grind (arith, f) in let x : true ≡ false = sym g ∙ h in cc x)
-second_of (c ∷ inner) (f ∷ front) later n e = go (c == 34) refl e (second_of inner front later (or_right (f == 34) (list_any (λ x. x == 34) front) n))
-  where
-    go : (t : Bool) → (c == 34) ≡ t → cond t (34 ∷ 34 ∷ doubled inner) (c ∷ doubled inner) ≡ f ∷ (front ++ 34 ∷ later) → (doubled inner ≡ front ++ 34 ∷ later → Second later) → Second later
-    go true h k r = absurd (let g : 34 ≡ f = cc k in let q : (f == 34) ≡ true = grind (arith, g) in let x : true ≡ false = sym q ∙ or_left (f == 34) (list_any (λ x. x == 34) front) n in cc x)
-    go false h k r = r (let g : doubled inner ≡ front ++ 34 ∷ later = cc k in g)
-
-second : (rest front later : List ℕ) → IsDoubled rest → SplitsAtQuote rest front later → Second later
-second rest front later d s = second_of d.0 front later s.1 (sym d.1 ∙ s.0)
-
-pub begins : (rest front later : List ℕ) → IsDoubled rest → SplitsAtQuote rest front later → BeginsWithQuote later
-begins rest front later d s = let x = second rest front later d s in subst BeginsWithQuote (sym x.is) refl
-
-pub still_doubled : (rest front later more : List ℕ) → IsDoubled rest → SplitsAtQuote rest front later → later ≡ 34 ∷ more → IsDoubled more
-still_doubled rest front later more d s e =
-    let x = second rest front later d s in
-    subst IsDoubled (let f : 34 ∷ x.more ≡ 34 ∷ more = sym x.is ∙ e in let g : x.more ≡ more = cc f in g) x.doubled
-
-pub read_goes : (out rest front later more all mid out2 : List ℕ) → doubled out ++ rest ≡ all → SplitsAtQuote rest front later → later ≡ 34 ∷ more → mid ≡ out ++ front → out2 ≡ mid ++ 34 ∷ [] → doubled out2 ++ more ≡ all
-read_goes out rest front later more all mid out2 h s e m n =
-    ap (λ x. doubled x ++ more) (n ∙ ap (λ x. x ++ 34 ∷ []) m)
-    ∙ ap (λ x. x ++ more) (doubled-append (out ++ front) (34 ∷ []) ∙ ap (λ x. x ++ 34 ∷ 34 ∷ []) (doubled-append out front ∙ ap (λ x. doubled out ++ x) (doubled_plain front s.1)))
-    ∙ append_assoc (doubled out ++ front) (34 ∷ 34 ∷ []) more ∙ append_assoc (doubled out) front (34 ∷ 34 ∷ more)
-    ∙ ap (λ x. doubled out ++ (front ++ 34 ∷ x)) (sym e) ∙ ap (λ x. doubled out ++ x) (sym s.0) ∙ h
-
 pub read_ends : (out rest all out2 : List ℕ) → doubled out ++ rest ≡ all → HasNoQuote rest → out2 ≡ out ++ rest → doubled out2 ≡ all
 read_ends out rest all out2 h s n = ap doubled n ∙ doubled-append out rest ∙ ap (λ x. doubled out ++ x) (doubled_plain rest s) ∙ h
-
-pub read_whole : (t inner token : List ℕ) → doubled t ≡ inner → token ≡ 34 ∷ (inner ++ 34 ∷ []) → quoted t ≡ token
-read_whole t inner token e k = ap (λ x. 34 ∷ (x ++ 34 ∷ [])) e ∙ sym k
 
 -- ---- a Text token's bytes
 
@@ -122,26 +82,10 @@ unfolding encode
 text_is bs u t =
     (encodes t.0, sym (encodes-chars bs u) ∙ ap encodes t.2 ∙ ap (λ x. 34 ∷ x) (encodes-append (doubled t.0) (34 ∷ []) ∙ ap (λ x. x ++ 34 ∷ []) (encodes_doubled t.0)))
 
-pub begins_not : (bs : List ℕ) → BeginsWithQuote bs → ((rest : List ℕ) → bs ≢ 34 ∷ rest) → ⊥
-begins_not [] h k = h
-begins_not (b ∷ bs) h k = k bs (ap (λ x. x ∷ bs) h)
-
 same_last : (xs ys : List ℕ) → xs ++ 34 ∷ [] ≡ ys ++ 34 ∷ [] → xs ≡ ys
 same_last xs ys e =
     let wide : length xs ≡ length ys = omega (arith, ap length e, length-append xs (34 ∷ []), length-append ys (34 ∷ [])) in
     sym (take-append_seam xs (34 ∷ [])) ∙ ap (take (length xs)) e ∙ ap (λ n. take n (ys ++ 34 ∷ [])) wide ∙ take-append_seam ys (34 ∷ [])
-
-inner_is : (bs more : List ℕ) → IsQuoted bs → bs ≡ 34 ∷ more → (inner : List ℕ) × (more ≡ doubled inner ++ 34 ∷ [])
-inner_is bs more q e = (q.0, let f : 34 ∷ more ≡ 34 ∷ (doubled q.0 ++ 34 ∷ []) = sym e ∙ q.1 in let g : more ≡ doubled q.0 ++ 34 ∷ [] = cc f in g)
-
-pub quoted_begins : (bs : List ℕ) → IsQuoted bs → BeginsWithQuote bs
-quoted_begins bs q = subst BeginsWithQuote (sym q.1) refl
-
-pub quoted_ends : (bs more : List ℕ) → IsQuoted bs → bs ≡ 34 ∷ more → ((front : List ℕ) → more ≢ front ++ 34 ∷ []) → ⊥
-quoted_ends bs more q e n = let x = inner_is bs more q e in n (doubled x.0) x.1
-
-pub quoted_inner : (bs more inner : List ℕ) → IsQuoted bs → bs ≡ 34 ∷ more → more ≡ inner ++ 34 ∷ [] → IsDoubled inner
-quoted_inner bs more inner q e f = let x = inner_is bs more q e in (x.0, same_last inner (doubled x.0) (sym f ∙ x.1))
 
 pub quoted_tells_apart : QuotedTellsApart
 quoted_tells_apart bs cs e = undo bs cs (same_last (doubled bs) (doubled cs) (let f : doubled bs ++ 34 ∷ [] ≡ doubled cs ++ 34 ∷ [] = cc e in f))

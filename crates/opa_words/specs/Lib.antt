@@ -7,6 +7,7 @@ pub mod Places
 pub mod Reserved
 pub mod Phrases
 pub mod Quotes
+pub mod Quoted
 pub mod Pieces
 pub mod Written
 pub mod PieceLaws

@@ -1,7 +1,7 @@
 -- Texts between quotes, in bytes as in characters.
 use Rattle.std.specs.Prelude.{◌≡◌, ℕ, List, [], ◌∷◌, ◌++◌, false, ◌==◌}
 use Rattle.std.specs.List.{list_any}
-use Rattle.opa_words.specs.Kinds.{doubled, quoted}
+use Rattle.opa_words.specs.Kinds.{quoted}
 
 abbrev pub HasNoQuote : List ℕ → Type 0
 HasNoQuote bs = list_any (λ b. b == 34) bs ≡ false
@@ -13,10 +13,6 @@ SplitsAtQuote bs front later = (bs ≡ front ++ 34 ∷ later) × HasNoQuote fron
 abbrev pub BeginsWithQuote : List ℕ → Type 0
 BeginsWithQuote [] = ⊥
 BeginsWithQuote (b ∷ bs) = b ≡ 34
-
--- each quote is written twice
-abbrev pub IsDoubled : List ℕ → Type 0
-IsDoubled bs = (inner : List ℕ) × (bs ≡ doubled inner)
 
 -- the bytes are a text between quotes
 abbrev pub IsQuoted : List ℕ → Type 0

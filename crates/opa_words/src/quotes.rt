@@ -1,8 +1,9 @@
 // The text that a Text token stands for, and back.
-ghost use Rattle.std.specs.Prelude.{◌≡◌, ◌++◌, ◌∷◌, [], IfOk, MatchOption};
+ghost use Rattle.std.specs.Prelude.{◌≡◌, ◌∷◌, [], true, false, IfOk, MatchOption};
 ghost use Rattle.std.specs.Str.{chars};
-ghost use Rattle.opa_words.specs.Kinds.{quoted, doubled, IsText};
-ghost use Rattle.opa_words.specs.Quotes.{SplitsAtQuote, HasNoQuote, BeginsWithQuote, IsDoubled, IsQuoted};
+ghost use Rattle.opa_words.specs.Kinds.{quoted, IsText};
+ghost use Rattle.opa_words.specs.Quoted.{inside, after_quote, unquoted};
+ghost use Rattle.opa_words.specs.Quotes.{SplitsAtQuote, HasNoQuote, IsQuoted};
 
 use opa_io::{NoMemory, Txt};
 use std::alloc::Global;
@@ -33,12 +34,39 @@ pub fn text_of_token(alloc: Global, token: &str) -> Result<Txt, NoMemory>
 }
 
 /// The text that stands between quotes.
-#[tactic(auto, using(crate::proofs::QuoteLaws::read_whole))]
+#[tactic(auto, using(crate::proofs::QuotedLaws::quoted_again))]
 pub(crate) fn text_of_quoted(alloc: Global, token: &str) -> Result<Txt, NoMemory>
     requires { IsQuoted token.now }
     ensures { IfOk result (λ t. quoted t ≡ token.now) }
 {
-    undoubled(alloc, between_quotes(token))
+    unquoted(alloc, token)
+}
+
+/// What stands between the quotes, each doubled quote as one.
+pub fn unquoted(alloc: Global, text: &str) -> Result<Txt, NoMemory>
+    ensures { IfOk result (λ t. t ≡ unquoted text.now) }
+{
+    undoubled(alloc, after_quote(text))
+}
+
+fn after_quote(text: &str) -> &str
+    ensures { result.now ≡ after_quote text.now }
+{
+    match past_quote(text) {
+        None => text,
+        Some(rest) => rest,
+    }
+}
+
+/// What follows a quote.
+fn past_quote(text: &str) -> Option<&str>
+    ensures none { MatchOption result (inside true text.now ≡ []) (λ x. text.now ≡ 34 ∷ x.now) }
+    ensures same { MatchOption result (after_quote text.now ≡ text.now) (λ x. text.now ≡ 34 ∷ x.now) }
+{
+    match text.strip_prefix('"') {
+        None => None,
+        Some(rest) => Some(rest),
+    }
 }
 
 /// What stands before the first quote, and what after it.
@@ -51,40 +79,21 @@ pub(crate) fn at_quote(text: &str) -> Option<(&str, &str)>
     }
 }
 
-/// What follows a quote.
-fn past_quote(text: &str) -> &str
-    requires { BeginsWithQuote text.now }
-    ensures { text.now ≡ 34 ∷ result.now }
-{
-    match text.strip_prefix('"') {
-        None => text,
-        Some(rest) => rest,
-    }
-}
-
-/// What stands between the quotes of a text between quotes.
-fn between_quotes(token: &str) -> &str
-    requires { IsQuoted token.now }
-    ensures token { token.now ≡ 34 ∷ (result.now ++ 34 ∷ []) }
-    ensures doubled { IsDoubled result.now }
-{
-    match past_quote(token).strip_suffix('"') {
-        None => token,
-        Some(inner) => inner,
-    }
-}
-
-/// Each pair of quotes as one.
+/// Each pair of quotes as one, up to the quote that ends the text.
 fn undoubled(alloc: Global, text: &str) -> Result<Txt, NoMemory>
-    requires { IsDoubled text.now }
-    ensures { IfOk result (λ t. doubled t ≡ text.now) }
+    ensures { IfOk result (λ t. t ≡ inside false text.now) }
 {
     let mut out = String::new(alloc);
     let mut rest = text;
     while let Some((front, later)) = at_quote(rest) {
         out.push_str(front)?;
-        out.push_str("\"")?;
-        rest = past_quote(later);
+        match past_quote(later) {
+            None => return Txt::from_str(alloc, out.as_str()),
+            Some(more) => {
+                out.push_str("\"")?;
+                rest = more;
+            }
+        }
     }
     out.push_str(rest)?;
     Txt::from_str(alloc, out.as_str())

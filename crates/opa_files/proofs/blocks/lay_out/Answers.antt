@@ -1,8 +1,9 @@
 use Rattle.std.proofs.Common.{◌<◌, ◌^◌, All, length, arith, ap, subst}
 use Rattle.std.proofs.lemmas.List.Elements.{All-tail}
+use Rattle.opa_layout.proofs.ShortLaws.{short_blocks}
 use Rattle.opa_files.specs.declared.source.SourceFile.{SourceFile}
 use Rattle.opa_files.specs.Layouts.{faults_from}
-use Rattle.opa_files.proofs.LayoutLaws.{laid_more, laid_end, faults_more, placed_more, short_more, short_blocks}
+use Rattle.opa_files.proofs.LayoutLaws.{laid_more, laid_end, faults_more, placed_more, short_more}
 use Rattle.opa_files.proofs.blocks.lay_out.Goals as goal
 
 pub loop-file-preserved : goal.loop-file-preserved

@@ -1,8 +1,8 @@
-use Rattle.std.proofs.Common.{◌≡◌, ◌∷◌, Some, None, subst, sym, ap, ◌∙◌}
+use Rattle.std.proofs.Common.{◌∷◌, Some, None, subst, sym, ap, ◌∙◌}
 use Rattle.opa_parse.specs.declared.block.Membership.{Membership}
 use Rattle.opa_parse.specs.Blocks.{SpellsMembers}
 use Rattle.opa_parse.specs.Openings.{heading}
-use Rattle.opa_parse.specs.Statements.{IsSaid, below_first}
+use Rattle.opa_parse.specs.Statements.{IsSaid}
 use Rattle.opa_parse.proofs.BlockLaws.{unheaded, unsaid, membership_said}
 use Rattle.opa_parse.proofs.blocks.membership_by.Goals as goal
 

@@ -1,6 +1,4 @@
-use Rattle.std.proofs.Common.{◌≡◌, List, Option, Some, None, true, false, subst, sym, ◌∙◌}
-use Rattle.opa_parse.specs.declared.group.Group.{Group}
-use Rattle.opa_parse.specs.declared.line.Line.{Line}
+use Rattle.std.proofs.Common.{◌≡◌, true, false, subst, sym, ◌∙◌}
 use Rattle.opa_parse.specs.GroupTable.{IsReadAs}
 use Rattle.opa_parse.specs.Statements.{is_over}
 use Rattle.opa_parse.proofs.BlockLaws.{none_said, some_said, more_said}

@@ -1,4 +1,4 @@
-use Rattle.std.proofs.Common.{◌≡◌, ◌∷◌, sym, subst, ◌∙◌}
+use Rattle.std.proofs.Common.{◌∷◌, sym, subst, ◌∙◌}
 use Rattle.opa_parse.specs.Blocks.{IsStatement}
 use Rattle.opa_parse.specs.Statements.{IsSaid}
 use Rattle.opa_sentence.specs.Cursors.{seen}

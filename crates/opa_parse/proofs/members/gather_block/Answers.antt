@@ -1,4 +1,4 @@
-use Rattle.std.proofs.Common.{◌≡◌, subst}
+use Rattle.std.proofs.Common.{subst}
 use Rattle.opa_parse.specs.declared.block.BlockSort.TheVariants as block_sort
 use Rattle.opa_parse.specs.Openings.{IsSort}
 use Rattle.opa_parse.proofs.MemberLaws.{goes_members, goes_past}

@@ -1,4 +1,4 @@
-use Rattle.std.proofs.Common.{◌≡◌, ap, ap₂, sym, ◌∙◌, nat_lt, length}
+use Rattle.std.proofs.Common.{ap, ap₂, ◌∙◌, nat_lt, length}
 use Rattle.std.specs.Prelude.{is_none}
 use Rattle.opa_tree.specs.declared.faults.RbKind.TheVariants as kind
 use Rattle.opa_tree.specs.FirstFaults.{first_of, first_fault}

@@ -1,4 +1,4 @@
-use Rattle.std.proofs.Common.{◌≡◌, ap, sym, ◌∙◌, Some, None, refl}
+use Rattle.std.proofs.Common.{◌≡◌, ap, ◌∙◌, Some, refl}
 use Rattle.opa_tree.specs.declared.faults.RbFault.{RbFault}
 use Rattle.opa_parse.specs.Naming.{names_in}
 use Rattle.opa_parse.specs.Memberships.{declared_texts}

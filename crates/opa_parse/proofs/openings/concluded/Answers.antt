@@ -1,8 +1,6 @@
-use Rattle.std.proofs.Common.{◌≡◌, map, ap, sym, ◌∙◌}
+use Rattle.std.proofs.Common.{ap, sym, ◌∙◌}
 use Rattle.opa_model.specs.Lookups.{attribute_named}
 use Rattle.opa_words.specs.Reserved.{joined}
-use Rattle.opa_sentence.specs.Cursors.{seen}
-use Rattle.opa_sentence.specs.Lexemes.{Lexeme}
 use Rattle.opa_parse.proofs.WordLaws.{texts_are}
 use Rattle.opa_parse.proofs.openings.concluded.Goals as goal
 

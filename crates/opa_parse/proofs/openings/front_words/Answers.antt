@@ -1,4 +1,4 @@
-use Rattle.std.proofs.Common.{◌≡◌, ◌+◌, ◌-◌, ◌≤◌, length, ap, sym, ◌∙◌, arith}
+use Rattle.std.proofs.Common.{◌∙◌, arith}
 use Rattle.opa_parse.proofs.WordLaws.{front_first, past_fewer}
 use Rattle.opa_parse.proofs.openings.front_words.Goals as goal
 

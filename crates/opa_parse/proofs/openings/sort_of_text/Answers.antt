@@ -1,5 +1,4 @@
-use Rattle.std.proofs.Common.{◌≡◌, ◌∷◌, List, Some, None, refl, ap, sym, ◌∙◌}
-use Rattle.opa_parse.specs.Openings.{sort_of}
+use Rattle.std.proofs.Common.{Some, None, refl, sym, ◌∙◌}
 use Rattle.opa_parse.proofs.FrontLaws.{uncut_first, empty_first, some_first}
 use Rattle.opa_parse.proofs.openings.sort_of_text.Goals as goal
 

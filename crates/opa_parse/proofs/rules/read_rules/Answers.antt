@@ -1,6 +1,5 @@
-use Rattle.std.proofs.Common.{◌≡◌, ℕ, List, map, ap, sym, ◌∙◌, ◌+◌, min, refl, Some, None}
+use Rattle.std.proofs.Common.{◌≡◌, ℕ, List, map, ap, ◌∙◌, ◌+◌, min, Some}
 use Rattle.opa_tree.specs.declared.faults.RbFault.{RbFault}
-use Rattle.opa_tree.specs.declared.faults.RbError.TheVariants as errors
 use Rattle.opa_io.specs.declared.limits.TheConstants.{MOST_NODES}
 use Rattle.opa_sentence.specs.declared.names.Member.{Member}
 use Rattle.opa_sentence.specs.declared.names.Names.{Names}

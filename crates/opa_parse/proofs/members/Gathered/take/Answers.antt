@@ -1,4 +1,4 @@
-use Rattle.std.proofs.Common.{◌≡◌, ap, sym, ◌∙◌, ◌+◌, min}
+use Rattle.std.proofs.Common.{ap, ◌∙◌, ◌+◌, min}
 use Rattle.opa_tree.specs.FirstFaults.{first_of, first_fault}
 use Rattle.opa_io.specs.declared.limits.TheConstants.{MOST_NODES}
 use Rattle.opa_parse.specs.MemberFaults.{block_faults}

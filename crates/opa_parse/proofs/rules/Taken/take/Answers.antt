@@ -1,4 +1,4 @@
-use Rattle.std.proofs.Common.{◌≡◌, ap, sym, ◌∙◌, ◌+◌, min}
+use Rattle.std.proofs.Common.{ap, ◌∙◌, ◌+◌, min}
 use Rattle.opa_tree.specs.FirstFaults.{first_of}
 use Rattle.opa_io.specs.declared.limits.TheConstants.{MOST_NODES}
 use Rattle.opa_parse.proofs.RuleLaws.{takes, none_test}

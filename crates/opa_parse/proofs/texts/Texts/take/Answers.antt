@@ -1,4 +1,4 @@
-use Rattle.std.proofs.Common.{◌≡◌, ◌∷◌, [], ◌++◌, ap, sym, ◌∙◌}
+use Rattle.std.proofs.Common.{◌∷◌, [], ◌++◌, ap, sym, ◌∙◌}
 use Rattle.opa_parse.specs.MemberFaults.{is_taken, phrase_by}
 use Rattle.opa_parse.proofs.MemberLaws.{declared_same}
 use Rattle.opa_parse.proofs.texts.Texts.take.Goals as goal

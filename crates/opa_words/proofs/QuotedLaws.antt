@@ -2,9 +2,9 @@
 use Rattle.std.proofs.Common.{◌≡◌, ◌≢◌, ℕ, List, [], ◌∷◌, ◌++◌, Bool, true, false, cond, refl, sym, ap, ◌∙◌, arith, append_assoc, append-nil}
 use Rattle.std.specs.Prelude.{◌==◌, ◌||◌}
 use Rattle.std.specs.List.{list_any}
-use Rattle.opa_words.specs.Kinds.{doubled}
-use Rattle.opa_words.specs.Quotes.{SplitsAtQuote, HasNoQuote}
-use Rattle.opa_sentence.specs.Quoted.{inside, after_quote, ReadsQuoted}
+use Rattle.opa_words.specs.Kinds.{doubled, quoted}
+use Rattle.opa_words.specs.Quotes.{SplitsAtQuote, HasNoQuote, IsQuoted}
+use Rattle.opa_words.specs.Quoted.{inside, after_quote, unquoted, ReadsQuoted}
 
 or_left : (a b : Bool) → (a || b) ≡ false → a ≡ false
 or_left true b h = absurd (cc h)
@@ -59,3 +59,11 @@ inside_doubled (c ∷ cs) = go (c == 34) refl (inside_doubled cs)
 
 pub reads_quoted_holds : ReadsQuoted
 reads_quoted_holds text = inside_doubled text
+
+-- a text that is written so between quotes
+pub unquoted_is : (t token : List ℕ) → quoted t ≡ token → t ≡ unquoted token
+unquoted_is t token h = sym (reads_quoted_holds t) ∙ ap unquoted h
+
+-- what is read of a text between quotes is that text
+pub quoted_again : (t token : List ℕ) → IsQuoted token → t ≡ unquoted token → quoted t ≡ token
+quoted_again t token q e = ap quoted (e ∙ ap unquoted q.1 ∙ reads_quoted_holds q.0) ∙ sym q.1
