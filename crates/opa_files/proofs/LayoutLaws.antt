@@ -1,8 +1,7 @@
 -- Blocks of files that are laid out one after another.
 use Rattle.std.proofs.Common.{◌≡◌, ℕ, ◌+◌, ◌<◌, List, [], ◌∷◌, ◌++◌, All, slice_index_or, sym, ap, ◌∙◌, append_assoc, append-nil, subst, arith}
-use Rattle.std.proofs.lemmas.List.Elements.{All-nil, All-cons, All-head, All-tail, All-append}
+use Rattle.std.proofs.lemmas.List.Elements.{All-nil, All-cons, All-append}
 use Rattle.opa_layout.specs.declared.block.Block.{Block}
-use Rattle.opa_layout.specs.declared.block.BlockLine.{BlockLine}
 use Rattle.opa_layout.specs.Blocks.{lines_of, AreBlocks}
 use Rattle.opa_layout.proofs.BlockLaws.{lines_of-append}
 use Rattle.opa_tree.specs.declared.faults.RbFault.{RbFault}
