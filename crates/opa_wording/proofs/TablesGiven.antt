@@ -7,7 +7,6 @@ use Rattle.opa_model.specs.declared.lists.Lists.{Lists}
 use Rattle.opa_model.specs.Models.{HasAttribute}
 use Rattle.opa_tree.specs.declared.kinds.OpKind.{OpKind}
 use Rattle.opa_tree.specs.declared.expr.Expr.{Expr}
-use Rattle.opa_tree.specs.declared.expr.Expr.TheVariants as expr
 use Rattle.opa_tree.specs.declared.rules.Rule.{Rule}
 use Rattle.opa_tree.specs.Trees.{op_arity}
 use Rattle.opa_sentence.specs.declared.class.Class.{Class}
