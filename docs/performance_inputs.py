@@ -124,6 +124,13 @@ for count in (250, 500, 1000):
 with open("homes.txt", "w") as file:
     file.write("global\n  number the figure\n  number the head count\n  reference the chosen: many the home\n  every the whole roll: the person\nentity the home\n  in global: the homes\n  number the size\nentity the person\n  in the home: the residents\n  number the income\n" + "".join(f"  number result {k}\n" for k in range(10)))
     file.write("the size = InstanceCount(the residents)\nthe head count = InstanceCount(the whole roll)\n" + "".join(f"result {k} = the income + the figure + {k}\n" for k in range(10)))
+with open("homes.txt") as file:
+    homes = file.readlines()
+# .. the same without the count over all persons, and without the list of them too
+with open("homes_uncounted.txt", "w") as file:
+    file.writelines(line for line in homes if "head count" not in line)
+with open("homes_plain.txt", "w") as file:
+    file.writelines(line for line in homes if "head count" not in line and "the whole roll" not in line)
 moving = 'answer the figure = 5\nlist the homes = ' + ", ".join(f'"h{n}"' for n in range(900)) + "\n" + "".join(f'list the residents of "h{n}" = ' + ", ".join(f'"p{n}_{k}"' for k in range(20)) + "\n" for n in range(900))
 with open("homes_made_input.txt", "w") as file:
     file.write(moving + "stats\n")
