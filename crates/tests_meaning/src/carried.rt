@@ -4,9 +4,9 @@ ghost use Rattle.opa_mean.specs.Rulebases.{IsOf};
 ghost use Rattle.opa_mean.specs.Slots.{is_slot};
 ghost use Rattle.opa_infer.specs.Sessions.{rules_of, held_of};
 
-use crate::points::{attribute, instance};
-use crate::printed::line_words;
-use crate::told::after;
+use tests_input::points::{attribute, instance};
+use tests_input::printed::line_words;
+use tests_input::told::after;
 use opa_case::{Case, InstanceId};
 use opa_code::compile;
 use opa_infer::Session;

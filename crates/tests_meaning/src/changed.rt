@@ -1,7 +1,7 @@
 // Changes that are made by hand.
-use crate::counted::applied;
-use crate::points::{attribute, instance};
-use crate::told::after;
+use tests_input::counted::applied;
+use tests_input::points::{attribute, instance};
+use tests_input::told::after;
 use opa_case::{ChangeCommand, InstanceId, Refusal};
 use opa_infer::Session;
 use opa_io::{List, NoMemory, Txt};

@@ -6,18 +6,8 @@ mod carried;
 #[cfg(test)]
 mod changed;
 #[cfg(test)]
-mod counted;
-#[cfg(test)]
 mod looked;
 #[cfg(test)]
 mod meant;
 #[cfg(test)]
 mod placed;
-#[cfg(test)]
-mod points;
-#[cfg(test)]
-mod printed;
-#[cfg(test)]
-mod told;
-#[cfg(test)]
-mod wanting;

@@ -1,6 +1,6 @@
 // What the rules of a household's benefit can look at.
-use crate::points::{attribute, instance};
-use crate::told::after;
+use tests_input::points::{attribute, instance};
+use tests_input::told::after;
 use opa_case::{InstanceId, Question};
 use opa_infer::Session;
 use opa_io::{List, NoMemory, Txt};

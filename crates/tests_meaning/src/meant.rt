@@ -4,9 +4,9 @@ ghost use Rattle.std.specs.List.{AllByRecursion};
 ghost use Rattle.opa_case.specs.Cases.{CaseView, IsLive};
 ghost use Rattle.opa_date.specs.declared.TheConstants.{DAYS};
 
-use crate::points::{attribute, instance};
-use crate::printed::value_words;
-use crate::told::after;
+use tests_input::points::{attribute, instance};
+use tests_input::printed::value_words;
+use tests_input::told::after;
 use opa_case::InstanceId;
 use opa_date::DAYS;
 use opa_infer::Session;

@@ -1,5 +1,5 @@
 // Which instance an attribute or a list belongs to, in loaded rulebases.
-use crate::told::after;
+use tests_input::told::after;
 use opa_case::{Case, InstanceId};
 use opa_io::{List, NoMemory, Txt};
 use opa_mean::{Held, place_of};

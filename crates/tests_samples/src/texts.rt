@@ -12,6 +12,30 @@ the claimant is entitled if
   the claimant is a veteran
 ";
 
+/// An answer that two conclusions rest on.
+pub const EXEMPT: &str = "verb is / is not / is /
+global
+  bool the claimant [is] entitled
+  bool the claimant [is] exempt
+  bool the claimant [is] an adult
+the claimant is entitled if
+  the claimant is an adult
+the claimant is exempt if
+  the claimant is an adult
+";
+
+/// Who is covered: also who isn't known to be registered.
+pub const COVERED: &str = "verb is / is not / is /
+global
+  bool the claimant [is] covered
+  bool the claimant [is] insured
+  bool the claimant [is] registered
+goal the claimant is covered
+the claimant is covered if
+  the claimant is insured or
+  not CurrentlyKnown(the claimant is registered)
+";
+
 /// Who was employed on each day of a window.
 pub const STEADY: &str = "verb is / is not / is /
 global

@@ -1,4 +1,4 @@
-use Rattle.tests_meaning.proofs.wanting.heard.Given as goal
+use Rattle.tests_input.proofs.counted.heard.Given as goal
 
 -- the steps are counted on the ledger that is opened
 abbrev pub ghosts-heard_on : goal.ghosts-heard_on

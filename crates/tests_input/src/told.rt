@@ -17,7 +17,7 @@ use std::test::Fail;
 use tests_samples::load;
 
 /// The session after lines of input, each of which prints nothing.
-pub(crate) fn after(
+pub fn after(
     alloc: Global,
     files: &[(&str, &str)],
     input: &[&str],
@@ -34,7 +34,7 @@ pub(crate) fn after(
 }
 
 /// What a line of input prints. The rulebase stays.
-pub(crate) fn reply(alloc: Global, session: &mut Session, line: &str) -> Result<String, Fail>
+pub fn reply(alloc: Global, session: &mut Session, line: &str) -> Result<String, Fail>
     ensures { rules_of session.new ≡ rules_of session.old }
 {
     match read_command(alloc, &session.base().model, line.as_bytes()) {

@@ -6,7 +6,7 @@ use std::alloc::Global;
 use std::test::Fail;
 
 /// The attribute of a phrase.
-pub(crate) fn attribute(model: &Model, phrase: &str) -> Result<AttrId, Fail> {
+pub fn attribute(model: &Model, phrase: &str) -> Result<AttrId, Fail> {
     match model.find_attribute(phrase) {
         Some(attr) => Ok(attr),
         None => Err(Fail::new("no attribute has this phrase")),
@@ -14,7 +14,7 @@ pub(crate) fn attribute(model: &Model, phrase: &str) -> Result<AttrId, Fail> {
 }
 
 /// The instance of an attribute's entity with a name.
-pub(crate) fn instance(
+pub fn instance(
     alloc: Global,
     model: &Model,
     attr: AttrId,

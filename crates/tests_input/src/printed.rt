@@ -26,7 +26,7 @@ fn is_of_calendar(value: &Value) -> bool
 }
 
 /// The value, as it is printed.
-pub(crate) fn value_words(alloc: Global, kind: Kind, value: &Value) -> Result<Txt, NoMemory> {
+pub fn value_words(alloc: Global, kind: Kind, value: &Value) -> Result<Txt, NoMemory> {
     if is_of_calendar(value) {
         value_text(alloc, kind, value)
     } else {
@@ -35,7 +35,7 @@ pub(crate) fn value_words(alloc: Global, kind: Kind, value: &Value) -> Result<Tx
 }
 
 /// The first value, and then each change with its day.
-pub(crate) fn line_words(alloc: Global, kind: Kind, line: &Line<Value>) -> Result<String, Fail> {
+pub fn line_words(alloc: Global, kind: Kind, line: &Line<Value>) -> Result<String, Fail> {
     let mut out = String::new(alloc);
     for (day, value) in line.segments() {
         if *day > 0 {

@@ -1,0 +1,11 @@
+//! Tests alone: what a session answers to its calls: how many values change, how many slots that reaches, the states of goals, and what listeners keep.
+#![tactic(auto)]
+
+#[cfg(test)]
+mod outcome;
+#[cfg(test)]
+mod replaced;
+#[cfg(test)]
+mod rows;
+#[cfg(test)]
+mod wanting;
