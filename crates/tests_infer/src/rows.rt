@@ -60,7 +60,12 @@ const CLAIMANT: [(&str, &str); 4] = [
 #[test]
 fn a_claimant(rt: HostRuntime) -> Result<(), Fail> {
     let files = [("main", texts::CLAIMANT)];
-    let other = other_outcome_of(rt.alloc(), &files, "0 changes, 0 of 1, undecided", &CLAIMANT)?;
+    let other = other_outcome_of(
+        rt.alloc(),
+        &files,
+        "0 changes, 0 of 1, undecided",
+        &CLAIMANT,
+    )?;
     assert_eq!(rt; other.as_str(), "");
     Ok(())
 }

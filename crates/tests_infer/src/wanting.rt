@@ -9,7 +9,8 @@ use tests_samples::texts;
 
 const ADULT: &str = "answer the claimant is an adult = true";
 
-const TWO_CHANGES: &str = "the claimant is entitled on 1600-01-01: unknown to true\nthe claimant is exempt on 1600-01-01: unknown to true\n";
+const TWO_CHANGES: &str =
+    "the claimant is entitled on 1600-01-01: unknown to true\nthe claimant is exempt on 1600-01-01: unknown to true\n";
 
 fn a_journal(alloc: Global) -> Result<Vec<Box<dyn Listener>>, Fail> {
     let mut listeners: Vec<Box<dyn Listener>> = Vec::new(alloc);

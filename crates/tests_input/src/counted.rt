@@ -61,11 +61,7 @@ fn heard_on<L: Ledger>(
 }
 
 /// Makes a change that nobody is told of. The rulebase stays.
-pub fn applied(
-    alloc: Global,
-    session: &mut Session,
-    change: ChangeCommand,
-) -> Result<u32, Refusal>
+pub fn applied(alloc: Global, session: &mut Session, change: ChangeCommand) -> Result<u32, Refusal>
     requires { IsDeclared (shape_of (rules_of session.old).model) change }
     ensures { rules_of session.new ≡ rules_of session.old }
 {

@@ -17,11 +17,7 @@ use std::test::Fail;
 use tests_samples::load;
 
 /// The session after lines of input, each of which prints nothing.
-pub fn after(
-    alloc: Global,
-    files: &[(&str, &str)],
-    input: &[&str],
-) -> Result<Session, Fail> {
+pub fn after(alloc: Global, files: &[(&str, &str)], input: &[&str]) -> Result<Session, Fail> {
     let base = load(alloc, files)?;
     let mut session = started(alloc, base)?;
     for line in input {

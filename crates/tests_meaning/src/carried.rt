@@ -4,9 +4,6 @@ ghost use Rattle.opa_mean.specs.Rulebases.{IsOf};
 ghost use Rattle.opa_mean.specs.Slots.{is_slot};
 ghost use Rattle.opa_infer.specs.Sessions.{rules_of, held_of};
 
-use tests_input::points::{attribute, instance};
-use tests_input::printed::line_words;
-use tests_input::told::after;
 use opa_case::{Case, InstanceId};
 use opa_code::compile;
 use opa_infer::Session;
@@ -18,6 +15,9 @@ use opa_tree::Rulebase;
 use opa_value::Value;
 use std::alloc::Global;
 use std::test::Fail;
+use tests_input::points::{attribute, instance};
+use tests_input::printed::line_words;
+use tests_input::told::after;
 use tests_samples::texts;
 
 /// Whether the attribute has a rule, and the instance is live and of its entity.

@@ -1,7 +1,4 @@
 // Changes that are made by hand.
-use tests_input::counted::applied;
-use tests_input::points::{attribute, instance};
-use tests_input::told::after;
 use opa_case::{ChangeCommand, InstanceId, Refusal};
 use opa_infer::Session;
 use opa_io::{List, NoMemory, Txt};
@@ -11,6 +8,9 @@ use opa_model::{AttrId, EntityId, Model, RelId};
 use opa_value::Value;
 use std::alloc::Global;
 use std::test::Fail;
+use tests_input::counted::applied;
+use tests_input::points::{attribute, instance};
+use tests_input::told::after;
 use tests_samples::texts;
 
 /// True and false in turn, so many pairs.

@@ -1,6 +1,4 @@
 // What the rules of a household's benefit can look at.
-use tests_input::points::{attribute, instance};
-use tests_input::told::after;
 use opa_case::{InstanceId, Question};
 use opa_infer::Session;
 use opa_io::{List, NoMemory, Txt};
@@ -9,6 +7,8 @@ use opa_model::{AttrId, Model};
 use opa_text::point_text;
 use std::alloc::Global;
 use std::test::Fail;
+use tests_input::points::{attribute, instance};
+use tests_input::told::after;
 use tests_samples::texts;
 
 /// What the rule of an attribute can look at, where it has one and the attribute has a place.

@@ -4,9 +4,6 @@ ghost use Rattle.std.specs.List.{AllByRecursion};
 ghost use Rattle.opa_case.specs.Cases.{CaseView, IsLive};
 ghost use Rattle.opa_date.specs.declared.TheConstants.{DAYS};
 
-use tests_input::points::{attribute, instance};
-use tests_input::printed::value_words;
-use tests_input::told::after;
 use opa_case::InstanceId;
 use opa_date::DAYS;
 use opa_infer::Session;
@@ -17,6 +14,9 @@ use opa_tree::Expr;
 use opa_value::Value;
 use std::alloc::Global;
 use std::test::Fail;
+use tests_input::points::{attribute, instance};
+use tests_input::printed::value_words;
+use tests_input::told::after;
 use tests_samples::texts;
 
 /// What is answered of an adult and of a veteran, and whether the claimant is entitled.

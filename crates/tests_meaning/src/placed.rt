@@ -1,11 +1,11 @@
 // Which instance an attribute or a list belongs to, in loaded rulebases.
-use tests_input::told::after;
 use opa_case::{Case, InstanceId};
 use opa_io::{List, NoMemory, Txt};
 use opa_mean::{Held, place_of};
 use opa_model::EntityId;
 use std::alloc::Global;
 use std::test::Fail;
+use tests_input::told::after;
 use tests_samples::texts;
 
 /// Enclosing instances, each by its entity and its name.
