@@ -4,7 +4,7 @@ use Rattle.std.specs.Prelude.{◌==◌, ◌||◌, find, flat_map, unwrap_or}
 use Rattle.std.specs.BTreeMap as tree
 use Rattle.std.specs.Ordering.{nat_cmp, is_eq}
 use Rattle.std.proofs.lemmas.Bool.{eqb-true, eq-eqb}
-use Rattle.std.proofs.lemmas.List.{take_all, take_more}
+use Rattle.std.proofs.lemmas.List.{append-nil, take_all, take_more}
 use Rattle.std.proofs.lemmas.List.Elements.{Contains-append_left, Contains-append_right}
 use Rattle.std.proofs.lemmas.List.Concat.{flat_map-append}
 use Rattle.opa_model.specs.declared.ids.AttrId.{AttrId}
@@ -54,16 +54,12 @@ put_behind n a old left new attrs more taken others pushed put e = ap (λ o. unw
     eq : is_eq (nat_cmp n e) ≡ (n == e)
     eq = one_number n e
 
-    nothing : (xs : List AttrId) → xs ≡ xs ++ []
-    nothing [] = refl
-    nothing (x ∷ xs) = ap (λ ys. x ∷ ys) (nothing xs)
-
     go : (b : Bool) → (n == e) ≡ b → unwrap_or (cond (is_eq (nat_cmp n e)) (Some more) (tree.get nat_cmp left.each e)) [] ≡ owned_in old e ++ cond (n == e) (a ∷ []) []
     go true q =
         ap (λ b. unwrap_or (cond b (Some more) (tree.get nat_cmp left.each e)) []) (eq ∙ q) ∙ pushed ∙ ap (λ xs. xs ++ a ∷ []) (taken ∙ ap (owned_in old) (eqb-true n e q))
         ∙ sym (ap (λ b. owned_in old e ++ cond b (a ∷ []) []) q)
     go false q =
-        ap (λ b. unwrap_or (cond b (Some more) (tree.get nat_cmp left.each e)) []) (eq ∙ q) ∙ others e (λ h. cc (q, eq-eqb n e (sym h))) ∙ nothing (owned_in old e)
+        ap (λ b. unwrap_or (cond b (Some more) (tree.get nat_cmp left.each e)) []) (eq ∙ q) ∙ others e (λ h. cc (q, eq-eqb n e (sym h))) ∙ sym (append-nil (owned_in old e))
         ∙ sym (ap (λ b. owned_in old e ++ cond b (a ∷ []) []) q)
 
 -- the attributes of an entity, as these rules tell them
@@ -76,9 +72,5 @@ all_owned s rules k e found end is = is ∙ ap (all_of s e) (take_all k rules en
 -- one rule more
 pub next_owned : (s : Shape) (rules : List Rule) (k : ℕ) (x : Rule) (e : ℕ) (old new : List AttrId) → k < length rules → x ≡ get_or rules k x → old ≡ flat_map (owned_attr s e) (take k rules) → new ≡ old ++ owned_attr s e x → new ≡ flat_map (owned_attr s e) (take (k + 1) rules)
 next_owned s rules k x e old new lt is before step =
-    step ∙ ap (λ xs. xs ++ owned_attr s e x) before ∙ ap (λ xs. flat_map (owned_attr s e) (take k rules) ++ xs) (nothing (owned_attr s e x))
+    step ∙ ap (λ xs. xs ++ owned_attr s e x) before ∙ ap (λ xs. flat_map (owned_attr s e) (take k rules) ++ xs) (sym (append-nil (owned_attr s e x)))
     ∙ sym (flat_map-append (owned_attr s e) (take k rules) (x ∷ [])) ∙ ap (λ y. flat_map (owned_attr s e) (take k rules ++ y ∷ [])) is ∙ ap (flat_map (owned_attr s e)) (sym (take_more rules k x lt))
-  where
-    nothing : (xs : List AttrId) → xs ≡ xs ++ []
-    nothing [] = refl
-    nothing (x ∷ xs) = ap (λ ys. x ∷ ys) (nothing xs)
