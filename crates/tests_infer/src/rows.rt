@@ -22,19 +22,31 @@ fn other_outcome(
     Ok(String::new(alloc))
 }
 
-/// The same from the start, at which nothing has changed yet.
+/// The same of a session of which nothing has changed yet, and of which this is told.
+fn other_outcome_from(
+    alloc: Global,
+    session: &mut Session,
+    first: &str,
+    rows: &[(&str, &str)],
+) -> Result<String, Fail> {
+    let found = counts(alloc, session, 0)?;
+    if found.as_str() != first {
+        return Ok(found);
+    }
+    other_outcome(alloc, session, rows)
+}
+
+const NO_INPUT: [&str; 0] = [];
+
+/// The same from the start.
 fn other_outcome_of(
     alloc: Global,
     files: &[(&str, &str)],
     first: &str,
     rows: &[(&str, &str)],
 ) -> Result<String, Fail> {
-    let mut session = after(alloc, files, &[])?;
-    let found = counts(alloc, &session, 0)?;
-    if found.as_str() != first {
-        return Ok(found);
-    }
-    other_outcome(alloc, &mut session, rows)
+    let mut session = after(alloc, files, &NO_INPUT)?;
+    other_outcome_from(alloc, &mut session, first, rows)
 }
 
 /// An answer that is given again reaches nothing.
