@@ -2,10 +2,10 @@
 #![tactic(auto)]
 
 #[cfg(test)]
+mod listeners;
+#[cfg(test)]
 mod outcome;
 #[cfg(test)]
 mod replaced;
 #[cfg(test)]
 mod rows;
-#[cfg(test)]
-mod wanting;

@@ -3,11 +3,11 @@ use crate::outcome::{counts, outcome};
 use opa_infer::Session;
 use std::alloc::Global;
 use std::test::Fail;
-use tests_input::told::after;
+use tests_input::told::at_start;
 use tests_samples::texts;
 
 /// The first line that comes to something else, with this; nothing where there is none.
-fn other_outcome(
+pub(crate) fn other_outcome(
     alloc: Global,
     session: &mut Session,
     rows: &[(&str, &str)],
@@ -36,8 +36,6 @@ fn other_outcome_from(
     other_outcome(alloc, session, rows)
 }
 
-const NO_INPUT: [&str; 0] = [];
-
 /// The same from the start.
 fn other_outcome_of(
     alloc: Global,
@@ -45,7 +43,7 @@ fn other_outcome_of(
     first: &str,
     rows: &[(&str, &str)],
 ) -> Result<String, Fail> {
-    let mut session = after(alloc, files, &NO_INPUT)?;
+    let mut session = at_start(alloc, files)?;
     other_outcome_from(alloc, &mut session, first, rows)
 }
 
@@ -102,8 +100,8 @@ fn what_may_turn(rt: HostRuntime) -> Result<(), Fail> {
     Ok(())
 }
 
-/// An income is changed and put back: the benefit's line returns.
-const HOUSEHOLD: [(&str, &str); 12] = [
+/// The answers of a household, the last of which changes nothing.
+pub(crate) const HOUSEHOLD: [(&str, &str); 7] = [
     (
         "list the people = \"Ada\", \"Bo\", \"Cy\"",
         "2 changes, 7 of 8, undecided",
@@ -132,6 +130,10 @@ const HOUSEHOLD: [(&str, &str); 12] = [
         "answer the person's income of \"Cy\" = 0; from 2023-01-01 50",
         "0 changes, 1 of 8, settled",
     ),
+];
+
+/// An income is changed and put back: the benefit's line returns.
+const PUT_BACK: [(&str, &str); 5] = [
     (
         "show the monthly benefit",
         "the monthly benefit: 900.00; from 2020-01-01 750.00; from 2021-01-01 675.00; from 2022-07-01 350.00; from 2024-01-01 700.00",
@@ -154,14 +156,24 @@ const HOUSEHOLD: [(&str, &str); 12] = [
     ),
 ];
 
+/// The first line of both that comes to something else.
+fn other_of_a_household(alloc: Global, session: &mut Session) -> Result<String, Fail> {
+    let other = other_outcome_from(alloc, session, "0 changes, 0 of 5, undecided", &HOUSEHOLD)?;
+    if !other.is_empty() {
+        return Ok(other);
+    }
+    other_outcome(alloc, session, &PUT_BACK)
+}
+
+/// The same from the start.
+fn other_of_a_new_household(alloc: Global) -> Result<String, Fail> {
+    let mut session = at_start(alloc, &texts::BENEFIT)?;
+    other_of_a_household(alloc, &mut session)
+}
+
 #[test]
 fn a_household(rt: HostRuntime) -> Result<(), Fail> {
-    let other = other_outcome_of(
-        rt.alloc(),
-        &texts::BENEFIT,
-        "0 changes, 0 of 5, undecided",
-        &HOUSEHOLD,
-    )?;
+    let other = other_of_a_new_household(rt.alloc())?;
     assert_eq!(rt; other.as_str(), "");
     Ok(())
 }

@@ -16,10 +16,15 @@ use std::alloc::Global;
 use std::test::Fail;
 use tests_samples::load;
 
+/// The session over these files in which nothing is known.
+pub fn at_start(alloc: Global, files: &[(&str, &str)]) -> Result<Session, Fail> {
+    let base = load(alloc, files)?;
+    Ok(started(alloc, base)?)
+}
+
 /// The session after lines of input, each of which prints nothing.
 pub fn after(alloc: Global, files: &[(&str, &str)], input: &[&str]) -> Result<Session, Fail> {
-    let base = load(alloc, files)?;
-    let mut session = started(alloc, base)?;
+    let mut session = at_start(alloc, files)?;
     for line in input {
         let found = reply(alloc, &mut session, line)?;
         if !found.is_empty() {

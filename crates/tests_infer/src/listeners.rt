@@ -4,7 +4,7 @@ use opa_infer::Session;
 use opa_listen::{Journal, Listener};
 use std::alloc::Global;
 use std::test::Fail;
-use tests_input::told::{after, reply};
+use tests_input::told::{at_start, reply};
 use tests_listen::Fussy;
 use tests_samples::texts;
 
@@ -43,11 +43,9 @@ fn heard_twice(alloc: Global, session: &mut Session, fussy: bool) -> Result<Stri
     twice_told(alloc, session, &mut listeners)
 }
 
-const NO_INPUT: [&str; 0] = [];
-
 /// The same from the start.
 fn heard_from_the_start(alloc: Global, fussy: bool) -> Result<String, Fail> {
-    let mut session = after(alloc, &[("main", texts::EXEMPT)], &NO_INPUT)?;
+    let mut session = at_start(alloc, &[("main", texts::EXEMPT)])?;
     heard_twice(alloc, &mut session, fussy)
 }
 
