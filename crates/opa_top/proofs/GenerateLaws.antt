@@ -1,15 +1,14 @@
 -- What the mode `generate` does, from what its parts ensure.
-use Rattle.std.proofs.Common.{◌≡◌, ◌≤◌, ◌<◌, ◌*◌, ℕ, pos, List, [], inl, inr, Ok, Err, refl, sym, subst, ap, ◌∙◌, arith}
-use Rattle.std.specs.Prelude.{ℤ, Option, Some}
+use Rattle.std.proofs.Common.{◌≡◌, ◌≤◌, ◌*◌, ℕ, pos, List, [], inl, inr, Ok, refl, sym, subst, ◌∙◌, arith}
+use Rattle.std.specs.Prelude.{ℤ}
 use Rattle.std.specs.Io.KnownBytes.{Appends}
 use Rattle.opa_io.specs.declared.fault.Status.{Status}
 use Rattle.opa_io.specs.declared.fault.Status.TheVariants as status
 use Rattle.opa_io.proofs.Appended.{Appends-none}
-use Rattle.opa_script.specs.Examples.{input_text}
 use Rattle.opa_value.specs.NumberText.{read_number}
 use Rattle.opa_top.specs.Checking.{IsTold}
-use Rattle.opa_top.specs.Generating.{SaysNumber, IsOutOfRange, IsGenerated, IsMade, IsNoSize, IsSize, Generates, generated_files, generated_name, refused_number}
-use Rattle.opa_top.specs.Running.{Outside, IsUnused, Runs, a_run}
+use Rattle.opa_top.specs.Generating.{SaysNumber, IsOutOfRange, IsGenerated, IsNoSize, IsSize, Generates, refused_number}
+use Rattle.opa_top.specs.Running.{Outside, IsUnused}
 
 -- the number of a text has one count
 pub same_count : (number : List ℕ) (n : ℕ) (count : ℤ) → read_number number ≡ Ok count → SaysNumber n number → count ≡ pos (n * 10000)

@@ -6,7 +6,7 @@ ghost use Rattle.opa_talk.specs.Halt.{IsCause};
 ghost use Rattle.opa_top.specs.Running.{outside, Runs, TalksAll, TalksPart, a_run};
 
 use crate::check::tell;
-use opa_io::{Shelf, Sink, Source, Status, Steps};
+use opa_io::{NoMemory, Shelf, Sink, Source, Status, Steps};
 use opa_listen::Listener;
 use opa_reply::Conversation;
 use opa_rulebase::{LoadError, load_rulebase};
@@ -34,16 +34,22 @@ fn talk<S: Source, F: Shelf, K: Sink, L: Ledger>(
         (outside F.files F.take_faults F.keep_faults S.left S.faults K.written K.faults shelf.new (map (λ l. hearer (state l)) listeners.new.items) input.new out.new steps.new)) }
     ensures cause { IfErr result (IsCause (F.take_faults shelf.old) (F.take_faults shelf.new) (F.keep_faults shelf.old) (F.keep_faults shelf.new) (K.faults out.old) (K.faults out.new) (S.faults input.old) (S.faults input.new)) }
 {
-    let mut conversation = Conversation::start(alloc, base, steps)?;
-    converse(
-        alloc,
-        &mut conversation,
-        shelf,
-        listeners,
-        steps,
-        input,
-        out,
-    )
+    match Conversation::start(alloc, base, steps) {
+        Ok(mut conversation) => {
+            let end = converse(
+                alloc,
+                &mut conversation,
+                shelf,
+                listeners,
+                steps,
+                input,
+                out,
+            );
+            drop(conversation);
+            end
+        }
+        Err(NoMemory) => Err(Halt::Memory),
+    }
 }
 
 /// What a rulebase declares is a model.

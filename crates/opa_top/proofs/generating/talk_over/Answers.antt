@@ -1,5 +1,4 @@
 use Rattle.std.proofs.Common.{refl, inr}
-use Rattle.opa_top.proofs.GenerateLaws.{not_made}
 use Rattle.opa_top.proofs.generating.talk_over.Goals as goal
 
 pub returns : goal.returns

@@ -1,8 +1,7 @@
-use Rattle.std.proofs.Common.{refl, subst}
-use Rattle.opa_io.specs.Outside.{Files}
+use Rattle.std.proofs.Common.{subst}
 use Rattle.opa_io.proofs.Appended.{Appends-none}
 use Rattle.opa_rulebase.specs.Loading.{HasLoadError}
-use Rattle.opa_top.specs.Verifying.{JudgesFile, Verifies}
+use Rattle.opa_top.specs.Verifying.{Verifies}
 use Rattle.opa_top.proofs.CheckLaws.{refusal_opened}
 use Rattle.opa_top.proofs.VerifyLaws.{judged_later}
 use Rattle.opa_top.proofs.verifying.verify.Goals as goal
