@@ -1,10 +1,9 @@
 -- What the mode `generate` does, from what its parts ensure.
-use Rattle.std.proofs.Common.{◌≡◌, ◌≤◌, ◌*◌, ℕ, pos, List, [], inl, inr, Ok, refl, sym, subst, ◌∙◌, arith}
+use Rattle.std.proofs.Common.{◌≡◌, ◌≤◌, ◌*◌, ℕ, pos, List, [], inl, inr, Ok, sym, subst, ◌∙◌, arith}
 use Rattle.std.specs.Prelude.{ℤ}
 use Rattle.std.specs.Io.KnownBytes.{Appends}
 use Rattle.opa_io.specs.declared.fault.Status.{Status}
 use Rattle.opa_io.specs.declared.fault.Status.TheVariants as status
-use Rattle.opa_io.proofs.Appended.{Appends-none}
 use Rattle.opa_value.specs.NumberText.{read_number}
 use Rattle.opa_top.specs.Checking.{IsTold}
 use Rattle.opa_top.specs.Generating.{SaysNumber, IsOutOfRange, IsGenerated, IsNoSize, IsSize, Generates, refused_number}
@@ -37,9 +36,5 @@ module _ (number : List ℕ) (old new : Outside) (result : Status) where
 
   pub number_dropped : result ≡ status.NoMemory → Appends old.written new.written [] → IsUnused old new → IsGenerated number old new result
   number_dropped out none unused = record { refuses = λ n says far. inl (out, none, unused); talks = λ n says least most. inl (out, none, unused) }
-
--- there was no memory to make them
-pub not_made : (n : ℕ) (old : Outside) → Generates n old old status.NoMemory
-not_made n old = inl (refl, Appends-none old.written, record { left = refl; files = refl; hearers = refl; steps = refl })
 
 pub ruleset numbers = (number_refused, number_taken)
