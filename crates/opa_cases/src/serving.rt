@@ -34,7 +34,9 @@ fn talk<S: Source, F: Shelf, K: Sink, L: Ledger>(
 {
     let mut caseload = Caseload::start(alloc, base, steps)?;
     let mut nobody: Vec<Box<dyn Listener>> = Vec::new(alloc);
-    converse(alloc, &mut caseload, shelf, &mut nobody, steps, input, out)
+    let end = converse(alloc, &mut caseload, shelf, &mut nobody, steps, input, out);
+    drop(caseload);
+    end
 }
 
 /// What a rulebase declares is a model.

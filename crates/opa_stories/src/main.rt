@@ -28,7 +28,9 @@ fn told<F: Shelf>(alloc: Global, shelf: &mut F, name: &str) -> Result<String, Fa
         return Err(Fault::Missing);
     };
     let story = read_story(alloc, shelf, &bytes)?;
-    Ok(verdict(alloc, play(alloc, &story)?)?)
+    let found = play(alloc, &story);
+    drop(story);
+    Ok(verdict(alloc, found?)?)
 }
 
 /// Plays each story that a line of standard input names. Answers how many passed, and how many failed.

@@ -75,58 +75,110 @@ fn status_of<S: Source, F: Shelf, K: Sink, L: Ledger>(
     }
 }
 
-/// Runs what the story asks for. Answers what differs, where something does.
-pub fn play(alloc: Global, story: &Story) -> Result<Option<Difference>, Fault> {
-    counted::<Brand>(alloc, Blank::new(1), story)
+/// The shelf of a story.
+fn shelf_of(alloc: Global, story: &Story) -> Result<MemShelf, Fault> {
+    let files = held(alloc, &story.shelf)?;
+    let takes = story.failing.takes.as_slice().to_vec(alloc)?;
+    let keeps = story.failing.keeps.as_slice().to_vec(alloc)?;
+    Ok(MemShelf::new(alloc, files, takes, keeps))
 }
 
-/// The same, with its steps on a ledger of its own.
-fn counted<L: Ledger>(
-    alloc: Global,
-    blank: Blank,
-    story: &Story,
-) -> Result<Option<Difference>, Fault>
-    requires name { blank.name ≡ L.name }
-    requires parts { blank.parts ≡ L.parts }
-    requires some { 0 < blank.parts }
-{
-    let mut steps: Steps<L> = Steps::open(blank);
-    let failing = &story.failing;
-    let takes = failing.takes.as_slice().to_vec(alloc)?;
-    let keeps = failing.keeps.as_slice().to_vec(alloc)?;
-    let mut shelf = MemShelf::new(alloc, held(alloc, &story.shelf)?, takes, keeps);
-    let reads = failing.reads.as_slice().to_vec(alloc)?;
+/// The input of a story.
+fn source_of(alloc: Global, story: &Story) -> Result<MemSource, Fault> {
     let input = story.input.as_slice().to_vec(alloc)?;
-    let mut source = MemSource::new(input, reads, story.read.max(1));
-    let writes = failing.writes.as_slice().to_vec(alloc)?;
-    let mut sink = MemSink::new(alloc, writes, story.written.max(1));
-    // A journal of all changes, a watch on one attribute, and one that wants memory.
-    let mut listeners: Vec<Box<dyn Listener>> = Vec::new(alloc);
+    let reads = story.failing.reads.as_slice().to_vec(alloc)?;
+    Ok(MemSource::new(input, reads, story.read.max(1)))
+}
+
+/// What takes the output of a story.
+fn sink_of(alloc: Global, story: &Story) -> Result<MemSink, Fault> {
+    let writes = story.failing.writes.as_slice().to_vec(alloc)?;
+    Ok(MemSink::new(alloc, writes, story.written.max(1)))
+}
+
+/// Adds those who listen: a journal of all changes, a watch on one attribute, and one that wants memory.
+fn add_listeners(
+    alloc: Global,
+    story: &Story,
+    listeners: &mut Vec<Box<dyn Listener>>,
+) -> Result<(), Fault> {
     listeners.push(Box::new(alloc, Journal::new(alloc))?)?;
     let watch = watch(alloc, story.watched)?;
     listeners.push(Box::new(alloc, watch)?)?;
     if story.refuses > 0 {
         listeners.push(Box::new(alloc, Fussy::new(alloc, story.refuses, 1))?)?;
     }
-    let status = status_of(
-        alloc,
-        &story.words,
-        &mut shelf,
-        &mut source,
-        &mut sink,
-        &mut listeners,
-        &mut steps,
-    )
-    .number();
+    Ok(())
+}
+
+/// What a run did otherwise than its story says.
+fn difference(
+    alloc: Global,
+    story: &Story,
+    status: u8,
+    printed: &[u8],
+    shelf: &MemShelf,
+) -> Result<Option<Difference>, Fault> {
     if u64::from(status) != story.status {
         return Ok(Some(Difference::Status(status)));
     }
     if story
         .prints
         .as_ref()
-        .is_none_or(|prints| prints.as_slice() != sink.bytes())
+        .is_none_or(|prints| prints.as_slice() != printed)
     {
-        return Ok(Some(Difference::Prints(sink.bytes().to_vec(alloc)?)));
+        return Ok(Some(Difference::Prints(printed.to_vec(alloc)?)));
     }
-    other_file(alloc, story, &shelf)
+    other_file(alloc, story, shelf)
+}
+
+/// Runs what the story asks for on its shelf, with its steps on a ledger of its own.
+fn counted<L: Ledger>(
+    alloc: Global,
+    blank: Blank,
+    story: &Story,
+    shelf: &mut MemShelf,
+    source: &mut MemSource,
+    sink: &mut MemSink,
+    listeners: &mut Vec<Box<dyn Listener>>,
+) -> Status
+    requires name { blank.name ≡ L.name }
+    requires parts { blank.parts ≡ L.parts }
+    requires some { 0 < blank.parts }
+{
+    let mut steps: Steps<L> = Steps::open(blank);
+    // The count shows that there are fewer than 2^64.
+    let _count = listeners.len();
+    status_of(
+        alloc,
+        &story.words,
+        shelf,
+        source,
+        sink,
+        listeners,
+        &mut steps,
+    )
+}
+
+/// Plays a story on its shelf, over its input.
+fn played(
+    alloc: Global,
+    story: &Story,
+    shelf: &mut MemShelf,
+    source: &mut MemSource,
+    sink: &mut MemSink,
+) -> Result<Option<Difference>, Fault> {
+    let mut listeners: Vec<Box<dyn Listener>> = Vec::new(alloc);
+    add_listeners(alloc, story, &mut listeners)?;
+    let blank = Blank::new(1);
+    let status = counted::<Brand>(alloc, blank, story, shelf, source, sink, &mut listeners);
+    difference(alloc, story, status.number(), sink.bytes(), shelf)
+}
+
+/// Runs what the story asks for. Answers what differs, where something does.
+pub fn play(alloc: Global, story: &Story) -> Result<Option<Difference>, Fault> {
+    let mut shelf = shelf_of(alloc, story)?;
+    let mut source = source_of(alloc, story)?;
+    let mut sink = sink_of(alloc, story)?;
+    played(alloc, story, &mut shelf, &mut source, &mut sink)
 }

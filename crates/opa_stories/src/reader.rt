@@ -288,24 +288,40 @@ fn read_line<F: Shelf>(
     read_heading(alloc, shelf, reading, heading, rest.trim())
 }
 
-/// The story that a file's bytes tell.
-pub fn read_story<F: Shelf>(alloc: Global, shelf: &mut F, bytes: &[u8]) -> Result<Story, Fault> {
-    let mut reading = Reading {
-        story: Story::new(alloc),
-        part: Part::Nothing,
-    };
-    let Ok(text) = str::from_utf8(bytes) else {
-        return Err(Fault::Line(1));
-    };
+/// Reads the lines of a story, which must say what is printed.
+fn read_lines<F: Shelf>(
+    alloc: Global,
+    shelf: &mut F,
+    reading: &mut Reading,
+    text: &str,
+) -> Result<(), Fault> {
     let mut number = 0u64;
     for line in text.split('\n') {
         number = number.saturating_add(1);
-        if !read_line(alloc, shelf, &mut reading, line)? {
+        if !read_line(alloc, shelf, reading, line)? {
             return Err(Fault::Line(number));
         }
     }
     if reading.story.prints.is_none() {
         return Err(Fault::Line(0));
     }
-    Ok(reading.story)
+    Ok(())
+}
+
+/// The story that a file's bytes tell.
+pub fn read_story<F: Shelf>(alloc: Global, shelf: &mut F, bytes: &[u8]) -> Result<Story, Fault> {
+    let Ok(text) = str::from_utf8(bytes) else {
+        return Err(Fault::Line(1));
+    };
+    let mut reading = Reading {
+        story: Story::new(alloc),
+        part: Part::Nothing,
+    };
+    match read_lines(alloc, shelf, &mut reading, text) {
+        Ok(()) => Ok(reading.story),
+        Err(fault) => {
+            drop(reading);
+            Err(fault)
+        }
+    }
 }

@@ -47,10 +47,14 @@ pub(crate) fn check<F: Shelf, K: Sink>(
     ensures files { F.files shelf.new ≡ F.files shelf.old }
 {
     match load_rulebase(alloc, shelf, name) {
-        Ok(base) => match accepted_text(alloc, &base) {
-            Ok(text) => tell(Status::Done, out, text.as_str()),
-            Err(_) => Status::NoMemory,
-        },
+        Ok(base) => {
+            let text = accepted_text(alloc, &base);
+            drop(base);
+            match text {
+                Ok(text) => tell(Status::Done, out, text.as_str()),
+                Err(_) => Status::NoMemory,
+            }
+        }
         Err(error) => match error {
             LoadError::Refused { text, .. } => tell(Status::Refused, out, text.as_str()),
             LoadError::ReadFault => Status::ReadFault,

@@ -57,7 +57,11 @@ pub(crate) fn verify<F: Shelf, K: Sink>(
     ensures files { F.files shelf.new ≡ F.files shelf.old }
 {
     match load_rulebase(alloc, shelf, name) {
-        Ok(base) => judge_file(alloc, &base, report, shelf, out),
+        Ok(base) => {
+            let status = judge_file(alloc, &base, report, shelf, out);
+            drop(base);
+            status
+        }
         Err(error) => match error {
             LoadError::Refused { text, .. } => tell(Status::Refused, out, text.as_str()),
             LoadError::ReadFault => Status::ReadFault,

@@ -46,7 +46,9 @@ fn heard_twice(alloc: Global, session: &mut Session, fussy: bool) -> Result<Stri
 /// The same from the start.
 fn heard_from_the_start(alloc: Global, fussy: bool) -> Result<String, Fail> {
     let mut session = at_start(alloc, &[("main", texts::EXEMPT)])?;
-    heard_twice(alloc, &mut session, fussy)
+    let words = heard_twice(alloc, &mut session, fussy);
+    drop(session);
+    words
 }
 
 /// The second time no line changes, and nothing more is kept.

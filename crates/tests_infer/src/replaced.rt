@@ -30,7 +30,9 @@ fn answers_held_again(alloc: Global, session: &mut Session, line: &str) -> Resul
 /// The same from the start.
 fn household_again(alloc: Global, line: &str) -> Result<String, Fail> {
     let mut session = at_start(alloc, &texts::BENEFIT)?;
-    answers_held_again(alloc, &mut session, line)
+    let words = answers_held_again(alloc, &mut session, line);
+    drop(session);
+    words
 }
 
 /// A line that changes an income, one that changes nothing, and one after which nobody is there.

@@ -44,7 +44,9 @@ fn other_outcome_of(
     rows: &[(&str, &str)],
 ) -> Result<String, Fail> {
     let mut session = at_start(alloc, files)?;
-    other_outcome_from(alloc, &mut session, first, rows)
+    let other = other_outcome_from(alloc, &mut session, first, rows);
+    drop(session);
+    other
 }
 
 /// An answer that is given again reaches nothing.
@@ -168,7 +170,9 @@ fn other_of_a_household(alloc: Global, session: &mut Session) -> Result<String, 
 /// The same from the start.
 fn other_of_a_new_household(alloc: Global) -> Result<String, Fail> {
     let mut session = at_start(alloc, &texts::BENEFIT)?;
-    other_of_a_household(alloc, &mut session)
+    let other = other_of_a_household(alloc, &mut session);
+    drop(session);
+    other
 }
 
 #[test]

@@ -22,16 +22,27 @@ pub fn at_start(alloc: Global, files: &[(&str, &str)]) -> Result<Session, Fail> 
     Ok(started(alloc, base)?)
 }
 
-/// The session after lines of input, each of which prints nothing.
-pub fn after(alloc: Global, files: &[(&str, &str)], input: &[&str]) -> Result<Session, Fail> {
-    let mut session = at_start(alloc, files)?;
+/// Carries out lines of input, each of which prints nothing.
+fn carry_out_all(alloc: Global, session: &mut Session, input: &[&str]) -> Result<(), Fail> {
     for line in input {
-        let found = reply(alloc, &mut session, line)?;
+        let found = reply(alloc, session, line)?;
         if !found.is_empty() {
             return Err(Fail::new("a line is refused"));
         }
     }
-    Ok(session)
+    Ok(())
+}
+
+/// The session after lines of input, each of which prints nothing.
+pub fn after(alloc: Global, files: &[(&str, &str)], input: &[&str]) -> Result<Session, Fail> {
+    let mut session = at_start(alloc, files)?;
+    match carry_out_all(alloc, &mut session, input) {
+        Ok(()) => Ok(session),
+        Err(fail) => {
+            drop(session);
+            Err(fail)
+        }
+    }
 }
 
 /// What a line of input prints. The rulebase stays.

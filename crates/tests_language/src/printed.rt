@@ -116,7 +116,9 @@ fn printed(alloc: Global, base: &Rulebase) -> Result<Vec<u8>, NoMemory> {
 fn is_printed(alloc: Global, rule: &str, want: &str) -> Result<bool, Fail> {
     let text = format!(in alloc; "{DECLARED}{rule}")?;
     let base = load_text(alloc, text.as_str())?;
-    Ok(printed(alloc, &base)?.as_slice() == want.as_bytes())
+    let found = printed(alloc, &base);
+    drop(base);
+    Ok(found?.as_slice() == want.as_bytes())
 }
 
 /// The first rule that isn't printed as its row says, or whose text isn't printed as it stands.

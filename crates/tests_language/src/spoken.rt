@@ -57,7 +57,9 @@ fn attribute_elsewhere(
     rows: &[(&str, Option<u32>)],
 ) -> Result<Option<usize>, Fail> {
     let base = load_text(alloc, text)?;
-    Ok(other_attribute(&base.model, rows))
+    let other = other_attribute(&base.model, rows);
+    drop(base);
+    Ok(other)
 }
 
 fn relation_elsewhere(
@@ -66,7 +68,9 @@ fn relation_elsewhere(
     rows: &[(&str, Option<u32>)],
 ) -> Result<Option<usize>, Fail> {
     let base = load_text(alloc, text)?;
-    Ok(other_relation(&base.model, rows))
+    let other = other_relation(&base.model, rows);
+    drop(base);
+    Ok(other)
 }
 
 #[test]
@@ -162,7 +166,9 @@ fn other_forms(alloc: Global, model: &Model, rows: &[(&str, &str)]) -> Result<St
 /// The same of a rulebase that is loaded.
 fn other_sentences(alloc: Global, text: &str, rows: &[(&str, &str)]) -> Result<String, Fail> {
     let base = load_text(alloc, text)?;
-    other_forms(alloc, &base.model, rows)
+    let other = other_forms(alloc, &base.model, rows);
+    drop(base);
+    other
 }
 
 #[test]

@@ -109,7 +109,9 @@ fn concluded(
     kind: Kind,
 ) -> Result<String, Fail> {
     let session = after(alloc, files, input)?;
-    both_words(alloc, &session, phrase, kind)
+    let words = both_words(alloc, &session, phrase, kind);
+    drop(session);
+    words
 }
 
 /// Several examples, one behind the other in one line: a rule that is carried out day by day takes long.
@@ -202,7 +204,9 @@ fn coded(alloc: Global, session: &Session, phrase: &str) -> Result<String, Fail>
 /// The same after a line of input.
 fn coded_after(alloc: Global, text: &str, line: &str, phrase: &str) -> Result<String, Fail> {
     let session = after(alloc, &[("main", text)], &[line])?;
-    coded(alloc, &session, phrase)
+    let words = coded(alloc, &session, phrase);
+    drop(session);
+    words
 }
 
 #[test]
@@ -245,7 +249,9 @@ fn not_true_of_employed(alloc: Global) -> Result<String, Fail> {
     let text = forty_rules(alloc)?;
     let line = "answer the claimant is employed = true";
     let session = after(alloc, &[("main", text.as_str())], &[line])?;
-    first_not_true(alloc, &session)
+    let phrase = first_not_true(alloc, &session);
+    drop(session);
+    phrase
 }
 
 #[test]

@@ -41,11 +41,18 @@ fn long_answer(alloc: Global, model: &Model, count: u32) -> Result<ChangeCommand
     Ok(ChangeCommand::Answer(attr, inst, line))
 }
 
+/// Why a session refuses an answer of so many pairs.
+fn refused(alloc: Global, session: &mut Session, count: u32) -> Result<Option<Refusal>, Fail> {
+    let change = long_answer(alloc, &session.base().model, count)?;
+    Ok(made(alloc, session, change).err())
+}
+
 /// Why an answer of so many pairs is refused.
 fn refusal_of(alloc: Global, count: u32) -> Result<Option<Refusal>, Fail> {
     let mut session = after(alloc, &[("main", texts::CLAIMANT)], &[])?;
-    let change = long_answer(alloc, &session.base().model, count)?;
-    Ok(made(alloc, &mut session, change).err())
+    let refusal = refused(alloc, &mut session, count);
+    drop(session);
+    refusal
 }
 
 #[test]
@@ -69,12 +76,19 @@ fn no_names(alloc: Global, place: u32) -> Result<ChangeCommand, NoMemory> {
     Ok(ChangeCommand::SetList(RelId(place), inst, List::new(alloc)))
 }
 
-/// Whether the family's rulebase declares an attribute and a relation with this number.
-fn declares_both(alloc: Global, place: u32) -> Result<(bool, bool), Fail> {
-    let session = after(alloc, &[("main", texts::FAMILY)], &[])?;
+/// Whether a session declares an attribute and a relation with this number.
+fn declared(alloc: Global, session: &Session, place: u32) -> Result<(bool, bool), Fail> {
     let answer = withdrawal(alloc, place)?;
     let list = no_names(alloc, place)?;
     Ok((session.declares(&answer), session.declares(&list)))
+}
+
+/// The same of the family's rulebase.
+fn declares_both(alloc: Global, place: u32) -> Result<(bool, bool), Fail> {
+    let session = after(alloc, &[("main", texts::FAMILY)], &[])?;
+    let found = declared(alloc, &session, place);
+    drop(session);
+    found
 }
 
 #[test]
@@ -86,14 +100,27 @@ fn what_is_declared(rt: HostRuntime) -> Result<(), Fail> {
     Ok(())
 }
 
-/// Whether an attribute of Anna's family has a place at the instance of an entity with a name.
-fn has_place(alloc: Global, attr: u32, entity: u32, name: &str) -> Result<bool, Fail> {
-    let session = after(alloc, &[("main", texts::FAMILY)], &[ANNA])?;
+/// Whether an attribute has a place at the instance of an entity with a name.
+fn has_place(
+    alloc: Global,
+    session: &Session,
+    attr: u32,
+    entity: u32,
+    name: &str,
+) -> Result<bool, Fail> {
     let inst = InstanceId {
         entity: EntityId(entity),
         name: Txt::from_str(alloc, name)?,
     };
     Ok(session.has_place(AttrId(attr), &inst))
+}
+
+/// The same in Anna's family.
+fn has_place_there(alloc: Global, attr: u32, entity: u32, name: &str) -> Result<bool, Fail> {
+    let session = after(alloc, &[("main", texts::FAMILY)], &[ANNA])?;
+    let found = has_place(alloc, &session, attr, entity, name);
+    drop(session);
+    found
 }
 
 const ANNA: &str = "list the children = \"Anna\"";
@@ -107,7 +134,7 @@ fn places(rt: HostRuntime) -> Result<(), Fail> {
         (1, 0, "", false),
         (0, 1, "Anna", false),
     ] {
-        let found = has_place(rt.alloc(), attr, entity, name)?;
+        let found = has_place_there(rt.alloc(), attr, entity, name)?;
         assert_eq!(rt; found, want);
     }
     Ok(())

@@ -112,7 +112,9 @@ fn other_looks_after(
     rows: &[(&str, &str, &str)],
 ) -> Result<String, Fail> {
     let session = after(alloc, &texts::BENEFIT, input)?;
-    other_looks(alloc, &session, rows)
+    let other = other_looks(alloc, &session, rows);
+    drop(session);
+    other
 }
 
 const THREE_PEOPLE: &str = "list the people = \"Ada\", \"Bo\", \"Cy\"";

@@ -77,7 +77,9 @@ fn entitled_after(alloc: Global, adult: &str, veteran: &str, day: u32) -> Result
     requires { day < DAYS }
 {
     let session = claimant(alloc, adult, veteran)?;
-    entitled(alloc, &session, day)
+    let words = entitled(alloc, &session, day);
+    drop(session);
+    words
 }
 
 #[test]
@@ -153,7 +155,9 @@ fn told_parts(alloc: Global, session: &Session, day: u32) -> Result<String, Fail
 
 fn parts_after(alloc: Global, adult: &str, veteran: &str) -> Result<String, Fail> {
     let session = claimant(alloc, adult, veteran)?;
-    told_parts(alloc, &session, 154_893)
+    let words = told_parts(alloc, &session, 154_893);
+    drop(session);
+    words
 }
 
 #[test]

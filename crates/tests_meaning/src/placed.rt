@@ -43,7 +43,9 @@ fn place_after(
     entity: u32,
 ) -> Result<String, Fail> {
     let session = after(alloc, &[("main", text)], &[line])?;
-    place_name(alloc, session.case(), instances, entity)
+    let name = place_name(alloc, session.case(), instances, entity);
+    drop(session);
+    name
 }
 
 const AN_ADULT: &str = "answer the claimant is an adult = uncertain";

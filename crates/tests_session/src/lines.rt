@@ -167,14 +167,29 @@ fn first_other(
     Ok(None)
 }
 
+/// The same over a rulebase.
+fn first_other_over(
+    alloc: Global,
+    text: &str,
+    question: Option<&Question>,
+    rows: &[Row],
+) -> Result<Option<usize>, Fail> {
+    let base = load_text(alloc, text)?;
+    let other = first_other(alloc, &base.model, question, rows);
+    drop(base);
+    other
+}
+
 #[test]
 fn of_the_claimant(rt: HostRuntime) -> Result<(), Fail> {
     let alloc = rt.alloc();
-    let base = load_text(alloc, texts::CLAIMANT)?;
-    assert_eq!(rt; first_other(alloc, &base.model, None, &COMMANDS)?, None);
+    assert_eq!(rt;
+        first_other_over(alloc, texts::CLAIMANT, None, &COMMANDS)?,
+        None
+    );
     let question = Question::Attr(AttrId(1), InstanceId::global(alloc)?);
     assert_eq!(rt;
-        first_other(alloc, &base.model, Some(&question), &REPLIES)?,
+        first_other_over(alloc, texts::CLAIMANT, Some(&question), &REPLIES)?,
         None
     );
     Ok(())
@@ -183,10 +198,9 @@ fn of_the_claimant(rt: HostRuntime) -> Result<(), Fail> {
 #[test]
 fn of_the_children(rt: HostRuntime) -> Result<(), Fail> {
     let alloc = rt.alloc();
-    let base = load_text(alloc, texts::FAMILY)?;
     let question = Question::Members(RelId(0), InstanceId::global(alloc)?);
     assert_eq!(rt;
-        first_other(alloc, &base.model, Some(&question), &LISTED)?,
+        first_other_over(alloc, texts::FAMILY, Some(&question), &LISTED)?,
         None
     );
     Ok(())

@@ -13,12 +13,12 @@ pub returns-clause-all : goal.returns-clause-all
 returns-clause-all g c =
     talks_all c.args.base
     (outside g.F.Shelf.files g.F.Shelf.take_faults g.F.Shelf.keep_faults g.S.Source.left g.S.Source.faults g.K.Sink.written g.K.Sink.faults c.args.shelf.now c.args.input.now c.args.out.now)
-    (outside g.F.Shelf.files g.F.Shelf.take_faults g.F.Shelf.keep_faults g.S.Source.left g.S.Source.faults g.K.Sink.written g.K.Sink.faults c.converse.new.shelf c.converse.new.input c.converse.new.out)
-    _ _ (c.in_ok-caseload.ensures _) refl c.converse.result c.converse.ensures.ok
+    (outside g.F.Shelf.files g.F.Shelf.take_faults g.F.Shelf.keep_faults g.S.Source.left g.S.Source.faults g.K.Sink.written g.K.Sink.faults c.converse-end.new.shelf c.converse-end.new.input c.converse-end.new.out)
+    _ _ (c.in_ok-caseload.ensures _) refl c.converse-end.result c.converse-end.ensures.ok
 
 pub returns-clause-part : goal.returns-clause-part
 returns-clause-part g c =
     talks_part c.args.base
     (outside g.F.Shelf.files g.F.Shelf.take_faults g.F.Shelf.keep_faults g.S.Source.left g.S.Source.faults g.K.Sink.written g.K.Sink.faults c.args.shelf.now c.args.input.now c.args.out.now)
-    (outside g.F.Shelf.files g.F.Shelf.take_faults g.F.Shelf.keep_faults g.S.Source.left g.S.Source.faults g.K.Sink.written g.K.Sink.faults c.converse.new.shelf c.converse.new.input c.converse.new.out)
-    _ _ (c.in_ok-caseload.ensures _) refl c.converse.result c.converse.ensures.err
+    (outside g.F.Shelf.files g.F.Shelf.take_faults g.F.Shelf.keep_faults g.S.Source.left g.S.Source.faults g.K.Sink.written g.K.Sink.faults c.converse-end.new.shelf c.converse-end.new.input c.converse-end.new.out)
+    _ _ (c.in_ok-caseload.ensures _) refl c.converse-end.result c.converse-end.ensures.err

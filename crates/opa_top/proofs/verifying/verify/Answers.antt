@@ -9,8 +9,8 @@ use Rattle.opa_top.proofs.verifying.verify.Goals as goal
 pub returns-in-Ok-clause-verifies : goal.returns-in-Ok-clause-verifies
 returns-in-Ok-clause-verifies g c =
     Verifies.opens c.in-Ok.base c.in-Ok.ensures.accepted
-    (judged_later c.in-Ok.base (g.F.Shelf.files c.args.shelf.now) c.args.report.now _ _ (g.F.Shelf.take_faults c.args.shelf.now) (g.F.Shelf.take_faults c.load_rulebase.new.shelf) (g.F.Shelf.take_faults c.judge_file.new.shelf) _ _ _ c.in-Ok.ensures.later
-    (rw c.in-Ok.ensures.files at c.judge_file.ensures.judges))
+    (judged_later c.in-Ok.base (g.F.Shelf.files c.args.shelf.now) c.args.report.now _ _ (g.F.Shelf.take_faults c.args.shelf.now) (g.F.Shelf.take_faults c.load_rulebase.new.shelf) (g.F.Shelf.take_faults c.judge_file-status.new.shelf) _ _ _ c.in-Ok.ensures.later
+    (rw c.in-Ok.ensures.files at c.judge_file-status.ensures.judges))
 
 pub returns-in-Refused-clause-verifies : goal.returns-in-Refused-clause-verifies
 returns-in-Refused-clause-verifies g c =
