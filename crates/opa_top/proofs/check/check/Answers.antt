@@ -6,8 +6,8 @@ pub returns-in-Ok-text-clause-checks : goal.returns-in-Ok-text-clause-checks
 returns-in-Ok-text-clause-checks g c =
     tells_accepted (g.F.Shelf.files c.args.shelf.now) c.args.name.now _ _ _ _ _ _ c.in-Ok.base c.as_str.result.now c.tell.result c.in-Ok.ensures.accepted (c.as_str.ensures ∙ c.in-Ok-text.ensures) c.tell.ensures
 
-pub returns-in-Err-text-clause-checks : goal.returns-in-Err-text-clause-checks
-returns-in-Err-text-clause-checks g c = not_held (g.F.Shelf.files c.args.shelf.now) c.args.name.now _ _ _ _
+pub returns-in-Ok-clause-checks : goal.returns-in-Ok-clause-checks
+returns-in-Ok-clause-checks g c = not_held (g.F.Shelf.files c.args.shelf.now) c.args.name.now _ _ _ _
 
 pub returns-in-Refused-clause-checks : goal.returns-in-Refused-clause-checks
 returns-in-Refused-clause-checks g c =
