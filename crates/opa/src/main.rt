@@ -26,23 +26,28 @@ fn watch(alloc: Global) -> Result<Watch, NoMemory> {
     Ok(Watch::new(alloc, first))
 }
 
-/// Runs with a journal of all changes and a watch on the first declared attribute, and counts its steps on a ledger of its own.
-fn counted<L: Ledger>(rt: &HostRuntime, blank: Blank, words: &[String], watch: Watch) -> Status
+/// Adds those who listen: a journal of all changes, and a watch on the first declared attribute.
+fn add_listeners(alloc: Global, listeners: &mut Vec<Box<dyn Listener>>) -> Result<(), NoMemory> {
+    listeners.push(Box::new(alloc, Journal::new(alloc))?)?;
+    let watch = watch(alloc)?;
+    listeners.push(Box::new(alloc, watch)?)?;
+    Ok(())
+}
+
+/// Does what the words say, and counts its steps on a ledger of its own.
+fn counted<L: Ledger>(
+    rt: &HostRuntime,
+    blank: Blank,
+    words: &[String],
+    listeners: &mut Vec<Box<dyn Listener>>,
+) -> Status
     requires name { blank.name ≡ L.name }
     requires parts { blank.parts ≡ L.parts }
     requires some { 0 < blank.parts }
 {
     let mut steps: Steps<L> = Steps::open(blank);
-    let Ok(journal) = Box::new(rt.alloc(), Journal::new(rt.alloc())) else {
-        return Status::NoMemory;
-    };
-    let Ok(watch) = Box::new(rt.alloc(), watch) else {
-        return Status::NoMemory;
-    };
-    let mut listeners: Vec<Box<dyn Listener>> = Vec::new(rt.alloc());
-    if listeners.push(journal).is_err() || listeners.push(watch).is_err() {
-        return Status::NoMemory;
-    }
+    // The count shows that there are fewer than 2^64.
+    let _count = listeners.len();
     let mut shelf = FileShelf::new(rt);
     let mut input = StdSource::new(rt.stdin());
     let mut out = StdSink::new(rt.stdout());
@@ -52,18 +57,24 @@ fn counted<L: Ledger>(rt: &HostRuntime, blank: Blank, words: &[String], watch: W
         &mut shelf,
         &mut input,
         &mut out,
-        &mut listeners,
+        listeners,
         &mut steps,
     )
+}
+
+/// Does what the words say, with those who listen.
+fn heard(rt: &HostRuntime, words: &[String]) -> Status {
+    let mut listeners: Vec<Box<dyn Listener>> = Vec::new(rt.alloc());
+    match add_listeners(rt.alloc(), &mut listeners) {
+        Ok(()) => counted::<Brand>(rt, Blank::new(1), words, &mut listeners),
+        Err(NoMemory) => Status::NoMemory,
+    }
 }
 
 fn main(rt: HostRuntime) -> ExitCode {
     let Ok(words) = words(&rt) else {
         return ExitCode::from(Status::NoMemory.number());
     };
-    let Ok(watch) = watch(rt.alloc()) else {
-        return ExitCode::from(Status::NoMemory.number());
-    };
-    let status = counted::<Brand>(&rt, Blank::new(1), &words, watch);
+    let status = heard(&rt, &words);
     ExitCode::from(status.number())
 }
