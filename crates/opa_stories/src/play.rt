@@ -112,7 +112,7 @@ fn add_listeners(
 }
 
 /// What a run did otherwise than its story says.
-fn difference(
+fn what_differs(
     alloc: Global,
     story: &Story,
     status: u8,
@@ -172,7 +172,7 @@ fn played(
     add_listeners(alloc, story, &mut listeners)?;
     let blank = Blank::new(1);
     let status = counted::<Brand>(alloc, blank, story, shelf, source, sink, &mut listeners);
-    difference(alloc, story, status.number(), sink.bytes(), shelf)
+    what_differs(alloc, story, status.number(), sink.bytes(), shelf)
 }
 
 /// Runs what the story asks for. Answers what differs, where something does.
