@@ -1,4 +1,4 @@
 use Rattle.opa.proofs.heard.Given as goal
 
 abbrev pub ghosts-counted : goal.ghosts-counted
-ghosts-counted _ a = record { name = a.blank.name; parts = a.blank.parts }
+ghosts-counted a = record { name = a.blank.name; parts = a.blank.parts }
