@@ -26,14 +26,6 @@ fn watch(alloc: Global) -> Result<Watch, NoMemory> {
     Ok(Watch::new(alloc, first))
 }
 
-/// Adds those who listen: a journal of all changes, and a watch on the first declared attribute.
-fn add_listeners(alloc: Global, listeners: &mut Vec<Box<dyn Listener>>) -> Result<(), NoMemory> {
-    listeners.push(Box::new(alloc, Journal::new(alloc))?)?;
-    let watch = watch(alloc)?;
-    listeners.push(Box::new(alloc, watch)?)?;
-    Ok(())
-}
-
 /// Does what the words say, and counts its steps on a ledger of its own.
 fn counted<L: Ledger>(
     rt: &HostRuntime,
@@ -62,19 +54,20 @@ fn counted<L: Ledger>(
     )
 }
 
-/// Does what the words say, with those who listen.
-fn heard(rt: &HostRuntime, words: &[String]) -> Status {
-    let mut listeners: Vec<Box<dyn Listener>> = Vec::new(rt.alloc());
-    match add_listeners(rt.alloc(), &mut listeners) {
-        Ok(()) => counted::<Brand>(rt, Blank::new(1), words, &mut listeners),
-        Err(NoMemory) => Status::NoMemory,
-    }
+/// Does what the words say; a journal of all changes and a watch on the first declared attribute listen.
+fn heard(rt: &HostRuntime, words: &[String]) -> Result<Status, NoMemory> {
+    let alloc = rt.alloc();
+    let mut listeners: Vec<Box<dyn Listener>> = Vec::new(alloc);
+    listeners.push(Box::new(alloc, Journal::new(alloc))?)?;
+    let watch = watch(alloc)?;
+    listeners.push(Box::new(alloc, watch)?)?;
+    Ok(counted::<Brand>(rt, Blank::new(1), words, &mut listeners))
 }
 
 fn main(rt: HostRuntime) -> ExitCode {
     let Ok(words) = words(&rt) else {
         return ExitCode::from(Status::NoMemory.number());
     };
-    let status = heard(&rt, &words);
+    let status = heard(&rt, &words).unwrap_or(Status::NoMemory);
     ExitCode::from(status.number())
 }

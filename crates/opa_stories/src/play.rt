@@ -96,21 +96,6 @@ fn sink_of(alloc: Global, story: &Story) -> Result<MemSink, Fault> {
     Ok(MemSink::new(alloc, writes, story.written.max(1)))
 }
 
-/// Adds those who listen: a journal of all changes, a watch on one attribute, and one that wants memory.
-fn add_listeners(
-    alloc: Global,
-    story: &Story,
-    listeners: &mut Vec<Box<dyn Listener>>,
-) -> Result<(), Fault> {
-    listeners.push(Box::new(alloc, Journal::new(alloc))?)?;
-    let watch = watch(alloc, story.watched)?;
-    listeners.push(Box::new(alloc, watch)?)?;
-    if story.refuses > 0 {
-        listeners.push(Box::new(alloc, Fussy::new(alloc, story.refuses, 1))?)?;
-    }
-    Ok(())
-}
-
 /// What a run did otherwise than its story says.
 fn what_differs(
     alloc: Global,
@@ -160,7 +145,7 @@ fn counted<L: Ledger>(
     )
 }
 
-/// Plays a story on its shelf, over its input.
+/// Plays a story on its shelf, over its input. A journal of all changes, a watch on one attribute, and one that wants memory listen.
 fn played(
     alloc: Global,
     story: &Story,
@@ -169,7 +154,12 @@ fn played(
     sink: &mut MemSink,
 ) -> Result<Option<Difference>, Fault> {
     let mut listeners: Vec<Box<dyn Listener>> = Vec::new(alloc);
-    add_listeners(alloc, story, &mut listeners)?;
+    listeners.push(Box::new(alloc, Journal::new(alloc))?)?;
+    let watch = watch(alloc, story.watched)?;
+    listeners.push(Box::new(alloc, watch)?)?;
+    if story.refuses > 0 {
+        listeners.push(Box::new(alloc, Fussy::new(alloc, story.refuses, 1))?)?;
+    }
     let blank = Blank::new(1);
     let status = counted::<Brand>(alloc, blank, story, shelf, source, sink, &mut listeners);
     what_differs(alloc, story, status.number(), sink.bytes(), shelf)
