@@ -12,7 +12,7 @@ use Rattle.opa_reply.specs.Held.{Held}
 use Rattle.opa_rulebase.specs.Loading.{Opens}
 use Rattle.opa_decided.specs.Laws.{OneTranscript}
 use Rattle.opa_decided.specs.Opening.{OneOpening}
-use Rattle.opa_top.specs.Checking.{IsOpened, IsTold}
+use Rattle.opa_top.specs.Checking.{Checks, HasAnswered, IsOnlyCheck, IsOpened, IsTold, verdict, verdict_status}
 use Rattle.opa_top.specs.Running.{Manner, Outside, beginning, Leaves, SaysAll, Talks, Runs}
 use Rattle.opa_top.specs.Statuses.{WroteWhatever, IsOnly}
 use Rattle.opa_top.proofs.StatusLaws.{all_over}
@@ -64,3 +64,34 @@ module _ (way : Manner) (one_opening : OneOpening) (one_transcript : OneTranscri
   run_only s (Runs.refuses text o u told) = refusal_only s text o told
   run_only status.ReadFault (Runs.cannot_take rose u none) = tt
   run_only status.NoMemory (Runs.cannot_hold u none) = tt
+
+-- ---- a check
+
+-- a status that is no answer
+unanswered : {T : Type 0} (s : Status) → HasAnswered s → s ≡ status.WriteFault → T
+unanswered s (inl e) f = absurd (cc (e, f))
+unanswered s (inr e) f = absurd (cc (e, f))
+
+told_whole : (good s : Status) (text : List ℕ) (w w' : Option (List ℕ)) (b n : ℕ) → HasAnswered s → IsTold good text w w' b n s → (s ≡ good) × Appends w w' text
+told_whole good s text w w' b n ended (inl told) = told
+told_whole good s text w w' b n ended (inr told) = unanswered s ended told.0
+
+module _ (one_opening : OneOpening) (name : List ℕ) (w w' : Option (List ℕ)) (s : Status) where
+  only_opened : (opened : Result Rulebase (List ℕ)) → (s ≡ verdict_status opened) × Appends w w' (verdict opened) → (o : Option Files) → IfSome o (λ files. Opens files name opened)
+      → IfSome o (λ files. (other : Result Rulebase (List ℕ)) → Opens files name other → (s ≡ verdict_status other) × Appends w w' (verdict other))
+  only_opened opened wrote None o = tt
+  only_opened opened wrote (Some files) o = λ other also. subst (λ x. (s ≡ verdict_status x) × Appends w w' (verdict x)) (one_opening files name opened other o also) wrote
+
+pub check_only : OneOpening → (told : Option Files) (name : List ℕ) (w w' : Option (List ℕ)) (takes takes' writes writes' : ℕ) (s : Status) → Checks told name w w' takes takes' writes writes' s → IsOnlyCheck told name w w' s
+check_only one_opening told name w w' takes takes' writes writes' s (Checks.tells opened o said) = λ ended.
+    only_opened one_opening name w w' s opened (told_whole (verdict_status opened) s (verdict opened) w w' writes writes' ended said) told o
+check_only one_opening told name w w' takes takes' writes writes' status.ReadFault (Checks.cannot_take rose none) = λ ended. not_read ended
+  where
+    not_read : {T : Type 0} → HasAnswered status.ReadFault → T
+    not_read (inl e) = absurd (cc e)
+    not_read (inr e) = absurd (cc e)
+check_only one_opening told name w w' takes takes' writes writes' status.NoMemory (Checks.cannot_hold none) = λ ended. not_held ended
+  where
+    not_held : {T : Type 0} → HasAnswered status.NoMemory → T
+    not_held (inl e) = absurd (cc e)
+    not_held (inr e) = absurd (cc e)

@@ -3,7 +3,7 @@ use Rattle.std.proofs.Common.{ℕ, List}
 use Rattle.opa_io.specs.declared.fault.Status.{Status}
 use Rattle.opa_decided.specs.Laws.{OneTranscript}
 use Rattle.opa_decided.specs.Opening.{OneOpening}
-use Rattle.opa_top.specs.Promises.{Answers}
+use Rattle.opa_top.specs.Answering.{Answers}
 use Rattle.opa_top.specs.Running.{Manner, Outside, Runs}
 use Rattle.opa_top.proofs.OnlyLaws.{run_only}
 use Rattle.opa_top.proofs.StatusLaws.{run_wrote, run_left_off, run_cause, run_complete}

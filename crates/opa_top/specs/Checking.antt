@@ -36,3 +36,12 @@ pub data Checks (told : Option Files) (name : List ℕ) (written written' : Opti
       → Checks told name written written' takes takes' writes writes' result
   cannot_take : Rose takes takes' → Appends written written' [] → Checks told name written written' takes takes' writes writes' status.ReadFault
   cannot_hold : Appends written written' [] → Checks told name written written' takes takes' writes writes' status.NoMemory
+
+-- all that there was to write was written
+abbrev pub HasAnswered : Status → Type 0
+HasAnswered s = (s ≡ status.Done) ⊎ (s ≡ status.Refused)
+
+-- Nothing else could have been written: whatever the files open, what was written is what is told of it.
+abbrev pub IsOnlyCheck : Option Files → List ℕ → Option (List ℕ) → Option (List ℕ) → Status → Type 0
+IsOnlyCheck told name written written' result =
+    HasAnswered result → IfSome told (λ files. (opened : Result Rulebase (List ℕ)) → Opens files name opened → (result ≡ verdict_status opened) × Appends written written' (verdict opened))

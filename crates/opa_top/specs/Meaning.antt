@@ -5,9 +5,14 @@ use Rattle.opa_dirty.specs.Dirty.{SettledStays}
 use Rattle.opa_goals.specs.Laws.{StatesAreExact}
 use Rattle.opa_reply.specs.Interviews.{Tells, interview}
 use Rattle.opa_reply.specs.Replies.{Asks, conversation}
-use Rattle.opa_verified.specs.Laws.{ReportsAreVerified}
+use Rattle.opa_verified.specs.Laws.{OpenedIsModel, HeldIsPrintable, ReportsAreVerified}
 
 pub record Meaning : Type 0 where
+  -- What files open declares a model, and each case that is held over it in a run or an interview fits it, so that all that follows
+  -- holds of it.
+  pub opened : OpenedIsModel
+  pub held : HeldIsPrintable conversation
+  pub held_asked : HeldIsPrintable interview
   -- A value is the answer where there is no rule; else it is its rule's value over the values of what the rule mentions.
   pub determined : Determination
   -- A line that is shown is the one line of the values at every day.

@@ -9,12 +9,13 @@ use Rattle.opa_talk.specs.Transcript.{CutsAnywhere}
 use Rattle.opa_usage.specs.declared.reading.Mode.{Mode}
 use Rattle.opa_usage.specs.declared.reading.Mode.TheVariants as mode
 use Rattle.opa_usage.specs.Asked.{asked_of, report_of}
-use Rattle.opa_top.specs.Checking.{Checks}
+use Rattle.opa_top.specs.Checking.{Checks, IsOnlyCheck}
 use Rattle.opa_top.specs.Generating.{IsGenerated}
 use Rattle.opa_top.specs.Meaning.{Meaning}
-use Rattle.opa_top.specs.Running.{Manner, Outside, Runs, IsUnused, a_run, an_interview}
+use Rattle.opa_top.specs.Answering.{Answers}
+use Rattle.opa_top.specs.Running.{Outside, IsUnused, a_run, an_interview}
 use Rattle.opa_top.specs.Verifying.{Verifies}
-use Rattle.opa_top.specs.Statuses.{SaysUsage, Wrote, IsOnly, LeftOff, HasCause, Completes}
+use Rattle.opa_top.specs.Statuses.{SaysUsage}
 
 abbrev pub words_of : List (String Global) → List (List ℕ)
 words_of words = map (λ w. string_bytes w) words
@@ -23,28 +24,13 @@ words_of words = map (λ w. string_bytes w) words
 abbrev pub Asks : List (String Global) → Mode → List ℕ → Type 0
 Asks words m name = asked_of (words_of words) ≡ Some (m, name)
 
--- What is promised of lines that are answered in some manner over the rulebase of a name.
-pub record Answers (way : Manner) (name : List ℕ) (old new : Outside) (result : Status) : Type 0 where
-  -- It ran, as one relation between what the outside was, what it is, and the answer.
-  pub runs : Runs way name old new result
-  -- With Done the bytes written are the transcript of the input, with Refused the printed refusal, and else a front of these; the
-  -- files and the listeners are those that the lines leave, but for a name under which keeping a file failed.
-  pub wrote : Wrote way name old new result
-  -- Nothing else could have been written: files open one thing, and an input has one transcript.
-  pub only : IsOnly way name old new result
-  -- Where the source fails or the input is too long, the whole transcript of the whole lines was written.
-  pub left_off : LeftOff way name old new result
-  -- Each answer has its cause.
-  pub cause : HasCause way name old new result
-  -- Where nothing fails, what the files open decides.
-  pub complete : Completes name old new result
-
 -- What is promised of each run of the program.
 pub record Promises (words : List (String Global)) (old new : Outside) (result : Status) : Type 0 where
   -- Where the words are not those of a mode, the usage line is written, and nothing is read, kept or told.
   pub usage : asked_of (words_of words) ≡ None → SaysUsage old new result
   -- The mode `check` tells what the files open under the name, and reads, keeps and tells nothing.
   pub checked : (name : List ℕ) → Asks words mode.Check name → Checks old.files name old.written new.written old.takes new.takes old.writes new.writes result
+  pub only_checked : (name : List ℕ) → Asks words mode.Check name → IsOnlyCheck old.files name old.written new.written result
   pub unused : (name : List ℕ) → Asks words mode.Check name → IsUnused old new
   -- The mode `verify` tells whether the report in a file holds up its value; it reads, keeps and tells nothing else.
   pub verified : (name report : List ℕ) → Asks words mode.Verify name → report_of (words_of words) ≡ Some report → Verifies old.files name report old.written new.written old.takes new.takes old.writes new.writes result
@@ -54,7 +40,8 @@ pub record Promises (words : List (String Global)) (old new : Outside) (result :
   pub read_all : (name : List ℕ) → Asks words mode.Run name → result ≡ status.Done → IsAtEnd new.left
   -- In the mode `interview` each line replies to what is asked, until every goal is known at every day.
   pub interview : (name : List ℕ) → Asks words mode.Interview name → Answers an_interview name old new result
-  -- The mode `generate` has the transcript of a generated rulebase and its input; the files and the input are as they were.
+  -- The mode `generate` has the transcript of a generated rulebase and its input; the files and the input are as they were. Reading
+  -- never fails there, and writing fails only where the sink that is written to does.
   pub generated : (number : List ℕ) → Asks words mode.Generate number → IsGenerated number old new result
   -- An input may be cut at any line feed: the replies to the rest go on from what the first part leaves.
   pub parts : CutsAnywhere a_run.rule

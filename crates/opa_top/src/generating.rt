@@ -2,12 +2,14 @@
 ghost use Rattle.std.specs.Prelude.{◌≡◌, ◌≤◌, ◌<◌, ◌^◌, List, ℕ, Some, length, map, codes, IfOk, MatchOption};
 ghost use Rattle.opa_listen.specs.Hearing.{hearer};
 ghost use Rattle.opa_script.specs.Examples.{rules_text, input_text};
-ghost use Rattle.opa_top.specs.Generating.{IsGenerated, IsNoSize, IsSize, Generates, generated_files, generated_name};
-ghost use Rattle.opa_top.specs.Running.{outside, Runs, a_run};
+ghost use Rattle.opa_top.specs.Generating.{IsGenerated, IsNoSize, IsSize, Generates, generated_files, unless_lacking as meant};
+ghost use Rattle.opa_top.specs.Running.{outside};
 
 use crate::check::tell;
+use crate::example::{ExampleInput, ExampleShelf};
 use crate::talk::open_and_talk;
-use opa_io::{MemShelf, MemSource, NoMemory, Shelf, Sink, Source, Status, Steps};
+use opa_decided::{one_opening, one_transcript};
+use opa_io::{MemShelf, NoMemory, Shelf, Sink, Source, Status, Steps};
 use opa_listen::Listener;
 use opa_script::generate;
 use opa_value::Number;
@@ -16,9 +18,6 @@ use std::sync::ledger::Ledger;
 
 /// The name of the generated rulebase.
 const NAME: &str = "generated.txt";
-
-/// How many bytes are read at once.
-const PIECE: usize = 4_096;
 
 /// How many people a number asks for, where it is from 1 to 1,000.
 fn size_of(number: &str) -> Option<u32>
@@ -35,38 +34,39 @@ fn size_of(number: &str) -> Option<u32>
 }
 
 /// The generated rulebase on a shelf in memory.
-fn shelf_of(alloc: Global, rules: &str) -> Result<MemShelf, NoMemory>
+fn shelf_of(alloc: Global, rules: &str) -> Result<ExampleShelf, NoMemory>
     requires { rules.now ≡ rules_text }
-    ensures files { IfOk result (λ s. ⟦<MemShelf as Shelf>⟧.files s ≡ Some generated_files) }
+    ensures files { IfOk result (λ s. ⟦<ExampleShelf as Shelf>⟧.files s ≡ Some generated_files) }
 {
     let mut files = Vec::new(alloc);
     let name = String::from_str(alloc, NAME)?;
     let bytes = rules.as_bytes().to_vec(alloc)?;
     files.push((name, bytes))?;
-    Ok(MemShelf::new(alloc, files, Vec::new(alloc), Vec::new(alloc)))
+    let shelf = MemShelf::new(alloc, files, Vec::new(alloc), Vec::new(alloc));
+    Ok(ExampleShelf::new(shelf))
 }
 
 /// An input in memory.
-fn input_of(alloc: Global, input: &str) -> Result<MemSource, NoMemory>
-    ensures { IfOk result (λ s. ⟦<MemSource as Source>⟧.left s ≡ Some input.now) }
+fn input_of(alloc: Global, input: &str) -> Result<ExampleInput, NoMemory>
+    ensures { IfOk result (λ s. ⟦<ExampleInput as Source>⟧.left s ≡ Some input.now) }
 {
     let bytes = input.as_bytes().to_vec(alloc)?;
-    Ok(MemSource::new(bytes, Vec::new(alloc), PIECE))
+    Ok(ExampleInput::new(bytes))
 }
 
 /// A generated rulebase on its shelf, and the input for it.
 #[derive(Drop)]
 struct Example {
-    shelf: MemShelf,
-    input: MemSource,
+    shelf: ExampleShelf,
+    input: ExampleInput,
 }
 
 /// The generated rulebase, and the input of so many people.
 fn make_example(alloc: Global, size: u32) -> Result<Example, NoMemory>
     requires least { 1 ≤ size }
     requires most { size ≤ 1000 }
-    ensures files { IfOk result (λ m. ⟦<MemShelf as Shelf>⟧.files m.shelf ≡ Some generated_files) }
-    ensures input { IfOk result (λ m. ⟦<MemSource as Source>⟧.left m.input ≡ Some (input_text 1 size)) }
+    ensures files { IfOk result (λ m. ⟦<ExampleShelf as Shelf>⟧.files m.shelf ≡ Some generated_files) }
+    ensures input { IfOk result (λ m. ⟦<ExampleInput as Source>⟧.left m.input ≡ Some (input_text 1 size)) }
 {
     let made = generate(alloc, 1, size)?;
     let shelf = shelf_of(alloc, made.rules.as_str())?;
@@ -96,7 +96,20 @@ fn talk_over<S: Source, F: Shelf, K: Sink, L: Ledger>(
     };
     let mut rules = found.shelf;
     let mut lines = found.input;
-    open_and_talk(alloc, NAME, &mut rules, listeners, steps, &mut lines, out)
+    one_opening();
+    one_transcript();
+    let status = open_and_talk(alloc, NAME, &mut rules, listeners, steps, &mut lines, out);
+    unless_lacking(status, rules.has_lacked())
+}
+
+/// How it ended; where memory ran out while a file was kept, that is why nothing could be written.
+fn unless_lacking(status: Status, has_lacked: bool) -> Status
+    ensures { result ≡ meant status has_lacked }
+{
+    match status {
+        Status::WriteFault if has_lacked => Status::NoMemory,
+        other => other,
+    }
 }
 
 /// The transcript of the generated rulebase and its input, or the refusal of a number.

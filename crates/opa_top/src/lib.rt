@@ -3,6 +3,7 @@
 
 mod asking;
 mod check;
+mod example;
 mod generating;
 mod meaning;
 mod talk;

@@ -4,12 +4,14 @@ ghost use Rattle.opa_top.specs.Meaning.{Meaning};
 use opa_dirty::settled_stays;
 use opa_goals::states_are_exact;
 use opa_mean::{asked, determination, finished, line_is_one, relevant, supported};
-use opa_verified::reports_are_verified;
+use opa_verified::{held_is_printable, opened_is_printable, reports_are_verified};
 
 /// The laws of the words that transcripts are made of.
 pub(crate) fn shown_is_meant()
     ensures { Meaning }
 {
+    opened_is_printable();
+    held_is_printable();
     determination();
     line_is_one();
     states_are_exact();

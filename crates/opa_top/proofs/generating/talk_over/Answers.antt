@@ -1,4 +1,8 @@
 use Rattle.std.proofs.Common.{refl, inr}
+use Rattle.opa_top.specs.Generating.{generated_name}
+use Rattle.opa_top.specs.Running.{a_run}
+use Rattle.opa_top.proofs.GenerateLaws.{answers_example, none_rose}
+use Rattle.opa_top.proofs.PromiseLaws.{answers}
 use Rattle.opa_top.proofs.generating.talk_over.Goals as goal
 
 pub returns : goal.returns
@@ -8,6 +12,8 @@ returns g c = inr (
   record {
     files = c.in-Ok.ensures.files;
     input = c.in-Ok.ensures.input;
+    takes = none_rose 0 0 refl;
+    reads = none_rose 0 0 refl;
     written_before = refl;
     written_after = refl;
     hearers_before = refl;
@@ -19,5 +25,8 @@ returns g c = inr (
     kept = refl;
     unread = refl;
   },
-  c.open_and_talk.ensures,
+  answers_example _ _ c.open_and_talk.result c.unless_lacking.result c.has_lacked.result
+      (answers a_run c.one_opening.ensures c.one_transcript.ensures.run generated_name _ _ c.open_and_talk.result c.open_and_talk.ensures)
+      (λ none rose. none_rose _ _ (c.has_lacked.ensures none) rose)
+      c.unless_lacking.ensures,
 )

@@ -1,5 +1,6 @@
 use Rattle.opa_talk.proofs.TranscriptLaws.{cuts_anywhere}
 use Rattle.opa_top.specs.Running.{a_run, an_interview}
+use Rattle.opa_top.proofs.OnlyLaws.{check_only}
 use Rattle.opa_top.proofs.PromiseLaws.{answers}
 use Rattle.opa_top.proofs.TalkLaws.{run_reads_all}
 use Rattle.opa_top.proofs.top.run.Goals as goal
@@ -9,6 +10,7 @@ returns g c = record {
   promises = record {
     usage = c.run_words.ensures.usage;
     checked = c.run_words.ensures.checked;
+    only_checked = λ name asks. check_only c.one_opening.ensures _ name _ _ _ _ _ _ c.run_words.result (c.run_words.ensures.checked name asks);
     unused = c.run_words.ensures.unused;
     verified = c.run_words.ensures.verified;
     still = c.run_words.ensures.still;
