@@ -13,7 +13,7 @@ use Rattle.opa_talk.proofs.StatusLaws.{all_read, calm_is_done, first_among, unre
 use Rattle.opa_talk.proofs.TranscriptLaws.{cuts_anywhere}
 use Rattle.opa_tree.specs.declared.rulebase.Rulebase.{Rulebase}
 use Rattle.opa_cases.specs.Caseload.{caseload, Lacks, Stops, at_first}
-use Rattle.opa_cases.specs.Serving.{IsOpened, counts, SaysAll, SaysFront, SaysWhole, Talks, Ran}
+use Rattle.opa_cases.specs.Serving.{IsOfSink, IsOpened, counts, SaysAll, SaysFront, SaysWhole, Talks, Ran}
 use Rattle.opa_cases.specs.Statuses.{WroteRefusal, WroteFront, Wrote, WroteLines, LeftOff, OpensBase, OpensRefusal, HasCause, status_of}
 use Rattle.opa_cases.specs.Promises.{Promises}
 use Rattle.opa_cases.proofs.Alone.{alone}
@@ -93,7 +93,7 @@ module _ (name : List ℕ) (old new : Outside) where
   told_refusal s text o u (inr h) = subst (Wrote name old new) (sym h.0) (wrote_refused text o u h.2)
 
   wrote : (s : Status) → Ran name old new s → Wrote name old new s
-  wrote s (Ran.talks base m o f t) = talked s base o t
+  wrote s (Ran.talks base m o f t w) = talked s base o t
   wrote s (Ran.refuses text o u told) = told_refusal s text o u told
   wrote status.ReadFault (Ran.cannot_take rose u none) = wrote_nothing u none
   wrote status.NoMemory (Ran.cannot_hold u none) = wrote_nothing u none
@@ -119,35 +119,35 @@ module _ (name : List ℕ) (old new : Outside) where
   refusal_left_off s text (inr h) = subst (LeftOff name old new) (sym h.0) tt
 
   left_off : (s : Status) → Ran name old new s → LeftOff name old new s
-  left_off s (Ran.talks base m o f t) = talk_left_off s base o t
+  left_off s (Ran.talks base m o f t w) = talk_left_off s base o t
   left_off s (Ran.refuses text o u told) = refusal_left_off s text told
   left_off status.ReadFault (Ran.cannot_take rose u none) = λ calm. absurd (calm rose)
   left_off status.NoMemory (Ran.cannot_hold u none) = tt
 
   -- ---- causes
 
-  talk_cause : (s : Status) (base : Rulebase) → IsOpened old.files name (Ok base) → Talks base old new s → HasCause name old new s
-  talk_cause status.Done base o (read, took, few, h) = (opens_base base o, h.0, (read, took, few))
-  talk_cause status.Refused base o t = absurd t
-  talk_cause status.Usage base o t = absurd t
-  talk_cause status.ReadFault base o (read, took, few, inl h) = (inr h.0, (read, took, few))
-  talk_cause status.ReadFault base o (read, took, few, inr h) = (inl h.0, (read, took, few))
-  talk_cause status.WriteFault base o (read, took, few, (why, says)) = (why, (read, took, few))
-  talk_cause status.NoMemory base o (read, took, few, says) = (read, took, few)
-  talk_cause status.InputLimit base o (read, took, many, says) = (opens_base base o, (read, took, many))
+  talk_cause : (s : Status) (base : Rulebase) → IsOpened old.files name (Ok base) → Talks base old new s → IsOfSink old new s → HasCause name old new s
+  talk_cause status.Done base o (read, took, few, h) w = (opens_base base o, h.0, (read, took, few))
+  talk_cause status.Refused base o t w = absurd t
+  talk_cause status.Usage base o t w = absurd t
+  talk_cause status.ReadFault base o (read, took, few, inl h) w = (inr h.0, (read, took, few))
+  talk_cause status.ReadFault base o (read, took, few, inr h) w = (inl h.0, (read, took, few))
+  talk_cause status.WriteFault base o (read, took, few, (why, says)) w = (w refl, (read, took, few))
+  talk_cause status.NoMemory base o (read, took, few, says) w = (read, took, few)
+  talk_cause status.InputLimit base o (read, took, many, says) w = (opens_base base o, (read, took, many))
 
   refusal_cause : (s : Status) (text : List ℕ) → IsOpened old.files name (Err text) → IsUnused old new → IsTold status.Refused text old.written new.written old.writes new.writes s → HasCause name old new s
   refusal_cause s text o u (inl h) = subst (HasCause name old new) (sym h.0) (opens_refusal text o, u)
-  refusal_cause s text o u (inr h) = subst (HasCause name old new) (sym h.0) (inl h.1, none_read u)
+  refusal_cause s text o u (inr h) = subst (HasCause name old new) (sym h.0) (h.1, none_read u)
 
   cause : (s : Status) → Ran name old new s → HasCause name old new s
-  cause s (Ran.talks base m o f t) = talk_cause s base o t
+  cause s (Ran.talks base m o f t w) = talk_cause s base o t w
   cause s (Ran.refuses text o u told) = refusal_cause s text o u told
   cause status.ReadFault (Ran.cannot_take rose u none) = (inl rose, none_read u)
   cause status.NoMemory (Ran.cannot_hold u none) = none_read u
 
   files_stay : (s : Status) → Ran name old new s → new.files ≡ old.files
-  files_stay s (Ran.talks base m o f t) = f
+  files_stay s (Ran.talks base m o f t w) = f
   files_stay s (Ran.refuses text o u told) = u.files
   files_stay status.ReadFault (Ran.cannot_take rose u none) = u.files
   files_stay status.NoMemory (Ran.cannot_hold u none) = u.files
@@ -171,7 +171,7 @@ module _ (name : List ℕ) (files : Files) (bytes : List ℕ) (old new : Outside
   opened r f o = let Q : Option Files → Type 0 = λ t. IsOpened t name r in subst Q f o
 
   decided : (s : Status) → old.files ≡ Some files → old.left ≡ Some bytes → Ran name old new s → s ≢ status.NoMemory → Decided s
-  decided s f l (Ran.talks base m o k t) some = talk_decided s base l (opened (Ok base) f o) t some
+  decided s f l (Ran.talks base m o k t w) some = talk_decided s base l (opened (Ok base) f o) t some
   decided s f l (Ran.refuses text o u told) some = refusal_decided s text (opened (Err text) f o) told
   decided status.ReadFault f l (Ran.cannot_take rose u none) some = absurd (calm.take rose)
   decided status.NoMemory f l (Ran.cannot_hold u none) some = absurd (some refl)

@@ -1,6 +1,6 @@
 -- How a caseload ends, from what its parts ensure.
 use Rattle.std.proofs.Common.{◌≡◌, ◌≤◌, inl, inr, ℕ, true, false, List, [], ◌∷◌, Result, Ok, Err, OnOk, IfErr, refl, subst, ap, ◌∙◌}
-use Rattle.std.specs.Prelude.{Option}
+use Rattle.std.specs.Prelude.{Option, ◌≢◌}
 use Rattle.opa_outside.specs.Outside.{MOST, Outside}
 use Rattle.std.specs.Io.KnownBytes.{IsAtEnd}
 use Rattle.opa_talk.specs.declared.halt.Halt.{Halt}
@@ -12,7 +12,10 @@ use Rattle.opa_talk.proofs.EndLaws.{halts_memory}
 use Rattle.opa_talk.proofs.StatusLaws.{halts_end}
 use Rattle.opa_tree.specs.declared.rulebase.Rulebase.{Rulebase}
 use Rattle.opa_cases.specs.Caseload.{Held, caseload, Lacks, Stops, RepliesLine, RepliesNamed, at_first}
-use Rattle.opa_cases.specs.Serving.{counts, SaysAll, SaysFront, SaysWhole, Talks, TalksAll, TalksPart}
+use Rattle.opa_io.specs.Outside.{Rose}
+use Rattle.opa_io.specs.declared.fault.Status.{Status}
+use Rattle.opa_io.specs.declared.fault.Status.TheVariants as status
+use Rattle.opa_cases.specs.Serving.{counts, IsOfSink, SaysAll, SaysFront, SaysWhole, Talks, TalksAll, TalksPart, unkept}
 
 module _ (base : Rulebase) (old new : Outside) (s s' : Held) (is : s ≡ at_first base old.files) (files : new.files ≡ s'.files) where
   pub talks_all : {E : Type 0} (r : Result (Unit {0}) E) → OnOk r (Converses caseload s s' MOST old.left new.left old.written new.written) → OnOk r (TalksAll base old new)
@@ -26,6 +29,56 @@ module _ (base : Rulebase) (old new : Outside) (s s' : Held) (is : s ≡ at_firs
 -- memory ran out before the first line
 pub talks_not : (base : Rulebase) (old : Outside) → TalksPart base old old halt.Memory
 talks_not base old = (at_first base old.files, halts_memory caseload (MayLeave old.keeps old.keeps Stops Lacks) (at_first base old.files) MOST old.left old.written, refl)
+
+-- ---- no file is kept
+
+module _ (base : Rulebase) (old new : Outside) where
+  pub unkept_all : (r : Result (Unit {0}) Halt) → OnOk r (TalksAll base old new) → OnOk (unkept r) (TalksAll base old new)
+  unkept_all (Ok u) h = h
+  unkept_all (Err halt.Input) h = tt
+  unkept_all (Err halt.Output) h = tt
+  unkept_all (Err halt.Take) h = tt
+  unkept_all (Err halt.Keep) h = tt
+  unkept_all (Err halt.Memory) h = tt
+  unkept_all (Err halt.Limit) h = tt
+
+  pub unkept_part : (r : Result (Unit {0}) Halt) → IfErr r (TalksPart base old new) → IfErr (unkept r) (TalksPart base old new)
+  unkept_part (Ok u) h = tt
+  unkept_part (Err halt.Input) h = h
+  unkept_part (Err halt.Output) h = h
+  unkept_part (Err halt.Take) h = h
+  unkept_part (Err halt.Keep) h = h
+  unkept_part (Err halt.Memory) h = h
+  unkept_part (Err halt.Limit) h = h
+
+pub unkept_cause : (take take' keep keep' output output' input input' : ℕ) (r : Result (Unit {0}) Halt) → IfErr r (IsCause take take' keep keep' output output' input input')
+    → IfErr (unkept r) (IsCause take take' keep keep' output output' input input')
+unkept_cause take take' keep keep' output output' input input' (Ok u) h = tt
+unkept_cause take take' keep keep' output output' input input' (Err halt.Input) h = h
+unkept_cause take take' keep keep' output output' input input' (Err halt.Output) h = h
+unkept_cause take take' keep keep' output output' input input' (Err halt.Take) h = h
+unkept_cause take take' keep keep' output output' input input' (Err halt.Keep) h = tt
+unkept_cause take take' keep keep' output output' input input' (Err halt.Memory) h = h
+unkept_cause take take' keep keep' output output' input input' (Err halt.Limit) h = h
+
+pub not_kept : (r : Result (Unit {0}) Halt) → unkept r ≢ Err halt.Keep
+not_kept (Ok u) e = cc e
+not_kept (Err halt.Input) e = cc e
+not_kept (Err halt.Output) e = cc e
+not_kept (Err halt.Take) e = cc e
+not_kept (Err halt.Keep) e = cc e
+not_kept (Err halt.Memory) e = cc e
+not_kept (Err halt.Limit) e = cc e
+
+-- where nothing could be written, the sink failed
+pub of_sink : (old new : Outside) (mid : ℕ) (r : Result (Unit {0}) Halt) → r ≢ Err halt.Keep → IfErr r (IsCause mid new.takes old.keeps new.keeps old.writes new.writes old.reads new.reads) → IsOfSink old new (end_of r)
+of_sink old new mid (Ok u) kept cause e = absurd (cc e)
+of_sink old new mid (Err halt.Input) kept cause e = absurd (cc e)
+of_sink old new mid (Err halt.Output) kept cause e = cause
+of_sink old new mid (Err halt.Take) kept cause e = absurd (cc e)
+of_sink old new mid (Err halt.Keep) kept cause e = absurd (kept refl)
+of_sink old new mid (Err halt.Memory) kept cause e = absurd (cc e)
+of_sink old new mid (Err halt.Limit) kept cause e = absurd (cc e)
 
 -- ---- the files stay
 

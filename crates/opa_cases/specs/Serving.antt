@@ -9,6 +9,7 @@ use Rattle.opa_outside.specs.Outside.{MOST, Outside, IsUnused, IsSilent}
 use Rattle.opa_outside.specs.Telling.{IsTold}
 use Rattle.opa_rulebase.specs.Loading.{Opens}
 use Rattle.opa_talk.specs.declared.halt.Halt.{Halt}
+use Rattle.opa_talk.specs.declared.halt.Halt.TheVariants as halt
 use Rattle.opa_talk.specs.Ended.{Counts, Ends}
 use Rattle.opa_talk.specs.Lines.{input_lines, IsWhole}
 use Rattle.opa_talk.specs.Transcript.{IsTranscript}
@@ -51,10 +52,14 @@ module _ (base : Rulebase) (old new : Outside) where
   abbrev pub Talks : Status → Type 0
   Talks = Ends MOST old.left new.left (counts old) (counts new) (λ read. IsAtEnd new.left × SaysAll read) SaysWhole SaysFront
 
+-- nothing could be written, since the sink failed
+abbrev pub IsOfSink : Outside → Outside → Status → Type 0
+IsOfSink old new result = result ≡ status.WriteFault → Rose old.writes new.writes
+
 -- A caseload over what the name opens: the rulebase is accepted, and the lines of the input are carried out; or it is refused,
 -- which is printed; or nothing was loaded, for a fault of the shelf or for want of memory.
 pub data Ran (name : List ℕ) (old new : Outside) : Status → Type 0 where
-  talks : {result : Status} (base : Rulebase) → IsModel base.model → IsOpened old.files name (Ok base) → new.files ≡ old.files → Talks base old new result → Ran name old new result
+  talks : {result : Status} (base : Rulebase) → IsModel base.model → IsOpened old.files name (Ok base) → new.files ≡ old.files → Talks base old new result → IsOfSink old new result → Ran name old new result
   refuses : {result : Status} (text : List ℕ) → IsOpened old.files name (Err text) → IsUnused old new → IsTold status.Refused text old.written new.written old.writes new.writes result → Ran name old new result
   cannot_take : Rose old.takes new.takes → IsUnused old new → IsSilent old new → Ran name old new status.ReadFault
   cannot_hold : IsUnused old new → IsSilent old new → Ran name old new status.NoMemory
@@ -68,3 +73,13 @@ TalksAll base old new = (y : Held) × Converses caseload (at_first base old.file
 -- some of the input was read, and the talk halts there
 abbrev pub TalksPart : Rulebase → Outside → Outside → Halt → Type 0
 TalksPart base old new halt = (y : Held) × Halts caseload (MayLeave old.keeps new.keeps Stops Lacks) (at_first base old.files) y MOST old.left new.left old.written new.written halt × (new.files ≡ y.files)
+
+-- how a talk ended in which no file is kept
+abbrev pub unkept : Result (Unit {0}) Halt → Result (Unit {0}) Halt
+unkept (Ok u) = Ok u
+unkept (Err halt.Input) = Err halt.Input
+unkept (Err halt.Output) = Err halt.Output
+unkept (Err halt.Take) = Err halt.Take
+unkept (Err halt.Keep) = Err halt.Memory
+unkept (Err halt.Memory) = Err halt.Memory
+unkept (Err halt.Limit) = Err halt.Limit

@@ -67,7 +67,7 @@ module _ (name : List ℕ) (old new : Outside) where
   HasCause status.Refused = OpensRefusal × IsUnused old new
   HasCause status.Usage = ⊥
   HasCause status.ReadFault = (Rose old.takes new.takes ⊎ Rose old.reads new.reads) × ReadAtMost old new MOST
-  HasCause status.WriteFault = (Rose old.writes new.writes ⊎ Rose old.keeps new.keeps) × ReadAtMost old new MOST
+  HasCause status.WriteFault = Rose old.writes new.writes × ReadAtMost old new MOST
   HasCause status.NoMemory = ReadAtMost old new MOST
   HasCause status.InputLimit = OpensBase × ReadExactly old new (MOST + 1)
 

@@ -1,9 +1,10 @@
 // A rulebase is loaded, and the lines of the input are carried out over it.
-ghost use Rattle.std.specs.Prelude.{IfErr, OnOk};
+ghost use Rattle.std.specs.Prelude.{◌≡◌, ◌≢◌, Err, IfErr, OnOk};
 ghost use Rattle.opa_model.specs.Models.{IsModel};
 ghost use Rattle.opa_outside.specs.Outside.{outside};
 ghost use Rattle.opa_talk.specs.Halt.{IsCause};
-ghost use Rattle.opa_cases.specs.Serving.{Ran, TalksAll, TalksPart};
+ghost use Rattle.opa_talk.specs.declared.halt.Halt.TheVariants as halt;
+ghost use Rattle.opa_cases.specs.Serving.{Ran, TalksAll, TalksPart, unkept as meant};
 
 use crate::caseload::Caseload;
 use opa_io::{Shelf, Sink, Source, Status, Steps};
@@ -31,12 +32,23 @@ fn talk<S: Source, F: Shelf, K: Sink, L: Ledger>(
         (outside F.files F.take_faults F.keep_faults S.left S.faults K.written K.faults shelf.old input.old out.old)
         (outside F.files F.take_faults F.keep_faults S.left S.faults K.written K.faults shelf.new input.new out.new)) }
     ensures cause { IfErr result (IsCause (F.take_faults shelf.old) (F.take_faults shelf.new) (F.keep_faults shelf.old) (F.keep_faults shelf.new) (K.faults out.old) (K.faults out.new) (S.faults input.old) (S.faults input.new)) }
+    ensures kept { result ≢ Err halt.Keep }
 {
     let mut caseload = Caseload::start(alloc, base, steps)?;
     let mut nobody: Vec<Box<dyn Listener>> = Vec::new(alloc);
     let end = converse(alloc, &mut caseload, shelf, &mut nobody, steps, input, out);
     drop(caseload);
-    end
+    unkept(end)
+}
+
+/// How it ended: since no line keeps a file, nothing halts for one.
+fn unkept(end: Result<(), Halt>) -> Result<(), Halt>
+    ensures { result ≡ meant end }
+{
+    match end {
+        Err(Halt::Keep) => Err(Halt::Memory),
+        other => other,
+    }
 }
 
 /// What a rulebase declares is a model.

@@ -4,7 +4,7 @@ use Rattle.opa_outside.specs.Outside.{outside}
 use Rattle.opa_rulebase.specs.Loading.{HasLoadError}
 use Rattle.opa_cases.specs.Serving.{Ran}
 use Rattle.opa_cases.proofs.OpenedLaws.{refusal_opened}
-use Rattle.opa_cases.proofs.TalkLaws.{fed, fed_files}
+use Rattle.opa_cases.proofs.TalkLaws.{fed, fed_files, of_sink}
 use Rattle.opa_cases.proofs.serving.open_and_serve.Goals as goal
 
 pub returns-in-Ok : goal.returns-in-Ok
@@ -15,7 +15,8 @@ returns-in-Ok g c =
     let all = rw c.in-Ok.ensures.files at c.talk.ensures.all in
     let part = rw (c.in-Ok.ensures.files, c.in-Ok.ensures.kept) at c.talk.ensures.part in
     rw c.end_of.ensures (Ran.talks base c.declares_a_model.ensures c.in-Ok.ensures.accepted (fed_files base old new c.talk.result all part)
-    (fed base old new (g.F.Shelf.take_faults c.load_rulebase.new.shelf) c.in-Ok.ensures.later c.talk.result all part (rw c.in-Ok.ensures.kept at c.talk.ensures.cause)))
+    (fed base old new (g.F.Shelf.take_faults c.load_rulebase.new.shelf) c.in-Ok.ensures.later c.talk.result all part (rw c.in-Ok.ensures.kept at c.talk.ensures.cause))
+    (of_sink old new (g.F.Shelf.take_faults c.load_rulebase.new.shelf) c.talk.result c.talk.ensures.kept (rw c.in-Ok.ensures.kept at c.talk.ensures.cause)))
 
 pub returns-in-Refused : goal.returns-in-Refused
 returns-in-Refused g c =
