@@ -12,11 +12,16 @@ use std::marker::Brand;
 use std::process::ExitCode;
 use std::rt::Env;
 use std::sync::ledger::{Blank, Ledger};
+use std::io::ErrorKind;
 use std::{env, io};
 
-/// The words of the command line.
+/// The words of the command line: none if one of them isn't text, so that the answer is that for wrong words.
 fn words(rt: &(impl Env + AllocGlobal)) -> io::Result<Vec<String>> {
-    Ok(env::args(rt)?.collect(rt.alloc())?)
+    match env::args(rt) {
+        Ok(args) => Ok(args.collect(rt.alloc())?),
+        Err(error) if error.kind() == ErrorKind::InvalidData => Ok(Vec::new(rt.alloc())),
+        Err(error) => Err(error),
+    }
 }
 
 /// A watch on the first declared attribute.
