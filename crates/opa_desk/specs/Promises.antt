@@ -12,6 +12,7 @@ use Rattle.opa_cases.specs.Promises.{Promises as PromisesOfCases}
 use Rattle.opa_desk.specs.declared.reading.Mode.{Mode}
 use Rattle.opa_desk.specs.declared.reading.Mode.TheVariants as mode
 use Rattle.opa_desk.specs.Asked.{asked_of, usage}
+use Rattle.opa_desk.specs.Only.{OnlyBatch, OnlyCases}
 
 abbrev pub words_of : List (String Global) → List (List ℕ)
 words_of words = map (λ w. string_bytes w) words
@@ -36,3 +37,8 @@ pub record Promises (words : List (String Global)) (old new : Outside) (result :
   pub batch : (name : List ℕ) → Asks words mode.Batch name → PromisesOfBatch name old new result
   -- The mode `cases` is a caseload over the name.
   pub cases : (name : List ℕ) → Asks words mode.Cases name → PromisesOfCases name old new result
+
+-- Nothing else could have been written.
+pub record Only (words : List (String Global)) (old new : Outside) (result : Status) : Type 0 where
+  pub batch : (name : List ℕ) → Asks words mode.Batch name → OnlyBatch name old new result
+  pub cases : (name : List ℕ) → Asks words mode.Cases name → OnlyCases name old new result

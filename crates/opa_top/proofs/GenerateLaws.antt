@@ -38,7 +38,7 @@ told_reads text old new result (inr told) e = cc (told.0, e)
 
 told_writes : (text : List ℕ) (old new : Outside) (result : Status) → IsTold status.Refused text old.written new.written old.writes new.writes result → result ≡ status.WriteFault → Rose old.writes new.writes
 told_writes text old new result (inl told) e = absurd (cc (told.0, e))
-told_writes text old new result (inr told) e = told.1.0
+told_writes text old new result (inr told) e = told.1
 
 module _ (n : ℕ) (old new before after : Outside) (made : IsMade n old new before after) where
   example_reads : (result : Status) → AnswersExample before after result → result ≢ status.ReadFault
