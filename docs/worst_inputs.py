@@ -6,6 +6,8 @@ of how it is run.
 docs/PERFORMANCE.md has what each took.
 """
 
+from worst_windows import all_written
+
 FILE, INPUT, LINE = 8_388_608, 67_108_864, 65_536
 HEAD = "global\n  number x\n"
 runs = []
@@ -109,6 +111,10 @@ write("names.txt", filled("", '"a" goals\n', INPUT), INPUT)
 run("a_caseload_of_one_name", "desk cases goal.txt", "names.txt")
 write("turns.txt", filled("", '"a" answer x = 1\n"b" answer x = 2\n', INPUT), INPUT)
 run("a_caseload_of_two_names_in_turn", "desk cases goal.txt", "turns.txt")
+
+# Functions over time in one another, in each place of a rule: what they ask for, screens, reports, batches and caseloads
+for name, words, given in all_written(lambda name, text: write(name, text, FILE)):
+    run(name.replace(":", "").replace(" ", "_"), words, given)
 
 with open("worst_runs.sh", "w") as file:
     file.write("\n".join(runs) + "\n")
