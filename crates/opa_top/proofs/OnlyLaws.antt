@@ -72,7 +72,7 @@ unanswered : {T : Type 0} (s : Status) → HasAnswered s → s ≡ status.WriteF
 unanswered s (inl e) f = absurd (cc (e, f))
 unanswered s (inr e) f = absurd (cc (e, f))
 
-told_whole : (good s : Status) (text : List ℕ) (w w' : Option (List ℕ)) (b n : ℕ) → HasAnswered s → IsTold good text w w' b n s → (s ≡ good) × Appends w w' text
+pub told_whole : (good s : Status) (text : List ℕ) (w w' : Option (List ℕ)) (b n : ℕ) → HasAnswered s → IsTold good text w w' b n s → (s ≡ good) × Appends w w' text
 told_whole good s text w w' b n ended (inl told) = told
 told_whole good s text w w' b n ended (inr told) = unanswered s ended told.0
 

@@ -14,7 +14,7 @@ use Rattle.opa_top.specs.Generating.{IsGenerated}
 use Rattle.opa_top.specs.Meaning.{Meaning}
 use Rattle.opa_top.specs.Answering.{Answers}
 use Rattle.opa_top.specs.Running.{Outside, IsUnused, a_run, an_interview}
-use Rattle.opa_top.specs.Verifying.{Verifies}
+use Rattle.opa_top.specs.Verifying.{IsOnlyVerdict, Verifies}
 use Rattle.opa_top.specs.Statuses.{SaysUsage}
 
 abbrev pub words_of : List (String Global) → List (List ℕ)
@@ -34,6 +34,7 @@ pub record Promises (words : List (String Global)) (old new : Outside) (result :
   pub unused : (name : List ℕ) → Asks words mode.Check name → IsUnused old new
   -- The mode `verify` tells whether the report in a file holds up its value; it reads, keeps and tells nothing else.
   pub verified : (name report : List ℕ) → Asks words mode.Verify name → report_of (words_of words) ≡ Some report → Verifies old.files name report old.written new.written old.takes new.takes old.writes new.writes result
+  pub only_verified : (name report : List ℕ) → Asks words mode.Verify name → report_of (words_of words) ≡ Some report → IsOnlyVerdict old.written new.written result old.files name report
   pub still : (name : List ℕ) → Asks words mode.Verify name → IsUnused old new
   -- In the mode `run` each line is a command, and Done means that the input was read to its end.
   pub run : (name : List ℕ) → Asks words mode.Run name → Answers a_run name old new result

@@ -1,5 +1,5 @@
 -- The mode `verify`: whether a printed report holds up its value.
-use Rattle.std.specs.Prelude.{ℕ, ◌≡◌, ◌≤◌, ◌⊎◌, List, [], ◌∷◌, ◌++◌, codes, length, Option, None, Some, Ok, Err}
+use Rattle.std.specs.Prelude.{ℕ, ◌≡◌, ◌≤◌, ◌⊎◌, List, [], ◌∷◌, ◌++◌, codes, length, Option, None, Some, IfSome, Result, Ok, Err}
 use Rattle.std.specs.FinMap as map
 use Rattle.std.specs.Io.KnownBytes.{Appends}
 use Rattle.opa_io.specs.Outside.{Files, IsFile, IsTooLong, Rose}
@@ -9,7 +9,8 @@ use Rattle.opa_proof.specs.Telling.{Tells}
 use Rattle.opa_proof.specs.declared.verdict.Verdict.{Verdict}
 use Rattle.opa_proof.specs.declared.verdict.Verdict.TheVariants as verdict
 use Rattle.opa_tree.specs.declared.rulebase.Rulebase.{Rulebase}
-use Rattle.opa_top.specs.Checking.{IsOpened, IsTold}
+use Rattle.opa_rulebase.specs.Loading.{Opens}
+use Rattle.opa_top.specs.Checking.{HasAnswered, IsOpened, IsTold}
 use Rattle.opa_io.specs.declared.limits.TheConstants.{MOST_REPORT}
 
 -- what is told where there is no report to judge: its form breaks at line 0
@@ -47,3 +48,19 @@ pub data Verifies (files : Option Files) (name report : List ℕ) (written writt
   refuses : {result : Status} (text : List ℕ) → IsOpened files name (Err text) → IsTold status.Refused text written written' writes writes' result → Verifies files name report written written' takes takes' writes writes' result
   cannot_load : Rose takes takes' → Appends written written' [] → Verifies files name report written written' takes takes' writes writes' status.ReadFault
   cannot_keep : Appends written written' [] → Verifies files name report written written' takes takes' writes writes' status.NoMemory
+
+module _ (written written' : Option (List ℕ)) (result : Status) where
+  -- this is the answer, and this was written
+  abbrev pub Ended : Status → List ℕ → Type 0
+  Ended good text = (result ≡ good) × Appends written written' text
+
+  -- whatever is told of the report over what was opened; where there is no report, that was told
+  abbrev pub OnlyTold : Files → List ℕ → Result Rulebase (List ℕ) → Type 0
+  OnlyTold files report (Ok base) =
+      ((bytes : List ℕ) → map.get files report ≡ Some bytes → length bytes ≤ REPORT_MOST → (v : Verdict) (said : List ℕ) → Tells base bytes v said → Ended (status_of v) said)
+      × (IsNoFile (Some files) report ⊎ IsTooLong (Some files) report REPORT_MOST → Ended status.Refused no_report)
+  OnlyTold files report (Err text) = Ended status.Refused text
+
+  -- Nothing else could have been written: whatever the files open, and whatever is told of the report over it, was written.
+  abbrev pub IsOnlyVerdict : Option Files → List ℕ → List ℕ → Type 0
+  IsOnlyVerdict told name report = HasAnswered result → IfSome told (λ files. (opened : Result Rulebase (List ℕ)) → Opens files name opened → OnlyTold files report opened)

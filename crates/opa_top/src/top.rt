@@ -20,6 +20,7 @@ use crate::verifying::verify;
 use opa_decided::{one_opening, one_transcript};
 use opa_io::{Shelf, Sink, Source, Status, Steps};
 use opa_listen::Listener;
+use opa_proof::one_verdict;
 use opa_usage::{Mode, WordsFault, read_words};
 use std::alloc::Global;
 use std::sync::ledger::Ledger;
@@ -108,5 +109,6 @@ pub fn run<S: Source, F: Shelf, K: Sink, L: Ledger>(
     shown_is_meant();
     one_opening();
     one_transcript();
+    one_verdict();
     run_words(alloc, words, shelf, input, out, listeners, steps)
 }
