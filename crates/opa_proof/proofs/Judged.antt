@@ -10,6 +10,7 @@ use Rattle.opa_cells.specs.declared.instance.InstanceId.{InstanceId}
 use Rattle.opa_tree.specs.declared.rulebase.Rulebase.{Rulebase}
 use Rattle.opa_tree.proofs.Members.{none_in, contains_cases}
 use Rattle.opa_report.specs.Promises.{HaveDays}
+use Rattle.opa_report.specs.declared.lines.Report.{Report}
 use Rattle.opa_report.specs.declared.lines.ReportLine.{ReportLine}
 use Rattle.opa_report.specs.declared.lines.ReportLine.TheVariants as line
 use Rattle.opa_report_text.specs.Texts.{first_line}
@@ -20,8 +21,8 @@ use Rattle.opa_spelled.specs.Printed.{lines_text, end_line}
 use Rattle.opa_spelled.specs.Reading.{IsTextOf}
 use Rattle.opa_upheld.proofs.Orderly.{held_up_supports_holds, reports_are_held_up_holds}
 use Rattle.opa_mean.specs.Rulebases.{value_at}
-use Rattle.opa_proof.specs.Laws.{ReportsAreUpheld}
-use Rattle.opa_proof.specs.Judging.{IsTextOfReport, IsUpheld, Judges, IsSupported}
+use Rattle.opa_proof.specs.Laws.{ReportsHoldUp}
+use Rattle.opa_proof.specs.Judging.{IsReadAs, IsTextOfReport, IsUpheld, Judges, IsSupported}
 use Rattle.opa_proof.specs.Named.{IsFirstUnnamed}
 use Rattle.opa_proof.specs.Naming.{named_line, asked_point, AreNamed}
 use Rattle.opa_proof.specs.declared.verdict.Verdict.{Verdict}
@@ -110,6 +111,12 @@ text_is r text s a i lines t asked named =
       printable = record { attr = (asked_is r s.asked a i asked).1; day = t.day; lines = both.1 };
     }
 
+-- what is read as a report is its text
+pub told_by : (r : Rulebase) (text : List ℕ) (x : Report) → IsReadAs r text x → IsTextOfReport r text x
+told_by r text x read =
+    subst (IsTextOfReport r text) (ap (λ (d : ℕ). let y : Report = record { attr = x.attr; inst = x.inst; day = d; lines = x.lines } in y) read.day)
+    (text_is r text read.spelled x.attr x.inst x.lines read.told read.asked read.lines)
+
 pub days_are : (r : Rulebase) (xs : List Printed) (ls : List ReportLine) → AllByRecursion IsDated xs → AreNamed r xs ls → HaveDays ls
 days_are r [] [] d h a i s t v there = absurd (none_in (line.Point a i s t v) there)
 days_are r [] (l ∷ ls) d h a i s t v there = absurd h
@@ -134,15 +141,9 @@ pub supported : (r : Rulebase) (text : List ℕ) (v : Verdict) → Judges r text
 supported r text v j e = go (subst (Judges r text) e j)
   where
     go : IsUpheld r text → IsSupported r text
-    go u = record {
-      report = u.report;
-      told = u.told;
-      value = u.value;
-      listed = u.listed;
-      supports = held_up_supports_holds r u.report.lines u.held u.report.attr u.report.inst u.report.day u.value u.listed;
-    }
+    go u = record { upheld = u; supports = held_up_supports_holds r u.report.lines u.holds.lines u.report.attr u.report.inst u.report.day u.holds.value u.holds.listed }
 
-pub reports_are_upheld_holds : ReportsAreUpheld
-reports_are_upheld_holds r c is x live entries days printable =
+pub reports_hold_up_holds : ReportsHoldUp
+reports_hold_up_holds r c is x live entries days printable =
     let h = reports_are_held_up_holds r c is x live entries days in
-    record { report = x; told = record { is = refl; printable = printable }; held = h.0; value = value_at r c x.attr x.inst x.day; listed = h.1 }
+    record { told = record { is = refl; printable = printable }; lines = h.0; value = value_at r c x.attr x.inst x.day; listed = h.1 }

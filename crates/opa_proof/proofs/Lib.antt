@@ -1,5 +1,6 @@
 pub mod Fining
 pub mod Judged
+pub mod OneVerdict
 pub mod Printing
 pub mod Renamed
 pub mod Restated

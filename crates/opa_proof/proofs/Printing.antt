@@ -1,6 +1,6 @@
 -- What is named is printed so.
 use Rattle.std.proofs.Common.{◌≡◌, ℕ, zero, suc, ◌+◌, ◌<◌, ◌≤◌, List, [], ◌∷◌, ◌++◌, map, length, Bool, true, false, cond, Option, None, Some, refl, sym, ◌∙◌, ap, subst, append_assoc, arith}
-use Rattle.std.specs.Prelude.{codes, position, slice_get, unwrap_or}
+use Rattle.std.specs.Prelude.{◌&&◌, codes, position, slice_get, unwrap_or}
 use Rattle.std.specs.Option.{option_map, option_and_then}
 use Rattle.std.specs.Str.{bytes_eq}
 use Rattle.std.specs.Cmp.Lexicographic.{bytes_decides}
@@ -19,6 +19,7 @@ use Rattle.opa_model.specs.Lookups.{attribute_named, relation_named, attribute_p
 use Rattle.opa_model.specs.Models.{HasAttribute, HasRelation}
 use Rattle.opa_model.proofs.PhrasesLaws.{position-found}
 use Rattle.opa_case.specs.Shapes.{attribute_or, relation_or, no_attribute, no_relation}
+use Rattle.opa_case.specs.Steps.{has_kind}
 use Rattle.opa_cells.specs.declared.instance.InstanceId.{InstanceId}
 use Rattle.opa_cells.specs.Instances.{is_same, global, named}
 use Rattle.opa_cells.proofs.Orders.{same_is, same_itself}
@@ -126,8 +127,10 @@ module _ (b : Rulebase) where
       let a = one.0.0 in let i = one.0.1 in
       let asked = asked_is p a i one.1.0 in
       let two = found_if (is_printed_so b a k v o) (line.Point a i s t v) l one.1.1 in
-      let both = and_parts (bytes_eq (value_text (attribute_or b.model a).kind v) (value_text k v)) (bytes_eq (told.origin_text b.files (rule_of b.rules a) v) (origin_text o)) two.0 in
-      let value = bytes_same (value_text (attribute_or b.model a).kind v) (value_text k v) both.0 in
+      let own = has_kind (attribute_or b.model a).kind v in
+      let shown = bytes_eq (value_text (attribute_or b.model a).kind v) (value_text k v) in
+      let both = and_parts (own && shown) (bytes_eq (told.origin_text b.files (rule_of b.rules a) v) (origin_text o)) two.0 in
+      let value = bytes_same (value_text (attribute_or b.model a).kind v) (value_text k v) (and_parts own shown both.0).1 in
       let place = bytes_same (told.origin_text b.files (rule_of b.rules a) v) (origin_text o) both.1 in
       subst (IsLine b (printed.Point p s t k v o)) two.1 (
         λ n. ap (λ x. decimal n ++ (codes " " ++ ((x ++ (codes ", " ++ (days_text s t ++ (codes ": " ++ (value_text (attribute_or b.model a).kind v ++ (codes ", " ++ told.origin_text b.files (rule_of b.rules a) v)))))) ++ 10 ∷ []))) asked.0

@@ -20,6 +20,7 @@ use Rattle.opa_case.specs.Live.{container_of, is_live}
 use Rattle.opa_case.proofs.Shaped.{shape_is}
 use Rattle.opa_case.proofs.Stands.{in_upto}
 use Rattle.opa_case.specs.Shapes.{attribute_or, relation_or, no_attribute, no_relation, shape_of}
+use Rattle.opa_case.specs.Steps.{has_kind}
 use Rattle.opa_cells.specs.Instances.{is_same, global, named}
 use Rattle.opa_cells.specs.declared.instance.InstanceId.{InstanceId}
 use Rattle.opa_cells.proofs.Orders.{same_is, same_itself}
@@ -68,15 +69,21 @@ use Rattle.opa_spelled.proofs.Cleanness.{quoted_from}
 use Rattle.opa_spelled.specs.Spelling.{IsName}
 use Rattle.opa_proof.specs.Fine.{IsPrintableBase, IsPrintableCase}
 use Rattle.opa_proof.proofs.Fining.{value_written}
+use Rattle.opa_spelled.proofs.Cleanness.{all_days}
+use Rattle.opa_kinds.proofs.LawsHold.{values_have_kinds_holds}
+use Rattle.opa_upheld.specs.Proofs.{AreHeldUp}
 use Rattle.opa_upheld.proofs.Orderly.{reports_are_held_up_holds}
 use Rattle.opa_proof.specs.Naming.{instance_for, is_printed_so, point_at, list_at, asked_point, named_line, member_line, AreNamed}
 use Rattle.opa_proof.specs.Restating.{name_of, spot_of, origin_by, spelled_line, spelled_of, IsRestated}
-use Rattle.opa_proof.specs.Laws.{ReportsAreSupported, ReportsGetYes, ReportsTellValues}
-use Rattle.opa_proof.specs.Judging.{asked_value}
+use Rattle.opa_proof.specs.Laws.{ReportsAreSupported, ReportsAreUpheld, ReportsGetYes, ReportsTellValues}
+use Rattle.opa_proof.specs.Judging.{IsReadAs, IsUpheld, asked_value}
 use Rattle.opa_proof.specs.OfCases.{IsOfCase}
-use Rattle.opa_proof.specs.Telling.{Tells, supported_text}
+use Rattle.opa_proof.specs.Telling.{SaysSupported, Tells, supported_text}
+use Rattle.opa_proof.specs.declared.verdict.Verdict.TheVariants as verdict
 use Rattle.opa_proof.proofs.Saying.{told_judges}
-use Rattle.opa_proof.proofs.Restated.{origin_is, gets_yes, same_report, stands_in}
+use Rattle.opa_proof.proofs.Judged.{told_by}
+use Rattle.opa_proof.proofs.OneVerdict.{same_report, same_verdict}
+use Rattle.opa_proof.proofs.Restated.{origin_is, stands_in, text_is}
 
 -- ---- values
 
@@ -176,17 +183,24 @@ module _ (s : Rulebase) (c : CaseView) (is : IsOf s c) where
       ap (option_and_then (λ (b : AttrId). option_map (λ (j : InstanceId). (b, j)) (point_at s.model b (spot_of (attribute_or s.model a).phrase i)))) (own_attribute s.model is.is_model a has)
       ∙ ap (option_map (λ (j : InstanceId). (a, j))) own
 
-  printed_again : (a : AttrId) (v : Value) → is_printed_so s a (attribute_or s.model a).kind v (origin_by s.files (rule_of s.rules a) v) ≡ true
-  printed_again a v =
-      and_from (bytes_eq (value_text (attribute_or s.model a).kind v) (value_text (attribute_or s.model a).kind v)) (bytes_eq (told.origin_text s.files (rule_of s.rules a) v) (origin_text (origin_by s.files (rule_of s.rules a) v)))
-      (own_text (value_text (attribute_or s.model a).kind v))
+  -- a point's value is of its attribute's kind
+  HasOwnKind : ReportLine → Type 0
+  HasOwnKind (line.Point a i f t v) = has_kind (attribute_or s.model a).kind v ≡ true
+  HasOwnKind (line.Members q i names) = Unit {0}
+  HasOwnKind (line.Member q k i) = Unit {0}
+
+  printed_again : (a : AttrId) (v : Value) → has_kind (attribute_or s.model a).kind v ≡ true → is_printed_so s a (attribute_or s.model a).kind v (origin_by s.files (rule_of s.rules a) v) ≡ true
+  printed_again a v fits =
+      let shown = bytes_eq (value_text (attribute_or s.model a).kind v) (value_text (attribute_or s.model a).kind v) in
+      and_from (has_kind (attribute_or s.model a).kind v && shown) (bytes_eq (told.origin_text s.files (rule_of s.rules a) v) (origin_text (origin_by s.files (rule_of s.rules a) v)))
+      (and_from (has_kind (attribute_or s.model a).kind v) shown fits (own_text (value_text (attribute_or s.model a).kind v)))
       (ap (bytes_eq (told.origin_text s.files (rule_of s.rules a) v)) (sym (origin_is s.files (rule_of s.rules a) v)) ∙ own_text (told.origin_text s.files (rule_of s.rules a) v))
 
-  point_again : (a : AttrId) (i : InstanceId) (f t : ℕ) (v : Value) → a.0 < length s.model.attributes → Belongs (owner_of (base_of s).shape a) i → Named (line.Point a i f t v)
+  point_again : (a : AttrId) (i : InstanceId) (f t : ℕ) (v : Value) → a.0 < length s.model.attributes → Belongs (owner_of (base_of s).shape a) i → has_kind (attribute_or s.model a).kind v ≡ true → Named (line.Point a i f t v)
   unfolding Named
-  point_again a i f t v has own =
+  point_again a i f t v has own fits =
       ap (option_and_then (λ (x : AttrId × InstanceId). cond (is_printed_so s x.0 (attribute_or s.model a).kind v (origin_by s.files (rule_of s.rules a) v)) (Some (line.Point x.0 x.1 f t v)) None)) (asked_again a i has own)
-      ∙ ap (λ b. cond b (Some (line.Point a i f t v)) None) (printed_again a v)
+      ∙ ap (λ b. cond b (Some (line.Point a i f t v)) None) (printed_again a v fits)
 
   members_again : (q : RelId) (i : InstanceId) (names : Option (List (List ℕ))) → q.0 < length s.model.relations → Belongs ((base_of s).shape.source q) i → Named (line.Members q i names)
   unfolding Named Belongs
@@ -202,11 +216,11 @@ module _ (s : Rulebase) (c : CaseView) (is : IsOf s c) where
       ∙ ap (option_map (λ (j : InstanceId). line.Member q j (named (relation_or s.model q).target.0 i.name))) own
       ∙ ap (λ (n : ℕ). let j : InstanceId = record { entity = record { 0 = n }; name = i.name } in Some (line.Member q k j)) target
 
-  named_again : (l : ReportLine) → Placed l → Named l
-  unfolding Placed
-  named_again (line.Point a i f t v) h = point_again a i f t v h.0 (own_of (owner_of (base_of s).shape a) i h.1)
-  named_again (line.Members q i names) h = members_again q i names h.0 (own_of ((base_of s).shape.source q) i h.1.0)
-  named_again (line.Member q k i) h = member_again q k i h.0 h.1.0 h.1.1.0 (own_of ((base_of s).shape.source q) k h.1.1.1.0)
+  named_again : (l : ReportLine) → Placed l → HasOwnKind l → Named l
+  unfolding Placed HasOwnKind
+  named_again (line.Point a i f t v) h fits = point_again a i f t v h.0 (own_of (owner_of (base_of s).shape a) i h.1) fits
+  named_again (line.Members q i names) h fits = members_again q i names h.0 (own_of ((base_of s).shape.source q) i h.1.0)
+  named_again (line.Member q k i) h fits = member_again q k i h.0 h.1.0 h.1.1.0 (own_of ((base_of s).shape.source q) k h.1.1.1.0)
 
   module _ (x : Report) (exact : IsExact s c x) (declared : IsDeclaredBy s x) where
     of_points : (l : ReportLine) → Contains (point_lines (base_of s) (facts_of c) exact.used) l → LineIsDeclared s.model l → Placed l
@@ -301,6 +315,18 @@ module _ (s : Rulebase) (c : CaseView) (is : IsOf s c) where
     lines_named [] h = tt
     lines_named (l ∷ ls) h = (h l (contains_head l ls), lines_named ls (λ k there. h k (contains_tail l k ls there)))
 
+    -- the value of a listed run is the point's
+    run_value : ListsEntries s c x → HasDays x → (a : AttrId) (i : InstanceId) (f t : ℕ) (v : Value) → Contains x.lines (line.Point a i f t v) → value_at s c a i f ≡ v
+    run_value entries days a i f t v there =
+        let low : f ≤ t = (days a i f t v there).0 in
+        let lists = support.point a i f t f v there (omega arith) low in told_value (base_of s) (facts_of c) (Point x.attr x.inst x.day) (PointIs a i f v) ((entries (PointIs a i f v)).0 lists) a i f v refl
+
+    own_kind : ListsEntries s c x → HasDays x → (l : ReportLine) → Contains x.lines l → HasOwnKind l
+    unfolding HasOwnKind
+    own_kind entries days (line.Point a i f t v) there = subst (λ w. has_kind (attribute_or s.model a).kind w ≡ true) (run_value entries days a i f t v there) (values_have_kinds_holds s c is a i f)
+    own_kind entries days (line.Members q i names) there = tt
+    own_kind entries days (line.Member q k i) there = tt
+
     -- ---- what can be printed
 
     module _ (base : IsPrintableBase s) (own : IsPrintableCase c) (entries : ListsEntries s c x) (days : HasDays x) where
@@ -362,12 +388,7 @@ module _ (s : Rulebase) (c : CaseView) (is : IsOf s c) where
       names_can q i (Some ns) e = list_can q i ns e
 
       point_can : (a : AttrId) (i : InstanceId) (f t : ℕ) (v : Value) → Contains x.lines (line.Point a i f t v) → CanBeWritten (attribute_or s.model a).kind v
-      point_can a i f t v there =
-          let span = days a i f t v there in
-          let low : f ≤ t = span.0 in
-          let lists = support.point a i f t f v there (omega arith) low in
-          let is_value = told_value (base_of s) (facts_of c) (Point x.attr x.inst x.day) (PointIs a i f v) ((entries (PointIs a i f v)).0 lists) a i f v refl in
-          subst (CanBeWritten (attribute_or s.model a).kind) is_value (value_written s c is base own a i f)
+      point_can a i f t v there = subst (CanBeWritten (attribute_or s.model a).kind) (run_value entries days a i f t v there) (value_written s c is base own a i f)
 
       line_can : (l : ReportLine) → Contains x.lines l → Placed l → CanBePrinted (spelled_line s l)
       unfolding Placed
@@ -391,40 +412,60 @@ module _ (s : Rulebase) (c : CaseView) (is : IsOf s c) where
             printed = lines_can x.lines (λ l there. line_can l there (each_line l there));
           }
 
-    pub restated : is_point s c x.attr x.inst ≡ true → IsSpelled (spelled_of s x) → IsRestated s x
-    restated point can =
+    pub restated : ListsEntries s c x → HasDays x → is_point s c x.attr x.inst ≡ true → IsSpelled (spelled_of s x) → IsRestated s x
+    restated entries days point can =
         let outer = and_parts (nat_lt x.attr.0 (length s.model.attributes)) (has_place s c x.attr x.inst) point in
         let place = and_parts (is_live c.live x.inst) (x.inst.entity.0 == owner_of (shape_of s.model) x.attr) outer.1 in
         let has : x.attr.0 < length s.model.attributes = ltb-true x.attr.0 (length s.model.attributes) outer.0 in
         let own = belongs (owner_of (base_of s).shape x.attr) x.inst (live_in c x.inst place.0) (eqb-true x.inst.entity.0 (owner_of (shape_of s.model) x.attr) place.1) in
-        record { spelled = can; asked = asked_again x.attr x.inst has own; lines = lines_named x.lines (λ l there. named_again l (each_line l there)) }
+        record { spelled = can; asked = asked_again x.attr x.inst has own; lines = lines_named x.lines (λ l there. named_again l (each_line l there) (own_kind entries days l there)) }
 
     pub is_alive : is_point s c x.attr x.inst ≡ true → is_live c.live x.inst ≡ true
     is_alive point =
         let outer = and_parts (nat_lt x.attr.0 (length s.model.attributes)) (has_place s c x.attr x.inst) point in
         (and_parts (is_live c.live x.inst) (x.inst.entity.0 == owner_of (shape_of s.model) x.attr) outer.1).0
 
--- what is printed of a report of a case names it again
-case_restated : (r : Rulebase) (text : List ℕ) (of : IsOfCase r text) → IsRestated r of.report
-case_restated r text of =
-    restated r of.given of.fits of.report of.exact of.declared of.point (can_be_printed r of.given of.fits of.report of.exact of.declared of.base of.own of.entries of.days of.point of.day)
+-- ---- the text of a report of a case
+
+module _ (r : Rulebase) (text : List ℕ) (of : IsOfCase r text) where
+  abbrev own : Report
+  own = of.report
+
+  -- what is printed of it names it again
+  restates : IsRestated r own
+  restates = restated r of.given of.fits own of.exact of.declared of.entries of.days of.point (can_be_printed r of.given of.fits own of.exact of.declared of.base of.own of.entries of.days of.point of.day)
+
+  own_read : IsReadAs r text own
+  own_read = record {
+    spelled = spelled_of r own;
+    told = record { is = sym (text_is r own) ∙ of.told; spelled = restates.spelled; day = of.day; dated = all_days (spelled_of r own).printed restates.spelled.printed };
+    asked = restates.asked;
+    day = refl;
+    lines = restates.lines;
+  }
+
+  own_held : AreHeldUp (base_of r) own.lines × (asked_value own ≡ Some (value_at r of.given own.attr own.inst own.day))
+  own_held = reports_are_held_up_holds r of.given of.fits own (is_alive r of.given of.fits own of.exact of.declared of.point) of.entries of.days
+
+  own_upheld : IsUpheld r text
+  own_upheld = record { report = own; read = own_read; holds = record { told = told_by r text own own_read; lines = own_held.0; value = value_at r of.given own.attr own.inst own.day; listed = own_held.1 } }
+
+  -- what is told of the text is the value of its point
+  value_told : (said : List ℕ) → SaysSupported r text said → said ≡ supported_text r own (value_at r of.given own.attr own.inst own.day)
+  value_told said s =
+      let u = s.supported.upheld in
+      let report : u.report ≡ own = same_report r text of.few u.report own u.read own_read in
+      let value : u.holds.value ≡ value_at r of.given own.attr own.inst own.day = cc (sym u.holds.listed ∙ ap asked_value report ∙ own_held.1) in
+      s.says ∙ ap (λ y. supported_text r y u.holds.value) report ∙ ap (supported_text r own) value
+
+pub reports_are_upheld_holds : ReportsAreUpheld
+reports_are_upheld_holds r text of = own_upheld r text of
 
 pub reports_get_yes_holds : ReportsGetYes
-reports_get_yes_holds r text w of j =
-    let x = of.report in
-    let live = is_alive r of.given of.fits x of.exact of.declared of.point in
-    let h = reports_are_held_up_holds r of.given of.fits x live of.entries of.days in
-    gets_yes r text x (case_restated r text of) of.told of.few h.0 (value_at r of.given x.attr x.inst x.day) h.1 w j
+reports_get_yes_holds r text w of j = same_verdict r text of.few w verdict.Yes j (own_upheld r text of)
 
 pub reports_are_supported_holds : ReportsAreSupported
 reports_are_supported_holds r text said w of t = subst (λ v. Tells r text v said) (reports_get_yes_holds r text w of (told_judges r text w said t)) t
 
 pub reports_tell_values_hold : ReportsTellValues
-reports_tell_values_hold r text said w of t =
-    let x = of.report in
-    let live = is_alive r of.given of.fits x of.exact of.declared of.point in
-    let listed = (reports_are_held_up_holds r of.given of.fits x live of.entries of.days).1 in
-    let supported = reports_are_supported_holds r text said w of t in
-    let report = same_report r text x (case_restated r text of) of.told of.few supported.report supported.read in
-    let value : supported.value ≡ value_at r of.given x.attr x.inst x.day = cc (sym supported.listed ∙ ap asked_value report ∙ listed) in
-    supported.says ∙ ap (λ y. supported_text r y supported.value) report ∙ ap (supported_text r x) value
+reports_tell_values_hold r text said w of t = value_told r text of said (reports_are_supported_holds r text said w of t)

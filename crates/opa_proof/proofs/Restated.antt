@@ -1,4 +1,4 @@
--- A report's text, printed again, and Yes to the text of a report whose lines are held up.
+-- A report's text, printed again, and what says the same is named the same.
 use Rattle.std.proofs.Common.{◌≡◌, inl, inr, ℕ, zero, suc, ◌+◌, ◌<◌, ◌≤◌, ◌^◌, ◌&&◌, List, [], ◌∷◌, ◌++◌, map, length, Bool, true, false, cond, Option, None, Some, Contains, decimal, refl, sym, ◌∙◌, ap, subst, append_assoc, length-append, arith}
 use Rattle.std.specs.Prelude.{codes, slice_get}
 use Rattle.std.specs.Option.{option_and_then}
@@ -9,6 +9,7 @@ use Rattle.opa_value.specs.Truth.{is_unknown}
 use Rattle.opa_words.specs.Kinds.{quoted}
 use Rattle.opa_model.specs.declared.ids.AttrId.{AttrId}
 use Rattle.opa_case.specs.Shapes.{attribute_or, relation_or}
+use Rattle.opa_case.specs.Steps.{has_kind}
 use Rattle.opa_cells.specs.Instances.{is_same, global}
 use Rattle.opa_cells.specs.declared.instance.InstanceId.{InstanceId}
 use Rattle.opa_tree.specs.declared.rulebase.Rulebase.{Rulebase}
@@ -104,10 +105,10 @@ few_printed s text e h =
 
 -- ---- what says the same is named the same
 
-named_same : (r : Rulebase) (x y : Printed) → IsSame x y → named_line r x ≡ named_line r y
+pub named_same : (r : Rulebase) (x y : Printed) → IsSame x y → named_line r x ≡ named_line r y
 named_same r (printed.Point p s t k v o) (printed.Point q a b l w u) h =
     ap (λ z. named_point r z s t k v o) h.spot ∙ ap (λ z. named_point r q z t k v o) h.first ∙ ap (λ z. named_point r q a z k v o) h.last ∙ ap (λ z. named_point r q a b k v z) h.origin ∙ ap (λ z. named_point r q a b k z u) h.value
-    ∙ ap (λ z. option_and_then (λ (x : AttrId × InstanceId). cond (bytes_eq (value_text (attribute_or r.model x.0).kind w) z && bytes_eq (told.origin_text r.files (rule_of r.rules x.0) w) (origin_text u)) (Some (line.Point x.0 x.1 a b w)) None) (asked_point r q))
+    ∙ ap (λ z. option_and_then (λ (x : AttrId × InstanceId). cond (has_kind (attribute_or r.model x.0).kind w && bytes_eq (value_text (attribute_or r.model x.0).kind w) z && bytes_eq (told.origin_text r.files (rule_of r.rules x.0) w) (origin_text u)) (Some (line.Point x.0 x.1 a b w)) None) (asked_point r q))
     (ap (value_text k) (sym h.value) ∙ h.shown)
 named_same r (printed.Members p names) (printed.Members q others) h = ap (λ z. named_members r.model z names) h.0 ∙ ap (named_members r.model q) h.1
 named_same r (printed.Member p n) (printed.Member q m) h = ap (λ z. named_member r.model z n) h.0 ∙ ap (named_member r.model q) h.1
@@ -118,7 +119,7 @@ named_same r (printed.Members p names) (printed.Member q m) h = absurd h
 named_same r (printed.Member p n) (printed.Point q a b l w u) h = absurd h
 named_same r (printed.Member p n) (printed.Members q others) h = absurd h
 
-same_lines : (r : Rulebase) (xs ys : List Printed) (ls ms : List ReportLine) → AreSame xs ys → AreNamed r xs ls → AreNamed r ys ms → ls ≡ ms
+pub same_lines : (r : Rulebase) (xs ys : List Printed) (ls ms : List ReportLine) → AreSame xs ys → AreNamed r xs ls → AreNamed r ys ms → ls ≡ ms
 same_lines r [] [] [] [] h a b = refl
 same_lines r [] [] [] (m ∷ ms) h a b = absurd b
 same_lines r [] [] (l ∷ ls) ms h a b = absurd a
@@ -130,72 +131,7 @@ same_lines r (x ∷ xs) (y ∷ ys) (l ∷ ls) (m ∷ ms) h a b =
     let one : l ≡ m = cc (sym a.0 ∙ named_same r x y h.0 ∙ b.0) in
     ap (λ z. z ∷ ls) one ∙ ap (λ zs. m ∷ zs) (same_lines r xs ys ls ms h.1 a.1 b.1)
 
-never_unnamed : (r : Rulebase) (xs ys : List Printed) (ls : List ReportLine) (n : ℕ) (x : Printed) → AreSame xs ys → AreNamed r ys ls → slice_get xs n ≡ Some x → named_line r x ≡ None → ⊥
-never_unnamed r [] ys ls n x h a at e = absurd (cc at)
-never_unnamed r (y ∷ xs) [] ls n x h a at e = absurd h
-never_unnamed r (y ∷ xs) (z ∷ ys) [] n x h a at e = absurd a
-never_unnamed r (y ∷ xs) (z ∷ ys) (l ∷ ls) zero x h a at e =
-    let one : y ≡ x = cc at in
-    let f : None ≡ Some l = sym e ∙ ap (named_line r) (sym one) ∙ named_same r y z h.0 ∙ a.0 in cc f
-never_unnamed r (y ∷ xs) (z ∷ ys) (l ∷ ls) (suc n) x h a at e = never_unnamed r xs ys ls n x h.1 a.1 at e
-
--- ---- what is held up has no first fault
-
 pub stands_in : {X : Type 0} (xs : List X) (n : ℕ) (x : X) → slice_get xs n ≡ Some x → Contains xs x
 stands_in [] n x e = absurd (cc e)
 stands_in (y ∷ xs) zero x e = (zero, omega arith, let f : y ≡ x = cc e in f)
 stands_in (y ∷ xs) (suc n) x e = let rest = stands_in xs n x e in (suc rest.0, omega (arith, rest.1), rest.2)
-
-no_fault : (b : Base) (lines : List ReportLine) (n : ℕ) → AreHeldUp b lines → IsFirstFault b lines n → ⊥
-no_fault b lines n held f = f.isnt (held f.line (stands_in lines n f.line f.stands))
-
--- ---- the verdict
-
-module _ (r : Rulebase) (text : List ℕ) (x : Report) (is : IsRestated r x) (says : report_text r x ≡ text) (few : length text < 2 ^ 64) where
-  own_text : spelled_text (spelled_of r x) ≡ text
-  own_text = sym (text_is r x) ∙ says
-
-  own_few : length (spelled_of r x).printed < 2 ^ 64
-  own_few = few_printed (spelled_of r x) text own_text few
-
-  says_same : (s : Spelled) → IsTextOf text s → SaysSame s (spelled_of r x)
-  says_same s t = one_spelling_holds s (spelled_of r x) t.spelled is.spelled (few_printed s text t.is few) own_few (t.is ∙ sym own_text)
-
-  no_syntax : (k : ℕ) → Judges r text (verdict.Syntax k) → ⊥
-  no_syntax k j = spelled_has_none_holds (lined text) (spelled_of r x) k (text_spells (spelled_of r x) text is.spelled own_few own_text) j
-
-  no_name : (k : ℕ) → Judges r text (verdict.Name k) → ⊥
-  no_name k j = go j.1.1
-    where
-      same : SaysSame j.0 (spelled_of r x)
-      same = says_same j.0 j.1.0
-
-      go : IsUnnamedAt r j.0 k → ⊥
-      go (inl h) = let f : None ≡ Some (x.attr, x.inst) = sym h.1 ∙ ap (asked_point r) same.asked ∙ is.asked in cc f
-      go (inr h) = let u = h.1.1.1.1 in never_unnamed r j.0.printed (spelled_of r x).printed x.lines h.1.1.0 u.line same.printed is.lines u.stands u.isnt
-
-  pub same_report : (y : Report) → IsReadAs r text y → y ≡ x
-  same_report y read =
-      let same = says_same read.spelled read.told in
-      let point : ◌≡◌ {A = AttrId × InstanceId} (y.attr, y.inst) (x.attr, x.inst) = cc (sym read.asked ∙ ap (asked_point r) same.asked ∙ is.asked) in
-      let attr : y.attr ≡ x.attr = ap (λ (p : AttrId × InstanceId). p.0) point in
-      let inst : y.inst ≡ x.inst = ap (λ (p : AttrId × InstanceId). p.1) point in
-      let day : y.day ≡ x.day = sym read.day ∙ same.day in
-      let lines : y.lines ≡ x.lines = same_lines r read.spelled.printed (spelled_of r x).printed y.lines x.lines same.printed read.lines is.lines in
-      ap (λ (z : AttrId). let q : Report = record { attr = z; inst = y.inst; day = y.day; lines = y.lines } in q) attr
-      ∙ ap (λ (z : InstanceId). let q : Report = record { attr = x.attr; inst = z; day = y.day; lines = y.lines } in q) inst
-      ∙ ap (λ (z : ℕ). let q : Report = record { attr = x.attr; inst = x.inst; day = z; lines = y.lines } in q) day
-      ∙ ap (λ (z : List ReportLine). let q : Report = record { attr = x.attr; inst = x.inst; day = x.day; lines = z } in q) lines
-
-  no_fault_in : AreHeldUp (base_of r) x.lines → (v : Value) → asked_value x ≡ Some v → (k : ℕ) → Judges r text (verdict.NotDerived k) → ⊥
-  no_fault_in held v listed k j = go (subst (λ y. IsNotDerivedAt r y k) (same_report j.0 j.1.1.0) j.1.1.1)
-    where
-      go : IsNotDerivedAt r x k → ⊥
-      go (inl h) = let f : None ≡ Some v = sym h.1 ∙ listed in cc f
-      go (inr h) = no_fault (base_of r) x.lines h.1.1.0 held h.1.1.1.1
-
-  pub gets_yes : AreHeldUp (base_of r) x.lines → (v : Value) → asked_value x ≡ Some v → (w : Verdict) → Judges r text w → w ≡ verdict.Yes
-  gets_yes held v listed verdict.Yes j = refl
-  gets_yes held v listed (verdict.Syntax k) j = absurd (no_syntax k j)
-  gets_yes held v listed (verdict.Name k) j = absurd (no_name k j)
-  gets_yes held v listed (verdict.NotDerived k) j = absurd (no_fault_in held v listed k j)

@@ -17,7 +17,7 @@ use Rattle.opa_tree.specs.declared.rulebase.Rulebase.{Rulebase}
 use Rattle.opa_upheld.specs.Proofs.{AreHeldUp}
 use Rattle.opa_upheld.specs.Told.{first_told, value_by}
 use Rattle.opa_upheld.proofs.Orderly.{held_up_supports_holds}
-use Rattle.opa_proof.specs.Judging.{IsReadAs, IsTextOfReport, Judges, asked_value}
+use Rattle.opa_proof.specs.Judging.{IsReadAs, IsTextOfReport, IsUpheld, Judges, asked_value}
 use Rattle.opa_proof.specs.Telling.{Tells, refused_text, supported_text}
 use Rattle.opa_proof.specs.declared.verdict.Verdict.{Verdict}
 use Rattle.opa_proof.specs.declared.verdict.Verdict.TheVariants as verdict
@@ -33,19 +33,13 @@ module _ (r : Rulebase) (text : List ℕ) where
   tells_not_derived k w said e s j = subst (λ v. Tells r text v said) (sym e) (j, s)
 
   pub tells_supported : (x : Report) (v : Value) (w : Verdict) (said : List ℕ) → w ≡ verdict.Yes → said ≡ supported_text r x v → IsTextOfReport r text x → IsReadAs r text x → AreHeldUp (base_of r) x.lines → asked_value x ≡ Some v → Tells r text w said
-  tells_supported x v w said e s told read held listed = subst (λ y. Tells r text y said) (sym e) (record {
-    report = x;
-    told = told;
-    read = read;
-    held = held;
-    value = v;
-    listed = listed;
-    supports = held_up_supports_holds r x.lines held x.attr x.inst x.day v listed;
-    says = s;
-  })
+  tells_supported x v w said e s told read held listed = subst (λ y. Tells r text y said) (sym e) (
+    let upheld : IsUpheld r text = record { report = x; read = read; holds = record { told = told; lines = held; value = v; listed = listed } } in
+    record { supported = record { upheld = upheld; supports = held_up_supports_holds r x.lines held x.attr x.inst x.day v listed }; says = s }
+  )
 
   pub told_judges : (v : Verdict) (said : List ℕ) → Tells r text v said → Judges r text v
-  told_judges verdict.Yes said t = record { report = t.report; told = t.told; held = t.held; value = t.value; listed = t.listed }
+  told_judges verdict.Yes said t = t.supported.upheld
   told_judges (verdict.Syntax k) said t = t.0
   told_judges (verdict.Name k) said t = t.0
   told_judges (verdict.NotDerived k) said t = t.0

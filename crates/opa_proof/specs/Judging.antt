@@ -46,13 +46,18 @@ IsNotDerivedAt r x k = ((k ≡ 1) × (asked_value x ≡ None)) ⊎ ((v : Value) 
 abbrev pub IsUnnamedAt : Rulebase → Spelled → ℕ → Type 0
 IsUnnamedAt r s k = ((k ≡ 1) × (asked_point r s.asked ≡ None)) ⊎ ((p : AttrId × InstanceId) × ((asked_point r s.asked ≡ Some p) × ((n : ℕ) × ((k ≡ n + 2) × IsFirstUnnamed r s.printed n))))
 
--- The text is a report's, each of its lines is held up, and the value of its point is listed.
+-- The text is the report's, each of whose lines is held up, and the value of its point is listed.
+pub record HoldsUp (r : Rulebase) (text : List ℕ) (x : Report) : Type 0 where
+  pub told : IsTextOfReport r text x
+  pub lines : AreHeldUp (base_of r) x.lines
+  pub value : Value
+  pub listed : asked_value x ≡ Some value
+
+-- By its names the text is a report, and it holds up.
 pub record IsUpheld (r : Rulebase) (text : List ℕ) : Type 0 where
   pub report : Report
-  pub told : IsTextOfReport r text report
-  pub held : AreHeldUp (base_of r) report.lines
-  pub value : Value
-  pub listed : asked_value report ≡ Some value
+  pub read : IsReadAs r text report
+  pub holds : HoldsUp r text report
 
 abbrev pub Judges : Rulebase → List ℕ → Verdict → Type 0
 Judges r text verdict.Yes = IsUpheld r text
@@ -60,10 +65,7 @@ Judges r text (verdict.Syntax k) = IsUnspelledAt (lined text) k
 Judges r text (verdict.Name k) = (s : Spelled) × (IsTextOf text s × IsUnnamedAt r s k)
 Judges r text (verdict.NotDerived k) = (x : Report) × (IsTextOfReport r text x × (IsReadAs r text x × IsNotDerivedAt r x k))
 
--- The text is a report's, and what it lists supports the value that it prints for the point of its first line.
+-- The text is upheld, and what it lists supports the value that it prints for the point of its first line.
 pub record IsSupported (r : Rulebase) (text : List ℕ) : Type 0 where
-  pub report : Report
-  pub told : IsTextOfReport r text report
-  pub value : Value
-  pub listed : asked_value report ≡ Some value
-  pub supports : Supports r (Lists report.lines) report.attr report.inst report.day value
+  pub upheld : IsUpheld r text
+  pub supports : Supports r (Lists upheld.report.lines) upheld.report.attr upheld.report.inst upheld.report.day upheld.holds.value

@@ -11,6 +11,7 @@ use Rattle.opa_model.specs.declared.lists.Lists.{Lists}
 use Rattle.opa_model.specs.declared.things.Kind.{Kind}
 use Rattle.opa_model.specs.Lookups.{attribute_named, relation_named}
 use Rattle.opa_case.specs.Shapes.{attribute_or, relation_or}
+use Rattle.opa_case.specs.Steps.{has_kind}
 use Rattle.opa_cells.specs.declared.instance.InstanceId.{InstanceId}
 use Rattle.opa_cells.specs.Instances.{global, named}
 use Rattle.opa_tree.specs.declared.rulebase.Rulebase.{Rulebase}
@@ -32,9 +33,10 @@ instance_for zero (Some n) = None
 instance_for (suc e) None = None
 instance_for (suc e) (Some n) = Some (named (suc e) n)
 
--- the value is printed as one of the attribute's kind, and the origin is the attribute's
+-- the value is of the attribute's kind and printed so, and the origin is the attribute's
 abbrev pub is_printed_so : Rulebase → AttrId → Kind → Value → Origin → Bool
-is_printed_so b a k v o = bytes_eq (value_text (attribute_or b.model a).kind v) (value_text k v) && bytes_eq (told.origin_text b.files (rule_of b.rules a) v) (origin_text o)
+is_printed_so b a k v o =
+    has_kind (attribute_or b.model a).kind v && bytes_eq (value_text (attribute_or b.model a).kind v) (value_text k v) && bytes_eq (told.origin_text b.files (rule_of b.rules a) v) (origin_text o)
 
 abbrev pub point_line : Rulebase → AttrId → InstanceId → ℕ → ℕ → Kind → Value → Origin → Option ReportLine
 point_line b a i s t k v o = if is_printed_so b a k v o then Some (line.Point a i s t v) else None

@@ -5,16 +5,12 @@ use Rattle.opa_case.specs.Shapes.{attribute_or}
 use Rattle.opa_cells.specs.declared.instance.InstanceId.{InstanceId}
 use Rattle.opa_date.specs.Texts.{day_text}
 use Rattle.opa_model.specs.declared.things.Kind.{Kind}
-use Rattle.opa_mean.specs.Given.{base_of}
-use Rattle.opa_mean.specs.Rulebases.{Supports}
-use Rattle.opa_report.specs.Supporting.{Lists}
 use Rattle.opa_report.specs.declared.lines.Report.{Report}
 use Rattle.opa_text.specs.Points.{point_text}
 use Rattle.opa_text.specs.Texts.{value_text}
 use Rattle.opa_tree.specs.declared.rulebase.Rulebase.{Rulebase}
-use Rattle.opa_upheld.specs.Proofs.{AreHeldUp}
 use Rattle.opa_value.specs.declared.value.Value.{Value}
-use Rattle.opa_proof.specs.Judging.{IsReadAs, IsTextOfReport, Judges, asked_value}
+use Rattle.opa_proof.specs.Judging.{IsSupported, Judges}
 use Rattle.opa_proof.specs.declared.verdict.Verdict.{Verdict}
 use Rattle.opa_proof.specs.declared.verdict.Verdict.TheVariants as verdict
 
@@ -39,17 +35,10 @@ refused_text (verdict.Syntax k) = refused_report 1 k
 refused_text (verdict.Name k) = refused_report 2 k
 refused_text (verdict.NotDerived k) = refused_report 3 k
 
--- The text is a report's, and by its names no other's; its lines are held up, what it lists supports the value that it lists for its
--- point, and this says so.
+-- What the text lists supports the value that it lists for its point, and this says so.
 pub record SaysSupported (r : Rulebase) (text said : List ℕ) : Type 0 where
-  pub report : Report
-  pub told : IsTextOfReport r text report
-  pub read : IsReadAs r text report
-  pub held : AreHeldUp (base_of r) report.lines
-  pub value : Value
-  pub listed : asked_value report ≡ Some value
-  pub supports : Supports r (Lists report.lines) report.attr report.inst report.day value
-  pub says : said ≡ supported_text r report value
+  pub supported : IsSupported r text
+  pub says : said ≡ supported_text r supported.upheld.report supported.upheld.holds.value
 
 -- what is said of a text
 abbrev pub Tells : Rulebase → List ℕ → Verdict → List ℕ → Type 0

@@ -9,7 +9,7 @@ mod telling;
 mod verdict;
 mod verifying;
 
-pub use laws::{reports_are_upheld, reports_get_yes};
+pub use laws::{one_verdict, reports_are_upheld, reports_get_yes};
 pub use telling::Told;
 pub use verdict::Verdict;
 pub use verifying::{tell, verify};

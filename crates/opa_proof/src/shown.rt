@@ -1,9 +1,10 @@
-// Whether a value and its origin are printed so for an attribute.
+// Whether a value is of an attribute's kind, and it and its origin are printed so for the attribute.
 ghost use Rattle.std.specs.Prelude.{◌≡◌, IfOk};
 ghost use Rattle.opa_case.specs.Shapes.{attribute_or};
 ghost use Rattle.opa_text.specs.Texts.{IsOfCalendar};
 ghost use Rattle.opa_proof.specs.Naming as meant;
 
+use opa_case::has_kind;
 use opa_io::{NoMemory, Txt};
 use opa_model::{AttrId, Kind, Model};
 use opa_spelled::{Origin, origin_text};
@@ -23,7 +24,11 @@ pub(crate) fn is_printed_so(
     requires { IsOfCalendar value.now }
     ensures { IfOk result (λ b. b ≡ meant.is_printed_so base.now attr kind value.now origin.now) }
 {
-    let own = value_text(alloc, kind_of(&base.model, attr), value)?;
+    let declared = kind_of(&base.model, attr);
+    if !has_kind(declared, value) {
+        return Ok(false);
+    }
+    let own = value_text(alloc, declared, value)?;
     let shown = value_text(alloc, kind, value)?;
     let place = opa_report_text::origin_text(alloc, base, attr, value)?;
     let printed = origin_text(alloc, origin)?;
