@@ -1,0 +1,1 @@
+"""Pictures of what `opa` has printed: see tools/picture."""
