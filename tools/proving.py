@@ -1,8 +1,8 @@
 """Proves and builds programs of a checkout by the gate's own command, `rt ci`, in a copy of what they stand on.
 
-What `rt ci` has proved on this machine it keeps by the checksums of all that it read, crate by crate, as soon as each is
-done: so a run that is cut off goes on where it was, a run after the gate has next to nothing to do, and nothing counts as
-proved that isn't of exactly these files. The copy leaves out must-fail/, which tries the contracts and not the programs.
+What `rt ci` has proved on this machine it keeps by the checksums of all that it read, crate by crate, as soon as each
+is done: so a run that is cut off goes on where it was, a run after the gate has next to nothing to do, and nothing
+counts as proved that isn't of exactly these files. The copy leaves out must-fail/, which tries contracts alone.
 """
 import contextlib
 import fcntl
@@ -165,16 +165,16 @@ def gate(room: pathlib.Path, take: Callable[[str], None]) -> int:
 def prove(
     top: pathlib.Path, programs: list[str], say: Callable[[str], None], use: Callable[[pathlib.Path, str], None]
 ) -> None:
-    """Proves, builds and runs the programs, and then calls `use` with the room, in which each lies as crates/NAME/out/NAME,
-    and the checksum of the sources."""
+    """Proves, builds and runs the programs. Then it calls `use` with the room, in which each lies as
+    crates/NAME/out/NAME, and with the checksum of the sources."""
     kit_is_here(top)
     room = room_of(top)
     with alone(room, say):
         source, names = source_of(top), below(crates_of(top), programs)
         copy(top, room, names)
         lanes = os.environ.get("RT_JOBS") or at_once()
-        say(f"{' and '.join(programs)}: {len(names)} crates, lowest first, {lanes} at a time; what an earlier run proved")
-        say("is taken as it is, and a run that is cut off goes on where it was")
+        say(f"{' and '.join(programs)}: {len(names)} crates, lowest first, {lanes} at a time")
+        say("what an earlier run proved is taken as it is, and a run that is cut off goes on where it was")
         progress, log = Progress(names, say), []
         threading.Thread(target=progress.beat, daemon=True).start()
         try:
