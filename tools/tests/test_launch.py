@@ -1,4 +1,5 @@
 """tools/launch and tools/source over a small checkout: which program runs, and what is said if there is none."""
+import shutil
 import unittest
 
 from small import Checkout
@@ -71,6 +72,17 @@ class Launch(unittest.TestCase):
         status, _, said = self.checkout.run("./opa", "--prove", KIT_OF_TEST=str(other))
         self.assertEqual(status, 1)
         self.assertIn("the rt here is of another kit", said)
+
+    def test_without_the_kit_nothing_is_proved(self) -> None:
+        folder = self.checkout.room / "few"
+        folder.mkdir()
+        for name in ("sh", "dirname", "readlink", "cat", "python3"):
+            (folder / name).symlink_to(shutil.which(name))
+        for word in ("--prove", "--unproved"):
+            status, _, said = self.checkout.run("./opa", word, "run", "x", PATH=str(folder))
+            self.assertEqual((status, said.count("\n")), (2, 1), said)
+            self.assertIn(f"{word} needs Python 3.11 or later and the kit", said)
+            self.assertIn("there is no rt here", said)
 
     def test_the_version(self) -> None:
         self.checkout.release()
