@@ -1,17 +1,12 @@
 """tools/unproved: which files are handed in."""
-import importlib.machinery
-import importlib.util
 import os
 import pathlib
-import sys
 import tempfile
 import unittest
 
-sys.dont_write_bytecode = True
-PATH = pathlib.Path(__file__).resolve().parent.parent / "unproved"
-LOADER = importlib.machinery.SourceFileLoader("unproved", str(PATH))
-unproved = importlib.util.module_from_spec(importlib.util.spec_from_loader("unproved", LOADER))
-LOADER.exec_module(unproved)
+from loading import tool
+
+unproved = tool("unproved")
 
 
 class HandedIn(unittest.TestCase):
