@@ -11,7 +11,8 @@ TOP = pathlib.Path(__file__).resolve().parents[2]
 TOOLS = ("source", "launch", "build", "release", "proving.py", "unproved")
 PROGRAM = "#!/bin/sh\necho {} \"$@\"\n"
 
-# Does what `rt ci` does as far as tools/proving.py looks at it, or fails at a crate that has the word `wrong`.
+# Does what `rt ci` does as far as tools/proving.py looks at it. A crate that has the word `wrong` isn't proved; with the
+# word `differs` everything is proved and built, and the program prints something else than it should.
 RT = """#!/bin/sh
 case "$1" in
   version) cat "$KIT_OF_TEST" ;;
@@ -27,6 +28,9 @@ case "$1" in
     for crate in opa desk; do
       [ ! -d crates/$crate ] || cp "$PROGRAMS_OF_TEST/$crate" crates/$crate/out/$crate
     done
+    if grep -q differs crates/opa/src/*; then
+      echo "rt: FAILED: opa (run)"; echo "3 passed, 1 failed"; exit 1
+    fi
     echo "3 passed, 0 failed"
     ;;
 esac

@@ -66,6 +66,12 @@ class Launch(unittest.TestCase):
         self.assertIn("low NOT PROVED", said)
         self.assertFalse((self.checkout.top / "crates/opa/out/opa").exists())
 
+    def test_what_is_proved_and_fails_is_not_built(self) -> None:
+        self.checkout.write("crates/opa/src/main.rt", "differs\n")
+        status, printed, said = self.checkout.run("./opa", "--prove", "run", "x")
+        self.assertEqual((status, printed, "3 passed, 1 failed" in said), (1, "", True), said)
+        self.assertFalse((self.checkout.top / "crates/opa/out/opa").exists())
+
     def test_another_kit_proves_nothing(self) -> None:
         other = self.checkout.room / "kit"
         other.write_text("another kit\n")

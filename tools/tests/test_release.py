@@ -43,6 +43,12 @@ class Release(unittest.TestCase):
         self.assertIn("opa NOT PROVED", said)
         self.checked(3, "there is no release/")
 
+    def test_it_is_not_made_if_a_program_fails(self) -> None:
+        self.checkout.write("crates/opa/src/main.rt", "differs\n")
+        self.checkout.commit()
+        self.assertEqual(self.checkout.run("tools/release")[0], 1)
+        self.checked(3)
+
     def test_it_is_not_made_of_what_is_not_committed(self) -> None:
         self.checkout.commit()
         self.checkout.write("crates/low/src/more.rt", "// more\n")
