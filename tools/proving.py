@@ -29,8 +29,8 @@ def crates_of(top: pathlib.Path) -> dict[str, list[str]]:
     """Each crate of crates.txt, with what it uses."""
     found = {}
     for line in (top / "crates.txt").read_text().splitlines():
-        name, colon, used = line.partition(":")
-        if colon and not line.startswith("#"):
+        name, colon, used = line.partition("#")[0].partition(":")
+        if colon:
             found[name.split()[0]] = used.split()
     return found
 

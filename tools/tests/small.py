@@ -8,14 +8,15 @@ import sys
 import tempfile
 
 TOP = pathlib.Path(__file__).resolve().parents[2]
-TOOLS = ("source", "launch", "build", "release", "proving.py", "unproved")
+TOOLS = ("source", "launch", "build", "release", "proving.py", "notices.py", "unproved")
 PROGRAM = "#!/bin/sh\necho {} \"$@\"\n"
 
-# Does what `rt ci` does as far as tools/proving.py looks at it. A crate that has the word `wrong` isn't proved; with the
-# word `differs` everything is proved and built, and the program prints something else than it should.
+# Does what `rt ci` does as far as tools/proving.py looks at it. A crate that has the word `wrong` isn't proved; with
+# the word `differs` everything is proved and built, and the program prints something else than it should.
 RT = """#!/bin/sh
 case "$1" in
   version) cat "$KIT_OF_TEST" ;;
+  doc) echo "$PROGRAMS_OF_TEST/kit/START-HERE.md" ;;
   ci)
     for crate in low opa desk; do
       [ -d crates/$crate ] || continue
@@ -49,7 +50,8 @@ class Checkout:
             shutil.copy(TOP / "tools" / name, self.top / "tools")
         for name in ("opa", "desk", "KIT", "HANDLES", "VERSION"):
             shutil.copy(TOP / name, self.top)
-        (self.top / "crates.txt").write_text("# a note: none\nlow: std\ntests_low: low\nopa: low\ndesk: low\n")
+        crates = "# a note: none\nlow: std # the lowest: it uses std\ntests_low: low\nopa: low\ndesk: low\n"
+        self.write("crates.txt", crates)
         for name in ("low", "tests_low", "opa", "desk"):
             self.write(f"crates/{name}/src/main.rt", f"// {name}\n")
         self.write("tools/stories.py", "print('1 passed, 0 failed')\n")
@@ -58,6 +60,10 @@ class Checkout:
         self.programs.mkdir()
         for name in ("opa", "desk"):
             self.program(name, PROGRAM.format(f"proved {name}"))
+        kit = self.programs / "kit"
+        (kit / "rlibs" / "std.rlib" / "below" / "os").mkdir(parents=True)
+        (kit / "rattle" / "os").mkdir(parents=True)
+        (kit / "rattle" / "os" / "LICENSE").write_text("the licence of os\n")
         bin = self.room / "bin"
         bin.mkdir()
         (bin / "rt").write_text(RT)
@@ -107,6 +113,7 @@ class Checkout:
             self.write(f"release/{name}", (self.top / name).read_text())
         self.write("release/SOURCE", f"{self.source()}\n")
         self.write("release/NEEDS", f"{needs}\n")
-        names = ("opa", "desk", "VERSION", "KIT", "SOURCE", "NEEDS")
+        self.write("release/NOTICES", "none\n")
+        names = ("opa", "desk", "VERSION", "KIT", "SOURCE", "NEEDS", "NOTICES")
         sums = [(hashlib.sha256((self.top / "release" / name).read_bytes()).hexdigest(), name) for name in names]
         self.write("release/SHA256SUMS", "".join(f"{sum}  {name}\n" for sum, name in sums))

@@ -32,6 +32,9 @@ class Release(unittest.TestCase):
         self.assertTrue(os.access(release / "desk", os.X_OK))
         self.assertEqual((release / "SOURCE").read_text().strip(), self.checkout.source())
         self.assertRegex((release / "NEEDS").read_text(), r"^glibc 2\.\d+\n$")
+        notices = (release / "NOTICES").read_text()
+        self.assertIn("libraries of the kit of Rattle: os, std.", notices)
+        self.assertIn("\nos:\n\nthe licence of os\n", notices)
         self.checked(0, "of these sources", "no program was built here")
         self.assertTrue(self.checkout.run("./opa", "--which")[1].endswith("/release/opa\n"))
 
