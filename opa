@@ -1,3 +1,3 @@
-#!/usr/bin/env bash
+#!/bin/sh
 # Runs the program `opa` with the words given: see tools/launch.
-exec "$(dirname "$(readlink -f "${BASH_SOURCE[0]}")")/tools/launch" opa "$@"
+exec "$(dirname -- "$(readlink -f -- "$0")")/tools/launch" opa "$@"

@@ -1,0 +1,35 @@
+"""How tools/test counts what its parts print."""
+import unittest
+
+from loading import tool
+
+test = tool("test")
+
+
+class Counts(unittest.TestCase):
+    def test_one(self) -> None:
+        self.assertEqual(test.one(0, ""), (1, 0))
+        self.assertEqual(test.one(1, ""), (0, 1))
+
+    def test_last_line(self) -> None:
+        self.assertEqual(test.last_line(0, "x\n703 passed, 0 failed, 14 passed over\n"), (703, 0))
+        self.assertEqual(test.last_line(1, "1 passed, 0 failed\n20 passed, 3 failed\n"), (20, 3))
+        # What fails without a count counts as one failure.
+        self.assertEqual(test.last_line(0, "nothing\n"), (0, 1))
+        self.assertEqual(test.last_line(2, "5 passed, 0 failed\n"), (5, 1))
+
+    def test_each_line(self) -> None:
+        self.assertEqual(test.each_line(1, "a: passed\nb: FAILED\n  (1, 'x')\nc: d: passed\n"), (2, 1))
+        self.assertEqual(test.each_line(0, ""), (0, 1))
+
+    def test_unit_tests(self) -> None:
+        self.assertEqual(test.unit_tests(0, "Ran 29 tests in 14.040s\n\nOK\n"), (29, 0))
+        self.assertEqual(test.unit_tests(1, "Ran 29 tests in 1s\n\nFAILED (failures=1, errors=2)\n"), (26, 3))
+        self.assertEqual(test.unit_tests(1, "no module\n"), (0, 1))
+
+    def test_a_program_that_is_not_there(self) -> None:
+        self.assertEqual(test.program_of("opa", "/nowhere/opa")[0], None)
+
+
+if __name__ == "__main__":
+    unittest.main()
