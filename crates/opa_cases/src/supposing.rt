@@ -15,7 +15,11 @@ use std::alloc::Global;
 use std::sync::ledger::Ledger;
 
 /// Keeps the case on the pile.
-fn keep<L: Ledger>(alloc: Global, session: &Session<L>, current: &mut Current) -> Result<(), NoMemory>
+fn keep<L: Ledger>(
+    alloc: Global,
+    session: &Session<L>,
+    current: &mut Current,
+) -> Result<(), NoMemory>
     ensures ok { OnOk result (current.new.pile ≡ current.old.pile ++ kept_as (held_of session.now) current.old.reached ∷ []) }
     ensures case { FitsRules (rules_of session.now) (held_of session.now) }
     ensures reached { current.new.reached ≡ current.old.reached }

@@ -28,7 +28,7 @@ use std::sync::ledger::Ledger;
 
 /// A rulebase with what is computed of it once, a case that fits it, the line of each conclusion (the fresh determination at
 /// every day), and which slots read each line and each list. Nothing is staged. The number is how many slots the last accepted
-/// change reached.
+/// change reached. A kept line changes only by a derivation that is counted on the ledger.
 #[derive(Drop)]
 pub struct Session<L: Ledger> {
     pub(crate) base: Rulebase,

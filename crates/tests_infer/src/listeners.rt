@@ -70,7 +70,12 @@ impl Telling<String> for HeardTwice {
 
 /// The same from the start.
 fn heard_from_the_start(alloc: Global, fussy: bool) -> Result<String, Fail> {
-    told_after(alloc, &[("main", texts::EXEMPT)], &[], &HeardTwice { fussy })
+    told_after(
+        alloc,
+        &[("main", texts::EXEMPT)],
+        &[],
+        &HeardTwice { fussy },
+    )
 }
 
 /// The second time no line changes, and nothing more is kept.

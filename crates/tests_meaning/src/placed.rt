@@ -62,7 +62,12 @@ fn place_after(
     instances: &[(u32, &str)],
     entity: u32,
 ) -> Result<String, Fail> {
-    told_after(alloc, &[("main", text)], &[line], &Place { instances, entity })
+    told_after(
+        alloc,
+        &[("main", text)],
+        &[line],
+        &Place { instances, entity },
+    )
 }
 
 const AN_ADULT: &str = "answer the claimant is an adult = uncertain";
