@@ -23,7 +23,7 @@ use opa_value::Value;
 use std::sync::ledger::Ledger;
 
 /// The kept lines, over the case that is held.
-#[derive(Clone, Copy)]
+#[derive(Drop)]
 pub(crate) struct Kept<'a, L: Ledger> {
     base: &'a Rulebase,
     case: &'a Case,
