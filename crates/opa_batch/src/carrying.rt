@@ -23,7 +23,7 @@ use std::sync::ledger::Ledger;
 /// Makes a change, or tells its fault.
 fn take_change<L: Ledger>(
     alloc: Global,
-    session: &mut Session,
+    session: &mut Session<L>,
     column: usize,
     change: ChangeCommand,
     steps: &mut Steps<L>,
@@ -67,7 +67,7 @@ fn change_in(command: Command) -> Option<ChangeCommand>
 /// Carries out a command: a change alone does something.
 fn take_command<L: Ledger>(
     alloc: Global,
-    session: &mut Session,
+    session: &mut Session<L>,
     column: usize,
     command: Command,
     steps: &mut Steps<L>,
@@ -89,7 +89,7 @@ fn take_command<L: Ledger>(
 /// Reads a line and carries it out, and answers its fault if it has one.
 fn take_line<L: Ledger>(
     alloc: Global,
-    session: &mut Session,
+    session: &mut Session<L>,
     column: usize,
     line: &[u8],
     steps: &mut Steps<L>,
@@ -113,7 +113,7 @@ fn take_line<L: Ledger>(
 /// Carries out the cell of a column, and answers its fault if it has one. An empty cell does nothing.
 pub(crate) fn take_cell<L: Ledger>(
     alloc: Global,
-    session: &mut Session,
+    session: &mut Session<L>,
     column: usize,
     head: &Head,
     cell: &[u8],

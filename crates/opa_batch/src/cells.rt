@@ -19,7 +19,7 @@ use std::sync::ledger::Ledger;
 /// Carries out the cells of a record, and answers the first fault if there is one.
 fn take_cells<L: Ledger>(
     alloc: Global,
-    session: &mut Session,
+    session: &mut Session<L>,
     heads: &[Head],
     row: &ByteRecord,
     steps: &mut Steps<L>,
@@ -43,7 +43,7 @@ fn take_cells<L: Ledger>(
 /// Makes the case of a record, or answers its fault.
 pub(crate) fn take_record<L: Ledger>(
     alloc: Global,
-    session: &mut Session,
+    session: &mut Session<L>,
     heads: &[Head],
     row: &ByteRecord,
     steps: &mut Steps<L>,

@@ -51,7 +51,7 @@ fn empty_case(alloc: Global, base: &Rulebase) -> Case
 }
 
 /// Whether nothing is known: the case that is held fits, so that this is the case where nothing is answered and nothing listed.
-fn is_empty(session: &Session) -> bool
+fn is_empty<L: Ledger>(session: &Session<L>) -> bool
     ensures { result ≡ true → held_of session.now ≡ no_case }
 {
     empty_fits();
@@ -70,7 +70,7 @@ fn is_empty(session: &Session) -> bool
 /// Nothing is known of the next record; of the first one nothing is known yet.
 fn forget_case<L: Ledger>(
     alloc: Global,
-    session: &mut Session,
+    session: &mut Session<L>,
     place: usize,
     steps: &mut Steps<L>,
 ) -> Result<(), NoMemory>
@@ -94,7 +94,7 @@ fn forget_case<L: Ledger>(
 /// Decides the record at a place, keeps it with its row, and adds the row.
 fn add_decided<L: Ledger>(
     alloc: Global,
-    session: &mut Session,
+    session: &mut Session<L>,
     heads: &[Head],
     place: usize,
     row: &mut ByteRecord,
@@ -121,7 +121,7 @@ fn add_decided<L: Ledger>(
 /// Adds the row of the record at a place, as it is known, or as it is decided now.
 fn add_record<L: Ledger>(
     alloc: Global,
-    session: &mut Session,
+    session: &mut Session<L>,
     heads: &[Head],
     place: usize,
     row: &mut ByteRecord,
@@ -151,7 +151,7 @@ fn add_record<L: Ledger>(
 /// Adds the row of the record that was cut, and of each one behind it as it is cut.
 fn add_rows<L: Ledger>(
     alloc: Global,
-    session: &mut Session,
+    session: &mut Session<L>,
     heads: &[Head],
     bytes: &[u8],
     reader: &mut Reader<&[u8]>,
@@ -177,7 +177,7 @@ fn add_rows<L: Ledger>(
 }
 
 /// Lets a session go.
-fn let_go(_session: Session) {}
+fn let_go<L: Ledger>(_session: Session<L>) {}
 
 /// Adds the rows of the records from the first one on, which was cut, over a session of their own.
 fn determined<L: Ledger>(

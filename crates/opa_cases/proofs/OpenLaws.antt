@@ -1,6 +1,7 @@
 -- The cases that are open, where one of them is in the session.
 use Rattle.std.proofs.Common.{◌≡◌, ◌+◌, ℕ, Bool, true, false, cond, List, refl, sym, ap, ◌∙◌, subst, is_some}
 use Rattle.std.specs.Prelude.{Option, None, Some, ◌||◌}
+use Rattle.std.specs.declared.sync.ledger.Ledger.{Ghosts}
 use Rattle.std.specs.FinMap as map
 use Rattle.std.specs.Ordering.{nat_cmp, eq_by_cmp}
 use Rattle.std.specs.Cmp.{eq_by_cmp_equiv}
@@ -77,7 +78,7 @@ has_with m k q v =
 
 -- ---- turning to a name
 
-module _ (s : Session) (c : Current) (others : Opens) (name : List ℕ) where
+module _ {L : Type 0} {G : Ghosts L} (s : Session L G) (c : Current) (others : Opens) (name : List ℕ) where
   -- the session holds its case already
   pub turned_there : c.name ≡ name → is_some (map.get others c.name) ≡ false → IsTurned name (map.insert others c.name (open_of s c)) s others c
   turned_there same apart =
@@ -89,22 +90,22 @@ module _ (s : Session) (c : Current) (others : Opens) (name : List ℕ) where
       })
 
 -- the session's case is the one that is asked for
-pub turned_current : (s : Session) (o : Option Current) (c : Current) (others : Opens) (name : List ℕ) → o ≡ Some c → bytes_eq c.name name ≡ true → IsApart o others → IsTurned name (opens_of s o others) s others c
+pub turned_current : {L : Type 0} {G : Ghosts L} (s : Session L G) (o : Option Current) (c : Current) (others : Opens) (name : List ℕ) → o ≡ Some c → bytes_eq c.name name ≡ true → IsApart o others → IsTurned name (opens_of s o others) s others c
 turned_current s o c others name e same apart =
     let P : Option Current → Type 0 = λ x. IsTurned name (opens_of s x others) s others c in
     subst P (sym e) (turned_there s c others name ((bytes_eq-Decides c.name name).0 same) (apart c e))
 
-pub turned_beside : (s t : Session) (o : Option Current) (others laid rest : Opens) (c : Current) (name : List ℕ) → laid ≡ opens_of s o others → IsTurned name laid t rest c → IsTurned name (opens_of s o others) t rest c
+pub turned_beside : {L : Type 0} {G : Ghosts L} (s t : Session L G) (o : Option Current) (others laid rest : Opens) (c : Current) (name : List ℕ) → laid ≡ opens_of s o others → IsTurned name laid t rest c → IsTurned name (opens_of s o others) t rest c
 turned_beside s t o others laid rest c name e h = let P : Opens → Type 0 = λ m. IsTurned name m t rest c in subst P e h
 
 -- no case is the session's
-pub opens_none : (s : Session) (o : Option Current) (others : Opens) → o ≡ None → others ≡ opens_of s o others
+pub opens_none : {L : Type 0} {G : Ghosts L} (s : Session L G) (o : Option Current) (others : Opens) → o ≡ None → others ≡ opens_of s o others
 opens_none s o others e = ap (λ x. opens_of s x others) (sym e)
 
-pub opens_laid : (s : Session) (o : Option Current) (c : Current) (others laid : Opens) → o ≡ Some c → laid ≡ map.insert others c.name (open_of s c) → laid ≡ opens_of s o others
+pub opens_laid : {L : Type 0} {G : Ghosts L} (s : Session L G) (o : Option Current) (c : Current) (others laid : Opens) → o ≡ Some c → laid ≡ map.insert others c.name (open_of s c) → laid ≡ opens_of s o others
 opens_laid s o c others laid e h = h ∙ ap (λ x. opens_of s x others) (sym e)
 
-module _ (s : Session) (o : Option Current) (c : Current) (others : Opens) (e : o ≡ Some c) where
+module _ {L : Type 0} {G : Ghosts L} (s : Session L G) (o : Option Current) (c : Current) (others : Opens) (e : o ≡ Some c) where
   pub has_some : (name : List ℕ) → (bytes_eq c.name name || is_some (map.get others name)) ≡ is_some (map.get (opens_of s o others) name)
   has_some name = has_with others c.name name (open_of s c) ∙ ap (λ x. is_some (map.get (opens_of s x others) name)) (sym e)
 
@@ -113,7 +114,7 @@ module _ (s : Session) (o : Option Current) (c : Current) (others : Opens) (e : 
 
 -- ---- what is open after a line
 
-module _ (before : Opens) (name : List ℕ) (s : Session) (others : Opens) where
+module _ {L : Type 0} {G : Ghosts L} (before : Opens) (name : List ℕ) (s : Session L G) (others : Opens) where
   pub after_line : (closed : Bool) (c : Current) → others ≡ map.remove before name → c.name ≡ name → opens_of s (current_by closed c) others ≡ put before name (left_by closed (open_of s c))
   after_line true c rest named = rest
   after_line false c rest named =

@@ -1,5 +1,6 @@
 -- A line of a case is served.
 use Rattle.std.proofs.Common.{◌≡◌, ℕ, Bool, false, List, refl, sym, ap, ◌∙◌, subst}
+use Rattle.std.specs.declared.sync.ledger.Ledger.{Ghosts}
 use Rattle.std.specs.Prelude.{Option, None, Some, Result, IfOk, IfErr, MatchOption}
 use Rattle.opa_io.specs.Outside.{Files}
 use Rattle.opa_infer.specs.declared.session.Session.{Session}
@@ -17,7 +18,7 @@ use Rattle.opa_cases.specs.Scripts.{Responds, left_by}
 use Rattle.opa_cases.proofs.OpenLaws.{after_line}
 use Rattle.opa_cases.proofs.ReadLaws.{read_as}
 
-module _ (r r' : Rulebase) (before : Opens) (files : Option Files) (name rest : List ℕ) (m : Lists) (read : Result Order CmdFault) (s t : Session) (others : Opens) (c d : Current) (closed : Bool) (said text : List ℕ) where
+module _ {L : Type 0} {G : Ghosts L} (r r' : Rulebase) (before : Opens) (files : Option Files) (name rest : List ℕ) (m : Lists) (read : Result Order CmdFault) (s t : Session L G) (others : Opens) (c d : Current) (closed : Bool) (said text : List ℕ) where
   pub served : is_full before name ≡ false → IsTurned name before s others c → m ≡ r.model → IfOk read (IsOrder m rest) → IfErr read (OrdersNothing m rest)
       → Responds r (open_of s c) read said closed (open_of t d) → d.name ≡ c.name → text ≡ behind_name name said → r' ≡ r
       → Serves (held r before files) name rest text (held r' (opens_of t (current_by closed d) others) files)
@@ -38,10 +39,10 @@ module _ (r r' : Rulebase) (before : Opens) (files : Option Files) (name rest : 
   }
 
 -- the same, as the session and the others are kept
-pub served_kept : (x : Held) (name rest text : List ℕ) (files : Option Files) (s s' : Session) (o o' : Option Current) (t t' : Opens) → s' ≡ s → o' ≡ o → t' ≡ t
+pub served_kept : {L : Type 0} {G : Ghosts L} (x : Held) (name rest text : List ℕ) (files : Option Files) (s s' : Session L G) (o o' : Option Current) (t t' : Opens) → s' ≡ s → o' ≡ o → t' ≡ t
     → Serves x name rest text (held (rules_of s) (opens_of s o t) files) → Serves x name rest text (held (rules_of s') (opens_of s' o' t') files)
-served_kept x name rest text files s s' o o' t t' es eo et h =
-    let P : Session → Type 0 = λ q. Serves x name rest text (held (rules_of q) (opens_of q o t) files) in
+served_kept {L} {G} x name rest text files s s' o o' t t' es eo et h =
+    let P : Session L G → Type 0 = λ q. Serves x name rest text (held (rules_of q) (opens_of q o t) files) in
     let Q : Option Current → Type 0 = λ q. Serves x name rest text (held (rules_of s') (opens_of s' q t) files) in
     let R : Opens → Type 0 = λ q. Serves x name rest text (held (rules_of s') (opens_of s' o' q) files) in
     subst R (sym et) (subst Q (sym eo) (subst P (sym es) h))

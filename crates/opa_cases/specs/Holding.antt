@@ -2,6 +2,7 @@
 use Rattle.std.specs.Prelude.{◌≡◌, ℕ, Bool, true, false, List, All, Option, None, Some, is_some}
 use Rattle.std.specs.Option.{ForSome}
 use Rattle.std.specs.FinMap as map
+use Rattle.std.specs.declared.sync.ledger.Ledger.{Ghosts}
 use Rattle.opa_case.specs.Cases.{CaseView}
 use Rattle.opa_case.specs.Fits.{Fits}
 use Rattle.opa_case.specs.Shapes.{shape_of}
@@ -15,11 +16,11 @@ use Rattle.opa_cases.specs.Scripts.{opened, opened_as}
 use Rattle.opa_cases.specs.Caseload.{Opens}
 
 -- the case that a session holds, as one that is open
-abbrev pub open_of : Session → Current → OpenCase
+abbrev pub open_of : {L : Type 0} {G : Ghosts L} → Session L G → Current → OpenCase
 open_of s c = opened_as (held_of s) c.reached c.pile
 
 -- the cases that are open: that of the session, if there is one, and the others
-abbrev pub opens_of : Session → Option Current → Opens → Opens
+abbrev pub opens_of : {L : Type 0} {G : Ghosts L} → Session L G → Option Current → Opens → Opens
 opens_of s None others = others
 opens_of s (Some c) others = map.insert others c.name (open_of s c)
 
@@ -55,7 +56,7 @@ CurrentFits r o = ForSome o (λ c. PileFits r c.pile)
 -- ---- on the way there
 
 -- the session holds the case of the name, and the others are those that were open without it
-pub record IsTurned (name : List ℕ) (before : Opens) (s : Session) (others : Opens) (c : Current) : Type 0 where
+pub record IsTurned {L : Type 0} {G : Ghosts L} (name : List ℕ) (before : Opens) (s : Session L G) (others : Opens) (c : Current) : Type 0 where
   pub named : c.name ≡ name
   pub rest : others ≡ map.remove before name
   pub same : open_of s c ≡ opened (map.get before name)

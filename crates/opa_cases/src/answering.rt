@@ -17,7 +17,11 @@ use std::alloc::Global;
 use std::sync::ledger::Ledger;
 
 /// What a line prints that names no case.
-fn unnamed(alloc: Global, caseload: &Caseload, line: &[u8]) -> Result<Vec<u8>, NoMemory>
+fn unnamed<L: Ledger>(
+    alloc: Global,
+    caseload: &Caseload<L>,
+    line: &[u8],
+) -> Result<Vec<u8>, NoMemory>
     ensures { IfOk result (λ t. (files : Option Files) → RepliesUnnamed (holding caseload.now files) line.now t.items (holding caseload.now files)) }
 {
     if is_idle(text_of(line)) {
@@ -30,7 +34,7 @@ fn unnamed(alloc: Global, caseload: &Caseload, line: &[u8]) -> Result<Vec<u8>, N
 /// Carries out the rest of a line of a case.
 fn serve<L: Ledger>(
     alloc: Global,
-    caseload: &mut Caseload,
+    caseload: &mut Caseload<L>,
     steps: &mut Steps<L>,
     name: &Txt,
     rest: &str,
@@ -49,7 +53,7 @@ fn serve<L: Ledger>(
 /// What a line prints of the case that it names.
 fn answer_named<L: Ledger>(
     alloc: Global,
-    caseload: &mut Caseload,
+    caseload: &mut Caseload<L>,
     steps: &mut Steps<L>,
     name: &Txt,
     rest: &str,
@@ -67,7 +71,7 @@ fn answer_named<L: Ledger>(
 /// What a line prints.
 pub(crate) fn answer<L: Ledger>(
     alloc: Global,
-    caseload: &mut Caseload,
+    caseload: &mut Caseload<L>,
     steps: &mut Steps<L>,
     line: &[u8],
 ) -> Result<Vec<u8>, NoMemory>

@@ -38,7 +38,7 @@ fn left_open(text: Vec<u8>) -> Said
 /// Carries out an order of one case.
 fn carry_out<L: Ledger>(
     alloc: Global,
-    session: &mut Session,
+    session: &mut Session<L>,
     current: &mut Current,
     steps: &mut Steps<L>,
     order: Order,
@@ -74,7 +74,7 @@ fn carry_out<L: Ledger>(
 /// Carries out what the rest of a line was read as, or refuses it.
 pub(crate) fn respond<L: Ledger>(
     alloc: Global,
-    session: &mut Session,
+    session: &mut Session<L>,
     current: &mut Current,
     steps: &mut Steps<L>,
     read: Result<Order, CmdFault>,

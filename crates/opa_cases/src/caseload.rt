@@ -8,11 +8,12 @@ ghost use Rattle.opa_cases.specs.Holding.{AllFit, CurrentFits, IsApart};
 use crate::kept::{Current, OpenCase};
 use opa_infer::Session;
 use opa_named::Named;
+use std::sync::ledger::Ledger;
 
 /// One session, which goes from one case to another, and the other cases that are open.
 #[derive(Drop)]
-pub struct Caseload {
-    pub(crate) session: Session,
+pub struct Caseload<L: Ledger> {
+    pub(crate) session: Session<L>,
     pub(crate) current: Option<Current>,
     pub(crate) others: Named<OpenCase>,
     ghost apart: { IsApart current others },

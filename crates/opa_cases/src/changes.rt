@@ -21,7 +21,7 @@ use std::sync::ledger::Ledger;
 /// Makes a change whole, or refuses it.
 fn change<L: Ledger>(
     alloc: Global,
-    session: &mut Session,
+    session: &mut Session<L>,
     current: &mut Current,
     steps: &mut Steps<L>,
     command: ChangeCommand,
@@ -49,7 +49,7 @@ fn change<L: Ledger>(
 /// Carries out a command of one case; those that a caseload doesn't take are refused.
 pub(crate) fn do_command<L: Ledger>(
     alloc: Global,
-    session: &mut Session,
+    session: &mut Session<L>,
     current: &mut Current,
     steps: &mut Steps<L>,
     command: Command,

@@ -16,13 +16,13 @@ use opa_tree::Rulebase;
 use std::alloc::Global;
 use std::sync::ledger::Ledger;
 
-impl Caseload {
+impl<L: Ledger> Caseload<L> {
     /// No case is open.
-    pub fn start<L: Ledger>(
+    pub fn start(
         alloc: Global,
         base: Rulebase,
         steps: &mut Steps<L>,
-    ) -> Result<Caseload, NoMemory>
+    ) -> Result<Caseload<L>, NoMemory>
         ensures { IfOk result (λ c. (files : Option Files) → holding c files ≡ meant.at_first base files) }
     {
         let session = Session::start(alloc, base, steps)?;
@@ -34,7 +34,7 @@ impl Caseload {
     }
 }
 
-impl Replier for Caseload {
+impl<L: Ledger> Replier<L> for Caseload<L> {
     ghost Held = { meant.Held };
 
     ghost rule = { meant.caseload };
@@ -52,7 +52,7 @@ impl Replier for Caseload {
         })
     }
 
-    fn reply<F: Shelf, L: Ledger>(
+    fn reply<F: Shelf>(
         &mut self,
         alloc: Global,
         shelf: &mut F,

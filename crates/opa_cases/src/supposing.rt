@@ -15,7 +15,11 @@ use std::alloc::Global;
 use std::sync::ledger::Ledger;
 
 /// Keeps the case on the pile.
-fn keep(alloc: Global, session: &Session, current: &mut Current) -> Result<(), NoMemory>
+fn keep<L: Ledger>(
+    alloc: Global,
+    session: &Session<L>,
+    current: &mut Current,
+) -> Result<(), NoMemory>
     ensures ok { OnOk result (current.new.pile ≡ current.old.pile ++ kept_as (held_of session.now) current.old.reached ∷ []) }
     ensures case { FitsRules (rules_of session.now) (held_of session.now) }
     ensures reached { current.new.reached ≡ current.old.reached }
@@ -29,9 +33,9 @@ fn keep(alloc: Global, session: &Session, current: &mut Current) -> Result<(), N
 }
 
 /// Keeps the case; what is changed from now on is supposed.
-pub(crate) fn suppose(
+pub(crate) fn suppose<L: Ledger>(
     alloc: Global,
-    session: &Session,
+    session: &Session<L>,
     current: &mut Current,
 ) -> Result<Vec<u8>, NoMemory>
     requires fits { PileFits (rules_of session.now) current.old.pile }
@@ -52,7 +56,7 @@ pub(crate) fn suppose(
 #[tactic(auto, using(crate::proofs::FitLaws::piles))]
 pub(crate) fn undo<L: Ledger>(
     alloc: Global,
-    session: &mut Session,
+    session: &mut Session<L>,
     current: &mut Current,
     steps: &mut Steps<L>,
 ) -> Result<Vec<u8>, NoMemory>
@@ -78,7 +82,7 @@ pub(crate) fn undo<L: Ledger>(
 /// Puts a case that was kept in the place of the one that is held.
 fn bring<L: Ledger>(
     alloc: Global,
-    session: &mut Session,
+    session: &mut Session<L>,
     kept: KeptCase,
     current: &mut Current,
     steps: &mut Steps<L>,

@@ -45,7 +45,7 @@ fn found_or_fresh(alloc: Global, base: &Rulebase, found: Option<OpenCase>) -> Op
     }
 }
 
-impl Caseload {
+impl<L: Ledger> Caseload<L> {
     /// Whether a name is open.
     fn has(&self, name: &Txt) -> bool
         ensures { result ≡ is_some (map.get (opens_of self.now.session self.now.current self.now.others) name.now) }
@@ -98,7 +98,7 @@ impl Caseload {
     }
 
     /// Takes a case from the others, or opens it, and brings it into the session.
-    fn take_up<L: Ledger>(
+    fn take_up(
         &mut self,
         alloc: Global,
         name: Txt,
@@ -126,7 +126,7 @@ impl Caseload {
     }
 
     /// Brings the case of a name into the session, and takes it out of what is open.
-    pub(crate) fn turn_to<L: Ledger>(
+    pub(crate) fn turn_to(
         &mut self,
         alloc: Global,
         name: &Txt,

@@ -1,6 +1,7 @@
 -- What is held of a claimant by a rulebase, and what a change of it tells.
 use Rattle.std.specs.Prelude.{◌≡◌, ℕ, List, length, map, Result}
 use Rattle.std.specs.List.{AllZip}
+use Rattle.std.specs.declared.sync.ledger.Ledger.{Ghosts}
 use Rattle.opa_case.specs.Cases.{CaseView, no_case}
 use Rattle.opa_case.specs.Shapes.{shape_of}
 use Rattle.opa_case.specs.Steps.{step}
@@ -14,18 +15,18 @@ use Rattle.opa_mean.specs.Given.{base_of, facts_of}
 use Rattle.opa_changes.specs.Telling.{TellsOf}
 use Rattle.opa_infer.specs.declared.session.Session.{Session}
 
-abbrev pub rules_of : Session → Rulebase
+abbrev pub rules_of : {L : Type 0} {G : Ghosts L} → Session L G → Rulebase
 rules_of s = s.base
 
-abbrev pub held_of : Session → CaseView
+abbrev pub held_of : {L : Type 0} {G : Ghosts L} → Session L G → CaseView
 held_of s = s.case
 
 -- how many slots the last accepted change reached; 0 before the first one
-abbrev pub reached_of : Session → ℕ
+abbrev pub reached_of : {L : Type 0} {G : Ghosts L} → Session L G → ℕ
 reached_of s = s.dirty
 
 -- what a command makes of the case: a new case, or the first refusal
-abbrev pub changed_by : ChangeCommand → Session → Result CaseView Refusal
+abbrev pub changed_by : {L : Type 0} {G : Ghosts L} → ChangeCommand → Session L G → Result CaseView Refusal
 changed_by command s = step (shape_of s.base.model) s.base.ruled s.case command
 
 -- how many slots another case reaches

@@ -24,10 +24,10 @@ use opa_value::Value;
 use std::alloc::Global;
 use std::sync::ledger::Ledger;
 
-impl Session {
+impl<L: Ledger> Session<L> {
     /// Sets an answer, or takes it away where there is no line, and tells each listener of the changes; without memory for it the
     /// session and what listeners keep are as they were. The case is changed last of all that may want memory.
-    pub(crate) fn put_line<L: Ledger>(
+    pub(crate) fn put_line(
         &mut self,
         alloc: Global,
         attr: AttrId,
@@ -79,13 +79,13 @@ impl Session {
 
 /// Changes the case, and keeps what is staged; without memory the case stays, and nothing is staged any more. It tells how many
 /// slots were staged.
-fn keep_answer(
+fn keep_answer<L: Ledger>(
     base: &Rulebase,
     case: &mut Case,
     attr: AttrId,
     inst: &InstanceId,
     line: Option<Line<Value>>,
-    store: &mut Store,
+    store: &mut Store<L>,
 ) -> Result<u64, NoMemory>
     requires declared { HasAttribute base.now.model attr }
     requires fits { IsOf base.now case.old }

@@ -16,10 +16,10 @@ use opa_listen::Listener;
 use std::alloc::Global;
 use std::sync::ledger::Ledger;
 
-impl Session {
+impl<L: Ledger> Session<L> {
     /// Makes a change whole, tells each listener of it, and answers how many values differ; or refuses it with the session and
     /// what listeners keep as they were. Of the lines those alone are derived again that the change reaches.
-    pub fn apply<L: Ledger>(
+    pub fn apply(
         &mut self,
         alloc: Global,
         command: ChangeCommand,

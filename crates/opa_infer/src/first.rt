@@ -27,7 +27,7 @@ pub(crate) fn first_lines<L: Ledger>(
     code: &Code,
     case: &Case,
     steps: &mut Steps<L>,
-) -> Result<Store, NoMemory>
+) -> Result<Store<L>, NoMemory>
     requires code { rulebase_of code.now ≡ base.now }
     requires fits { IsOf base.now case.now }
     ensures current { IfOk result (λ store. AreCurrent base.now case.now (kept_of store)) }
@@ -49,7 +49,7 @@ fn staged_lines<L: Ledger>(
     case: &Case,
     slots: &[(AttrId, InstanceId)],
     steps: &mut Steps<L>,
-) -> Result<Store, NoMemory>
+) -> Result<Store<L>, NoMemory>
     requires code { rulebase_of code.now ≡ base.now }
     requires fits { IsOf base.now case.now }
     requires slots { slots.now ≡ slots_of (base_of base.now) (facts_of case.now) }
@@ -64,7 +64,7 @@ fn staged_lines<L: Ledger>(
 }
 
 /// A store without lines.
-fn nothing_staged(alloc: Global) -> Store
+fn nothing_staged<L: Ledger>(alloc: Global) -> Store<L>
     ensures kept { NoLines (kept_of result) }
     ensures staged { NoLines (staged_of result) }
 {
@@ -81,7 +81,7 @@ fn stage_first<L: Ledger>(
     case: &Case,
     slots: &[(AttrId, InstanceId)],
     place: usize,
-    store: &mut Store,
+    store: &mut Store<L>,
     steps: &mut Steps<L>,
 ) -> Result<(), NoMemory>
     requires code { rulebase_of code.now ≡ base.now }

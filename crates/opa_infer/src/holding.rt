@@ -21,8 +21,9 @@ use opa_mean::{Held, has_place, slots_counted};
 use opa_model::AttrId;
 use opa_tree::Rulebase;
 use opa_value::Value;
+use std::sync::ledger::Ledger;
 
-impl Held for Session {
+impl<L: Ledger> Held for Session<L> {
     ghost use Rattle.opa_infer.specs.Sessions.{rules_of, held_of};
 
     ghost rules = { rules_of };
@@ -51,7 +52,7 @@ impl Held for Session {
     }
 }
 
-impl Session {
+impl<L: Ledger> Session<L> {
     /// Which attributes never rest on whether something is known.
     pub fn frees(&self) -> &Frees
         ensures { rulebase_of result.now ≡ rules_of self.now }

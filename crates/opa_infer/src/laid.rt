@@ -20,19 +20,20 @@ use opa_model::{AttrId, RelId};
 use opa_store::{Next, Store};
 use opa_tree::Rulebase;
 use opa_value::Value;
+use std::sync::ledger::Ledger;
 
 /// The kept lines, over the case that is held.
-#[derive(Clone, Copy)]
-pub(crate) struct Kept<'a> {
+#[derive(Drop)]
+pub(crate) struct Kept<'a, L: Ledger> {
     base: &'a Rulebase,
     case: &'a Case,
-    store: &'a Store,
+    store: &'a Store<L>,
     ghost fits: { Fits (shape_of base.now.model) base.now.ruled case.now } by { Prim.hlevel (props, coded_lists, coded_population, coded_instance) },
     ghost current: { AreCurrent base.now case.now (kept_of store.now) } by { Prim.hlevel (props, each.the_row.coded) },
 }
 
-impl<'a> Kept<'a> {
-    pub(crate) fn new(base: &'a Rulebase, case: &'a Case, store: &'a Store) -> Kept<'a>
+impl<'a, L: Ledger> Kept<'a, L> {
+    pub(crate) fn new(base: &'a Rulebase, case: &'a Case, store: &'a Store<L>) -> Kept<'a, L>
         requires fits { IsOf base.now case.now }
         requires current { AreCurrent base.now case.now (kept_of store.now) }
         ensures base { result.base.now ≡ base.now }
@@ -42,7 +43,7 @@ impl<'a> Kept<'a> {
     }
 }
 
-impl<'a> Lined for Kept<'a> {
+impl<'a, L: Ledger> Lined for Kept<'a, L> {
     ghost rules = { λ k. k.base.now };
 
     ghost over = { λ k. k.case.now };
@@ -69,16 +70,16 @@ impl<'a> Lined for Kept<'a> {
 
 /// The staged lines, and else the kept ones, over the case that comes.
 #[derive(Drop)]
-pub(crate) struct Laid<'a, N: Next> {
+pub(crate) struct Laid<'a, N: Next, L: Ledger> {
     base: &'a Rulebase,
     next: &'a N,
-    store: &'a Store,
+    store: &'a Store<L>,
     ghost fits: { Fits (shape_of base.now.model) base.now.ruled (N.next next.now) } by { Prim.hlevel (props, coded_lists, coded_population, coded_instance) },
     ghost current: { AreCurrent base.now (N.next next.now) (laid_over (N.next next.now) (kept_of store.now) (staged_of store.now)) } by { Prim.hlevel (props, each.the_row.coded) },
 }
 
-impl<'a, N: Next> Laid<'a, N> {
-    pub(crate) fn new(base: &'a Rulebase, next: &'a N, store: &'a Store) -> Laid<'a, N>
+impl<'a, N: Next, L: Ledger> Laid<'a, N, L> {
+    pub(crate) fn new(base: &'a Rulebase, next: &'a N, store: &'a Store<L>) -> Laid<'a, N, L>
         requires fits { IsOf base.now (N.next next.now) }
         requires current { AreCurrent base.now (N.next next.now) (laid_over (N.next next.now) (kept_of store.now) (staged_of store.now)) }
         ensures base { result.base.now ≡ base.now }
@@ -88,7 +89,7 @@ impl<'a, N: Next> Laid<'a, N> {
     }
 }
 
-impl<'a, N: Next> Lined for Laid<'a, N> {
+impl<'a, N: Next, L: Ledger> Lined for Laid<'a, N, L> {
     ghost rules = { λ l. l.base.now };
 
     ghost over = { λ l. N.next l.next.now };
@@ -114,8 +115,8 @@ impl<'a, N: Next> Lined for Laid<'a, N> {
 }
 
 /// The staged line of what is live, or else its kept one.
-fn laid_line<'a, N: Next>(
-    store: &'a Store,
+fn laid_line<'a, N: Next, L: Ledger>(
+    store: &'a Store<L>,
     next: &N,
     attr: AttrId,
     inst: &InstanceId,

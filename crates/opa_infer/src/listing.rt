@@ -58,7 +58,7 @@ pub(crate) fn prepare_list<L: Ledger>(
     rel: RelId,
     inst: &InstanceId,
     names: Option<&List<Txt>>,
-    store: &mut Store,
+    store: &mut Store<L>,
     steps: &mut Steps<L>,
     listeners: &mut Vec<Box<dyn Listener>>,
 ) -> Result<Prepared, Refusal>
@@ -133,7 +133,7 @@ fn stage_list<L: Ledger>(
     readers: &Index,
     held: &Case,
     next: &Relisted<'_>,
-    store: &mut Store,
+    store: &mut Store<L>,
     steps: &mut Steps<L>,
     listeners: &mut Vec<Box<dyn Listener>>,
 ) -> Result<Prepared, NoMemory>

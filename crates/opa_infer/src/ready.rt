@@ -18,6 +18,7 @@ use opa_listen::{Change, Listener, copies, ready_all};
 use opa_store::{Next, Store};
 use opa_tree::Rulebase;
 use std::alloc::Global;
+use std::sync::ledger::Ledger;
 
 /// For each listener what it is told, and how many values differ.
 #[derive(Drop)]
@@ -27,12 +28,12 @@ pub(crate) struct Ready {
 }
 
 /// Makes ready what is told of staged lines. Nothing else than the listeners' room differs then.
-pub(crate) fn made_ready<N: Next>(
+pub(crate) fn made_ready<N: Next, L: Ledger>(
     alloc: Global,
     base: &Rulebase,
     held: &Case,
     next: &N,
-    store: &Store,
+    store: &Store<L>,
     listeners: &mut Vec<Box<dyn Listener>>,
 ) -> Result<Ready, NoMemory>
     requires before { IsOf base.now held.now }
@@ -50,12 +51,12 @@ pub(crate) fn made_ready<N: Next>(
 }
 
 /// What differs between the kept lines and the staged ones.
-fn staged_changes<N: Next>(
+fn staged_changes<N: Next, L: Ledger>(
     alloc: Global,
     base: &Rulebase,
     held: &Case,
     next: &N,
-    store: &Store,
+    store: &Store<L>,
 ) -> Result<Vec<Change>, NoMemory>
     requires before { IsOf base.now held.now }
     requires after { IsOf base.now (N.next next.now) }

@@ -29,10 +29,10 @@ use opa_tree::Rulebase;
 use std::alloc::Global;
 use std::sync::ledger::Ledger;
 
-impl Session {
+impl<L: Ledger> Session<L> {
     /// Sets a list, or forgets it where there are no names, and tells each listener of the changes; or refuses it with the session
     /// and what listeners keep as they were. No case is copied, and the case is changed last of all that may want memory.
-    pub(crate) fn put_names<L: Ledger>(
+    pub(crate) fn put_names(
         &mut self,
         alloc: Global,
         rel: RelId,
@@ -92,7 +92,7 @@ impl Session {
 
 /// Changes the case and the readers, and keeps what is staged; without memory the case and the readers stay, and nothing is
 /// staged any more. It tells how many slots were staged.
-fn keep_list(
+fn keep_list<L: Ledger>(
     alloc: Global,
     base: &Rulebase,
     owners: &Owners,
@@ -102,7 +102,7 @@ fn keep_list(
     inst: &InstanceId,
     names: Option<List<Txt>>,
     prepared: &Prepared,
-    store: &mut Store,
+    store: &mut Store<L>,
 ) -> Result<u64, NoMemory>
     requires declared { HasRelation base.now.model rel }
     requires fits { IsOf base.now case.old }
@@ -141,10 +141,10 @@ fn keep_list(
 }
 
 /// Keeps what is staged, and drops the lines of what goes. It takes no memory, and tells how many slots were staged.
-fn keep_staged(
+fn keep_staged<L: Ledger>(
     base: &Rulebase,
     owners: &Owners,
-    store: &mut Store,
+    store: &mut Store<L>,
     went: &[(InstanceId, InstanceId)],
 ) -> u64
     requires { AreOwners base.now owners.now }

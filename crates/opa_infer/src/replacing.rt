@@ -19,10 +19,10 @@ use opa_tree::Rulebase;
 use std::alloc::Global;
 use std::sync::ledger::Ledger;
 
-impl Session {
+impl<L: Ledger> Session<L> {
     /// Puts a case that fits in the place of the one that is held, and tells each listener of the changes; without memory for it
     /// the session and what listeners keep are as they were. It answers how many values differ.
-    pub fn replace_case<L: Ledger>(
+    pub fn replace_case(
         &mut self,
         alloc: Global,
         case: Case,
@@ -66,7 +66,7 @@ impl Session {
 
 /// Keeps what is staged, and drops the lines of what isn't live any more. It takes no memory, and tells how many slots were
 /// staged.
-fn keep_change(base: &Rulebase, next: &Case, store: &mut Store) -> u64
+fn keep_change<L: Ledger>(base: &Rulebase, next: &Case, store: &mut Store<L>) -> u64
     requires current { AreCurrent base.now next.now (laid_over next.now (kept_of store.old) (staged_of store.old)) }
     ensures current { AreCurrent base.now next.now (kept_of store.new) }
     ensures dirty { result ≡ length store.old.slots }

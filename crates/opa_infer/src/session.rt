@@ -24,19 +24,20 @@ use opa_readers::Index;
 use opa_store::{Owners, Store};
 use opa_tree::Rulebase;
 use opa_value::Value;
+use std::sync::ledger::Ledger;
 
 /// A rulebase with what is computed of it once, a case that fits it, the line of each conclusion (the fresh determination at
 /// every day), and which slots read each line and each list. Nothing is staged. The number is how many slots the last accepted
-/// change reached.
+/// change reached. A kept line changes only by a derivation that is counted on the ledger.
 #[derive(Drop)]
-pub struct Session {
+pub struct Session<L: Ledger> {
     pub(crate) base: Rulebase,
     pub(crate) owners: Owners,
     pub(crate) code: Code,
     pub(crate) frees: Frees,
     pub(crate) unknown: Line<Value>,
     pub(crate) case: Case,
-    pub(crate) store: Store,
+    pub(crate) store: Store<L>,
     pub(crate) readers: Index,
     pub(crate) dirty: u64,
     ghost owned: { AreOwners base owners } by { Prim.hlevel (props, attribute.the_row.coded) },

@@ -37,7 +37,7 @@ pub(crate) fn prepare_change<L: Ledger>(
     held: &Case,
     next: &Case,
     readers: &Index,
-    store: &mut Store,
+    store: &mut Store<L>,
     steps: &mut Steps<L>,
     listeners: &mut Vec<Box<dyn Listener>>,
 ) -> Result<Ready, NoMemory>
@@ -76,7 +76,7 @@ fn stage_change<L: Ledger>(
     held: &Case,
     next: &Case,
     readers: &Index,
-    store: &mut Store,
+    store: &mut Store<L>,
     steps: &mut Steps<L>,
     listeners: &mut Vec<Box<dyn Listener>>,
 ) -> Result<Ready, NoMemory>
@@ -114,7 +114,7 @@ pub(crate) fn prepare_answer<L: Ledger>(
     attr: AttrId,
     inst: &InstanceId,
     line: Option<&Line<Value>>,
-    store: &mut Store,
+    store: &mut Store<L>,
     steps: &mut Steps<L>,
     listeners: &mut Vec<Box<dyn Listener>>,
 ) -> Result<Ready, NoMemory>
@@ -158,7 +158,7 @@ fn stage_answer<L: Ledger>(
     code: &Code,
     readers: &Index,
     next: &Answered<'_>,
-    store: &mut Store,
+    store: &mut Store<L>,
     steps: &mut Steps<L>,
     listeners: &mut Vec<Box<dyn Listener>>,
 ) -> Result<Ready, NoMemory>

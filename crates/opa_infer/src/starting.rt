@@ -25,13 +25,13 @@ use opa_value::Value;
 use std::alloc::Global;
 use std::sync::ledger::Ledger;
 
-impl Session {
+impl<L: Ledger> Session<L> {
     /// The session in which nothing is known. Each line is derived once.
-    pub fn start<L: Ledger>(
+    pub fn start(
         alloc: Global,
         base: Rulebase,
         steps: &mut Steps<L>,
-    ) -> Result<Session, NoMemory>
+    ) -> Result<Session<L>, NoMemory>
         ensures base { IfOk result (λ s. rules_of s ≡ base) }
         ensures case { IfOk result (λ s. held_of s ≡ no_case) }
         ensures reached { IfOk result (λ s. reached_of s ≡ 0) }
@@ -54,10 +54,10 @@ struct Made {
 
 /// The empty case with the lines over it and who reads what.
 #[derive(Drop)]
-struct First {
+struct First<L: Ledger> {
     case: Case,
     readers: Index,
-    store: Store,
+    store: Store<L>,
 }
 
 fn made_of(alloc: Global, base: &Rulebase) -> Result<Made, NoMemory>
@@ -83,7 +83,7 @@ fn first_state<L: Ledger>(
     base: &Rulebase,
     code: &Code,
     steps: &mut Steps<L>,
-) -> Result<First, NoMemory>
+) -> Result<First<L>, NoMemory>
     requires { rulebase_of code.now ≡ base.now }
     ensures case { IfOk result (λ f. f.case ≡ no_case) }
     ensures fits { IfOk result (λ f. IsOf base.now f.case) }
@@ -102,7 +102,7 @@ fn first_state<L: Ledger>(
     })
 }
 
-fn begun(base: Rulebase, made: Made, first: First) -> Session
+fn begun<L: Ledger>(base: Rulebase, made: Made, first: First<L>) -> Session<L>
     requires owned { AreOwners base made.owners }
     requires coded { rulebase_of made.code ≡ base }
     requires freed { freed_by made.frees ≡ base }

@@ -1,6 +1,7 @@
 -- What is held between two lines: a rulebase, a case, how many slots the last change reached, what listeners watch and keep, the
 -- files of a shelf, where they are told, and how many lines of conclusions were derived, as far as a counter tells.
 use Rattle.std.specs.Prelude.{ℕ, List, Option}
+use Rattle.std.specs.declared.sync.ledger.Ledger.{Ghosts}
 use Rattle.opa_io.specs.Outside.{Files}
 use Rattle.opa_case.specs.Cases.{CaseView, no_case}
 use Rattle.opa_listen.specs.Hearing.{Hearer}
@@ -21,7 +22,7 @@ held rules case reached hearers files derived =
     record { rules = rules; case = case; reached = reached; hearers = hearers; files = files; derived = derived }
 
 -- a session, beside what listeners hear, the files and the steps that were counted
-abbrev pub beside : Session → List Hearer → Option Files → ℕ → Held
+abbrev pub beside : {L : Type 0} {G : Ghosts L} → Session L G → List Hearer → Option Files → ℕ → Held
 beside s hearers files steps = held (rules_of s) (held_of s) (reached_of s) hearers files steps
 
 -- other listeners, other files, or another count

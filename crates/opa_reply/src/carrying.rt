@@ -27,7 +27,7 @@ use std::sync::ledger::Ledger;
 #[tactic(auto, using(crate::proofs::ReplyLaws::carrying))]
 fn carry_out<F: Shelf, L: Ledger>(
     alloc: Global,
-    session: &mut Session,
+    session: &mut Session<L>,
     shelf: &mut F,
     listeners: &mut Vec<Box<dyn Listener>>,
     steps: &mut Steps<L>,
@@ -71,7 +71,7 @@ fn carry_out<F: Shelf, L: Ledger>(
 #[tactic(auto, using(crate::proofs::ReplyLaws::responding))]
 pub(crate) fn respond<F: Shelf, L: Ledger>(
     alloc: Global,
-    session: &mut Session,
+    session: &mut Session<L>,
     shelf: &mut F,
     listeners: &mut Vec<Box<dyn Listener>>,
     steps: &mut Steps<L>,

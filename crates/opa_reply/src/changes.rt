@@ -21,7 +21,7 @@ use std::sync::ledger::Ledger;
 #[tactic(auto, using(crate::proofs::Changing::changing))]
 pub(crate) fn change<L: Ledger>(
     alloc: Global,
-    session: &mut Session,
+    session: &mut Session<L>,
     listeners: &mut Vec<Box<dyn Listener>>,
     steps: &mut Steps<L>,
     command: ChangeCommand,

@@ -19,19 +19,19 @@ use std::sync::ledger::Ledger;
 
 /// A session that answers lines: each is a command.
 #[derive(Drop)]
-pub struct Conversation {
-    session: Session,
+pub struct Conversation<L: Ledger> {
+    session: Session<L>,
 }
 
-impl Conversation {
+impl<L: Ledger> Conversation<L> {
     /// Nothing is known of the case.
-    pub fn start<L: Ledger>(
+    pub fn start(
         alloc: Global,
         base: Rulebase,
         steps: &mut Steps<L>,
-    ) -> Result<Conversation, NoMemory>
+    ) -> Result<Conversation<L>, NoMemory>
         ensures first { IfOk result (λ c. (hearers : List Hearer) (files : Option Files) →
-            ⟦<Conversation as Replier>⟧.held c hearers files steps.new ≡ at_first base hearers files steps.new) }
+            ⟦<Conversation<L> as Replier<L>>⟧.held c hearers files steps.new ≡ at_first base hearers files steps.new) }
         ensures bound { steps.new ≤ steps.old + first_slots base }
     {
         let session = Session::start(alloc, base, steps)?;
@@ -39,7 +39,7 @@ impl Conversation {
     }
 }
 
-impl Replier for Conversation {
+impl<L: Ledger> Replier<L> for Conversation<L> {
     ghost Held = { Holding };
 
     ghost rule = { conversation };
@@ -58,7 +58,7 @@ impl Replier for Conversation {
     }
 
     #[tactic(auto, using(crate::proofs::ReplyLaws::replying))]
-    fn reply<F: Shelf, L: Ledger>(
+    fn reply<F: Shelf>(
         &mut self,
         alloc: Global,
         shelf: &mut F,

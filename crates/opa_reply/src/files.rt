@@ -12,12 +12,13 @@ use opa_mean::Held;
 use opa_saved::saved_text;
 use opa_talk::Halt;
 use std::alloc::Global;
+use std::sync::ledger::Ledger;
 
 /// Keeps the case under a name. All memory is taken before.
 #[tactic(auto, using(crate::proofs::Saving::saving))]
-pub(crate) fn save<F: Shelf>(
+pub(crate) fn save<F: Shelf, L: Ledger>(
     alloc: Global,
-    session: &Session,
+    session: &Session<L>,
     shelf: &mut F,
     name: &Txt,
 ) -> Result<Vec<u8>, Halt>

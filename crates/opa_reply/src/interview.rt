@@ -28,19 +28,19 @@ use std::sync::ledger::Ledger;
 
 /// A session that asks: each line replies to the question that is asked, or is a command behind a slash.
 #[derive(Drop)]
-pub struct Interview {
-    session: Session,
+pub struct Interview<L: Ledger> {
+    session: Session<L>,
 }
 
-impl Interview {
+impl<L: Ledger> Interview<L> {
     /// Nothing is known of the case.
-    pub fn start<L: Ledger>(
+    pub fn start(
         alloc: Global,
         base: Rulebase,
         steps: &mut Steps<L>,
-    ) -> Result<Interview, NoMemory>
+    ) -> Result<Interview<L>, NoMemory>
         ensures first { IfOk result (λ c. (hearers : List Hearer) (files : Option Files) →
-            ⟦<Interview as Replier>⟧.held c hearers files steps.new ≡ at_first base hearers files steps.new) }
+            ⟦<Interview<L> as Replier<L>>⟧.held c hearers files steps.new ≡ at_first base hearers files steps.new) }
         ensures bound { steps.new ≤ steps.old + first_slots base }
     {
         let session = Session::start(alloc, base, steps)?;
@@ -80,7 +80,7 @@ fn told(
 }
 
 /// The question that is asked next, which is declared.
-fn question(alloc: Global, session: &Session) -> Result<Option<Question>, NoMemory>
+fn question<L: Ledger>(alloc: Global, session: &Session<L>) -> Result<Option<Question>, NoMemory>
     ensures next { IfOk result (λ q. q ≡ next_of (rules_of session.now) (held_of session.now)) }
     ensures declared { IfOk result (λ q. IfSome q (HasAsked (rules_of session.now).model)) }
 {
@@ -90,7 +90,7 @@ fn question(alloc: Global, session: &Session) -> Result<Option<Question>, NoMemo
     Ok(asked)
 }
 
-impl Replier for Interview {
+impl<L: Ledger> Replier<L> for Interview<L> {
     ghost Held = { Holding };
 
     ghost rule = { interview };
@@ -110,7 +110,7 @@ impl Replier for Interview {
     }
 
     #[tactic(auto, using(crate::proofs::ReplyLaws::replying))]
-    fn reply<F: Shelf, L: Ledger>(
+    fn reply<F: Shelf>(
         &mut self,
         alloc: Global,
         shelf: &mut F,

@@ -126,7 +126,7 @@ fn read_file<F: Shelf>(
 #[tactic(auto, using(crate::proofs::Settling::settling))]
 fn settle<L: Ledger>(
     alloc: Global,
-    session: &mut Session,
+    session: &mut Session<L>,
     listeners: &mut Vec<Box<dyn Listener>>,
     steps: &mut Steps<L>,
     case: Option<Case>,
@@ -153,7 +153,7 @@ fn settle<L: Ledger>(
 #[tactic(auto, using(crate::proofs::Settling::loading))]
 pub(crate) fn load_file<F: Shelf, L: Ledger>(
     alloc: Global,
-    session: &mut Session,
+    session: &mut Session<L>,
     shelf: &mut F,
     listeners: &mut Vec<Box<dyn Listener>>,
     steps: &mut Steps<L>,

@@ -24,7 +24,7 @@ pub fn settle_answer<D: Derive, R: Readers, L: Ledger>(
     code: &D,
     readers: &R,
     next: &Answered<'_>,
-    store: &mut Store,
+    store: &mut Store<L>,
     steps: &mut Steps<L>,
 ) -> Result<(), NoMemory>
     requires code { D.stands_for code.now ≡ base.now }

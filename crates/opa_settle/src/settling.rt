@@ -27,7 +27,7 @@ pub fn settle<D: Derive, N: Next, R: Readers, L: Ledger>(
     readers: &R,
     held: &Case,
     next: &N,
-    store: &mut Store,
+    store: &mut Store<L>,
     tasks: Tasks,
     steps: &mut Steps<L>,
 ) -> Result<(), NoMemory>
@@ -56,7 +56,7 @@ pub fn settle<D: Derive, N: Next, R: Readers, L: Ledger>(
 }
 
 /// Where no slot is listed, nothing is staged.
-fn nothing_staged(store: &Store)
+fn nothing_staged<L: Ledger>(store: &Store<L>)
     requires { store.now.slots ≡ [] }
     ensures { NoLines (staged_of store.now) }
 {
@@ -71,7 +71,7 @@ fn settle_one<D: Derive, N: Next, R: Readers, L: Ledger>(
     readers: &R,
     held: &Case,
     next: &N,
-    store: &mut Store,
+    store: &mut Store<L>,
     tasks: &mut Tasks,
     steps: &mut Steps<L>,
     task: Task,

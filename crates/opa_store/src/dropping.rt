@@ -14,8 +14,9 @@ use opa_cells::{Cells, InstanceId};
 use opa_mean::owner_of;
 use opa_model::AttrId;
 use opa_tree::Rulebase;
+use std::sync::ledger::Ledger;
 
-impl Store {
+impl<L: Ledger> Store<L> {
     /// Takes out the lines of what goes, slot by slot. It takes no memory.
     pub fn drop_slots(
         &mut self,

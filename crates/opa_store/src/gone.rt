@@ -9,6 +9,7 @@ use crate::entry::Entry;
 use crate::next::Next;
 use crate::store::Store;
 use opa_cells::{InstanceId, Keeps};
+use std::sync::ledger::Ledger;
 
 /// The entries of what is live stay.
 #[derive(Clone, Copy)]
@@ -26,7 +27,7 @@ impl<'a, N: Next> Keeps<Entry> for Living<'a, N> {
     }
 }
 
-impl Store {
+impl<L: Ledger> Store<L> {
     /// Takes out the lines of what isn't live in a case. It takes no memory.
     pub fn keep_live<N: Next>(&mut self, next: &N)
         requires { self.old.slots ≡ [] }

@@ -25,17 +25,18 @@ use opa_mean::{Derive, Look};
 use opa_model::{AttrId, RelId};
 use opa_value::Value;
 use std::alloc::Global;
-use std::marker::Model;
+use std::marker::{Model, PhantomData};
 use std::sync::ledger::Ledger;
 
-/// Kept and staged lines of slots.
+/// Kept and staged lines of slots. A line is staged only by a derivation, and derivations are counted on the ledger's counter.
 #[derive(Drop)]
-pub struct Store {
+pub struct Store<L: Ledger> {
     pub(crate) entries: Cells<Entry>,
     slots: List<Slot>,
+    counted: PhantomData<L>,
 }
 
-impl Model for Store {
+impl<L: Ledger> Model for Store<L> {
     ghost use Rattle.std.specs.Prelude.{◌≡◌, true};
     ghost use Rattle.opa_store.specs.Stores.{StoreView, AreListed, are_once, coded_store, staged_lines};
     ghost use Rattle.opa_store.specs.contracts.entry.Entry as entry;
@@ -50,14 +51,15 @@ impl Model for Store {
     ghost invariant = { λ s. AreListed (staged_lines s.entries) s.slots × (are_once s.slots ≡ true) };
 }
 
-impl Store {
-    pub fn new(alloc: Global) -> Store
+impl<L: Ledger> Store<L> {
+    pub fn new(alloc: Global) -> Store<L>
         ensures kept { NoLines (kept_of result) }
         ensures staged { result.slots ≡ [] }
     {
         Store {
             entries: Cells::new(alloc),
             slots: List::new(alloc),
+            counted: PhantomData,
         }
     }
 
@@ -100,7 +102,7 @@ impl Store {
     }
 
     /// Derives the line of a slot and stages it: the line differs from the kept one, or doesn't.
-    pub fn derive<D: Derive, N: Next, L: Ledger>(
+    pub fn derive<D: Derive, N: Next>(
         &mut self,
         alloc: Global,
         slot: Slot,
@@ -143,8 +145,8 @@ impl Store {
         code.evaluate(alloc, slot.attr, &slot.inst, &look)
     }
 
-    /// Stages a line that was derived elsewhere.
-    pub fn stage(&mut self, alloc: Global, slot: Slot, line: Line<Value>) -> Result<(), NoMemory>
+    /// Stages the line that was derived of a slot.
+    fn stage(&mut self, alloc: Global, slot: Slot, line: Line<Value>) -> Result<(), NoMemory>
         requires { is_some (staged_of self.old slot.attr slot.inst) ≡ false }
         ensures staged { OnOk result (Stages (staged_of self.old) (staged_of self.new) slot.attr slot.inst line) }
         ensures kept { SameLines (kept_of self.old) (kept_of self.new) }
@@ -193,12 +195,12 @@ fn drop_last(slots: &mut List<Slot>)
 
 /// Staged lines, or else kept ones, over a case that comes.
 #[derive(Clone, Copy)]
-struct LaidLook<'a, N: Next> {
+struct LaidLook<'a, N: Next, L: Ledger> {
     next: &'a N,
-    store: &'a Store,
+    store: &'a Store<L>,
 }
 
-impl<'a, N: Next> Look for LaidLook<'a, N> {
+impl<'a, N: Next, L: Ledger> Look for LaidLook<'a, N, L> {
     ghost use Rattle.opa_dirty.specs.Settling.{laid_look};
     ghost use Rattle.opa_store.specs.Stores.{kept_of, staged_of};
 

@@ -50,7 +50,7 @@ fn read_into<S: Source>(input: &mut S, buf: &mut Vec<u8>) -> Result<usize, Faile
 }
 
 /// Reads a piece of the input, and carries out the lines that are whole then.
-fn take_turn<T: Replier, F: Shelf, S: Source, K: Sink, L: Ledger>(
+fn take_turn<T: Replier<L>, F: Shelf, S: Source, K: Sink, L: Ledger>(
     alloc: Global,
     replier: &mut T,
     shelf: &mut F,
@@ -97,7 +97,7 @@ fn take_turn<T: Replier, F: Shelf, S: Source, K: Sink, L: Ledger>(
 }
 
 /// Reads the input up to its end, or to the most that is read, and carries out each line that is whole.
-fn take_lines<T: Replier, F: Shelf, S: Source, K: Sink, L: Ledger>(
+fn take_lines<T: Replier<L>, F: Shelf, S: Source, K: Sink, L: Ledger>(
     alloc: Global,
     replier: &mut T,
     shelf: &mut F,
@@ -151,7 +151,7 @@ fn buffer(alloc: Global) -> Result<Vec<u8>, AllocError>
 }
 
 /// Reads the input from a point on to where the talk ends, and writes what its lines print.
-fn go_on<T: Replier, F: Shelf, S: Source, K: Sink, L: Ledger>(
+fn go_on<T: Replier<L>, F: Shelf, S: Source, K: Sink, L: Ledger>(
     alloc: Global,
     replier: &mut T,
     shelf: &mut F,
@@ -193,7 +193,7 @@ fn go_on<T: Replier, F: Shelf, S: Source, K: Sink, L: Ledger>(
 
 /// Reads the input to where the talk ends, and writes its transcript. `fewer` holds of each vector, and tells callers that
 /// no listener is made.
-pub fn converse<T: Replier, F: Shelf, S: Source, K: Sink, L: Ledger>(
+pub fn converse<T: Replier<L>, F: Shelf, S: Source, K: Sink, L: Ledger>(
     alloc: Global,
     replier: &mut T,
     shelf: &mut F,
@@ -244,7 +244,7 @@ pub fn converse<T: Replier, F: Shelf, S: Source, K: Sink, L: Ledger>(
 
 /// Laws over the transcripts of what answers lines: an input may be cut at any line feed, and where each line prints one text,
 /// lines have one transcript.
-pub fn cut_anywhere<T: Replier>()
+pub fn cut_anywhere<T: Replier<L>, L: Ledger>()
     ensures anywhere { CutsAnywhere T.rule }
     ensures one { HasOneTranscript T.rule }
 {}

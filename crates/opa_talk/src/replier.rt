@@ -19,8 +19,9 @@ pub struct Prompt {
     pub is_over: bool,
 }
 
-/// What answers lines, one after another, beside a shelf of files and the listeners of its caller.
-pub trait Replier {
+/// What answers lines, one after another, beside a shelf of files and the listeners of its caller. Its steps are counted on one
+/// ledger.
+pub trait Replier<L: Ledger> {
     /// What is held between two lines, what listeners hear, the files and the steps included.
     ghost Held: { Type 0 };
 
@@ -42,7 +43,7 @@ pub trait Replier {
 
     /// Carries out a line, which a line feed ends unless it is the last, and answers what it prints. `fewer` holds of each
     /// vector, and tells callers that no listener is made.
-    fn reply<F: Shelf, L: Ledger>(
+    fn reply<F: Shelf>(
         &mut self,
         alloc: Global,
         shelf: &mut F,

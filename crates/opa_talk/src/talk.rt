@@ -55,7 +55,7 @@ fn say<K: Sink>(out: &mut K, text: &[u8]) -> Result<(), Halt>
 }
 
 /// Writes what stands before the next line, and answers whether no line is taken any more.
-pub fn ask<T: Replier, F: Shelf, K: Sink, L: Ledger>(
+pub fn ask<T: Replier<L>, F: Shelf, K: Sink, L: Ledger>(
     alloc: Global,
     replier: &T,
     shelf: &F,
@@ -79,7 +79,7 @@ pub fn ask<T: Replier, F: Shelf, K: Sink, L: Ledger>(
 
 /// Carries out a line, and writes what it prints and what stands before the next one. It answers whether no line is taken
 /// any more.
-fn carry_out<T: Replier, F: Shelf, K: Sink, L: Ledger>(
+fn carry_out<T: Replier<L>, F: Shelf, K: Sink, L: Ledger>(
     alloc: Global,
     replier: &mut T,
     shelf: &mut F,
@@ -101,7 +101,7 @@ fn carry_out<T: Replier, F: Shelf, K: Sink, L: Ledger>(
 }
 
 /// Takes the rest of a line, and carries it out with its line feed.
-fn take_line<T: Replier, F: Shelf, K: Sink, L: Ledger>(
+fn take_line<T: Replier<L>, F: Shelf, K: Sink, L: Ledger>(
     alloc: Global,
     replier: &mut T,
     shelf: &mut F,
@@ -131,7 +131,7 @@ fn take_line<T: Replier, F: Shelf, K: Sink, L: Ledger>(
 }
 
 /// Takes a piece of the input, and carries out each line that is whole now. It answers whether no line is taken any more.
-pub fn take_piece<T: Replier, F: Shelf, K: Sink, L: Ledger>(
+pub fn take_piece<T: Replier<L>, F: Shelf, K: Sink, L: Ledger>(
     alloc: Global,
     replier: &mut T,
     shelf: &mut F,
@@ -174,7 +174,7 @@ pub fn take_piece<T: Replier, F: Shelf, K: Sink, L: Ledger>(
 }
 
 /// Carries out the last line, which no line feed ends, if it isn't empty.
-pub fn finish<T: Replier, F: Shelf, K: Sink, L: Ledger>(
+pub fn finish<T: Replier<L>, F: Shelf, K: Sink, L: Ledger>(
     alloc: Global,
     replier: &mut T,
     shelf: &mut F,

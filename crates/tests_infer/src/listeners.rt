@@ -1,54 +1,81 @@
 // What listeners keep of changes: of an answer that is given twice, and where one of them has no room.
 use crate::outcome::{last_words, outcome};
 use opa_infer::Session;
+use opa_io::Steps;
 use opa_listen::{Journal, Listener};
 use std::alloc::Global;
+use std::sync::ledger::Ledger;
 use std::test::Fail;
-use tests_input::told::{at_start, reply};
+use tests_input::told::{Telling, reply, told_after};
 use tests_listen::Fussy;
 use tests_samples::texts;
 
 const ADULT: &str = "answer the claimant is an adult = true";
 
 /// What the same answer twice comes to, and a line that shows what is concluded after the first.
-fn twice(
+fn twice<L: Ledger>(
     alloc: Global,
-    session: &mut Session,
+    session: &mut Session<L>,
     listeners: &mut Vec<Box<dyn Listener>>,
+    steps: &mut Steps<L>,
 ) -> Result<String, Fail> {
-    let first = outcome(alloc, session, ADULT, listeners)?;
-    let shown = reply(alloc, session, "show the claimant is entitled")?;
-    let second = outcome(alloc, session, ADULT, listeners)?;
+    let first = outcome(alloc, session, ADULT, listeners, steps)?;
+    let shown = reply(alloc, session, "show the claimant is entitled", steps)?;
+    let second = outcome(alloc, session, ADULT, listeners, steps)?;
     Ok(format!(in alloc; "{first}\n{shown}\n{second}\n")?)
 }
 
 /// The same, and then the last words of the first listener.
-fn twice_told(
+fn twice_told<L: Ledger>(
     alloc: Global,
-    session: &mut Session,
+    session: &mut Session<L>,
     listeners: &mut Vec<Box<dyn Listener>>,
+    steps: &mut Steps<L>,
 ) -> Result<String, Fail> {
-    let outcomes = twice(alloc, session, listeners)?;
+    let outcomes = twice(alloc, session, listeners, steps)?;
     let words = last_words(alloc, listeners)?;
     Ok(format!(in alloc; "{outcomes}{words}")?)
 }
 
 /// The same with a journal alone, or with one who refuses the first request for room beside it.
-fn heard_twice(alloc: Global, session: &mut Session, fussy: bool) -> Result<String, Fail> {
+fn heard_twice<L: Ledger>(
+    alloc: Global,
+    session: &mut Session<L>,
+    fussy: bool,
+    steps: &mut Steps<L>,
+) -> Result<String, Fail> {
     let mut listeners: Vec<Box<dyn Listener>> = Vec::new(alloc);
     listeners.push(Box::new(alloc, Journal::new(alloc))?)?;
     if fussy {
         listeners.push(Box::new(alloc, Fussy::new(alloc, 1, 1))?)?;
     }
-    twice_told(alloc, session, &mut listeners)
+    twice_told(alloc, session, &mut listeners, steps)
+}
+
+#[derive(Clone, Copy)]
+struct HeardTwice {
+    fussy: bool,
+}
+
+impl Telling<String> for HeardTwice {
+    fn told<L: Ledger>(
+        &self,
+        alloc: Global,
+        session: &mut Session<L>,
+        steps: &mut Steps<L>,
+    ) -> Result<String, Fail> {
+        heard_twice(alloc, session, self.fussy, steps)
+    }
 }
 
 /// The same from the start.
 fn heard_from_the_start(alloc: Global, fussy: bool) -> Result<String, Fail> {
-    let mut session = at_start(alloc, &[("main", texts::EXEMPT)])?;
-    let words = heard_twice(alloc, &mut session, fussy);
-    drop(session);
-    words
+    told_after(
+        alloc,
+        &[("main", texts::EXEMPT)],
+        &[],
+        &HeardTwice { fussy },
+    )
 }
 
 /// The second time no line changes, and nothing more is kept.

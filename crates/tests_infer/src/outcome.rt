@@ -5,16 +5,18 @@ ghost use Rattle.opa_infer.specs.Sessions.{rules_of};
 use opa_case::ChangeCommand;
 use opa_goals::GoalState;
 use opa_infer::Session;
+use opa_io::Steps;
 use opa_listen::{Listener, dismiss};
 use opa_mean::Held;
 use opa_script::{Command, read_command};
 use std::alloc::Global;
+use std::sync::ledger::Ledger;
 use std::test::Fail;
 use tests_input::counted::heard;
 use tests_input::told::reply;
 
 /// The state of the first goal.
-fn state_word(session: &Session) -> &'static str {
+fn state_word<L: Ledger>(session: &Session<L>) -> &'static str {
     if session.base().model.goal_count() == 0 {
         return "no goal";
     }
@@ -26,25 +28,30 @@ fn state_word(session: &Session) -> &'static str {
 }
 
 /// How many values changed, how many slots that reached of all there are, and the state of the first goal.
-pub(crate) fn counts(alloc: Global, session: &Session, changes: u32) -> Result<String, Fail> {
+pub(crate) fn counts<L: Ledger>(
+    alloc: Global,
+    session: &Session<L>,
+    changes: u32,
+) -> Result<String, Fail> {
     let (dirty, slots) = (session.dirty(), session.slots());
     let state = state_word(session);
     Ok(format!(in alloc; "{changes} changes, {dirty} of {slots}, {state}")?)
 }
 
 /// What a change comes to, of which listeners are told, or the number of its refusal. The rulebase stays.
-fn change_outcome(
+fn change_outcome<L: Ledger>(
     alloc: Global,
-    session: &mut Session,
+    session: &mut Session<L>,
     change: ChangeCommand,
     listeners: &mut Vec<Box<dyn Listener>>,
+    steps: &mut Steps<L>,
 ) -> Result<String, Fail>
     ensures { rules_of session.new ≡ rules_of session.old }
 {
     if !session.declares(&change) {
         return Ok(String::from_str(alloc, "undeclared")?);
     }
-    match heard(alloc, session, change, listeners) {
+    match heard(alloc, session, change, listeners, steps) {
         Ok(changes) => counts(alloc, session, changes),
         Err(refusal) => {
             let number = refusal.number();
@@ -54,17 +61,18 @@ fn change_outcome(
 }
 
 /// What a line of input comes to. The rulebase stays.
-pub(crate) fn outcome(
+pub(crate) fn outcome<L: Ledger>(
     alloc: Global,
-    session: &mut Session,
+    session: &mut Session<L>,
     line: &str,
     listeners: &mut Vec<Box<dyn Listener>>,
+    steps: &mut Steps<L>,
 ) -> Result<String, Fail>
     ensures { rules_of session.new ≡ rules_of session.old }
 {
     match read_command(alloc, &session.base().model, line.as_bytes()) {
-        Ok(Command::Change(change)) => change_outcome(alloc, session, change, listeners),
-        _ => reply(alloc, session, line),
+        Ok(Command::Change(change)) => change_outcome(alloc, session, change, listeners, steps),
+        _ => reply(alloc, session, line, steps),
     }
 }
 

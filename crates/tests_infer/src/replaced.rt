@@ -2,37 +2,62 @@
 use crate::outcome::{counts, outcome};
 use crate::rows::{HOUSEHOLD, other_outcome};
 use opa_infer::Session;
+use opa_io::Steps;
 use opa_mean::Held;
 use std::alloc::Global;
+use std::sync::ledger::Ledger;
 use std::test::Fail;
 use tests_input::counted::replaced;
-use tests_input::told::at_start;
+use tests_input::told::{Telling, told_after};
 use tests_samples::texts;
 
 /// What it comes to, after a line of input, to hold the case from before the line again.
-fn held_again(alloc: Global, session: &mut Session, line: &str) -> Result<String, Fail> {
+fn held_again<L: Ledger>(
+    alloc: Global,
+    session: &mut Session<L>,
+    line: &str,
+    steps: &mut Steps<L>,
+) -> Result<String, Fail> {
     let earlier = session.case().copy(alloc)?;
     let mut nobody = Vec::new(alloc);
-    outcome(alloc, session, line, &mut nobody)?;
-    let changes = replaced(alloc, session, earlier)?;
+    outcome(alloc, session, line, &mut nobody, steps)?;
+    let changes = replaced(alloc, session, earlier, steps)?;
     counts(alloc, session, changes)
 }
 
 /// The same after all answers of a household.
-fn answers_held_again(alloc: Global, session: &mut Session, line: &str) -> Result<String, Fail> {
-    let other = other_outcome(alloc, session, &HOUSEHOLD)?;
+fn answers_held_again<L: Ledger>(
+    alloc: Global,
+    session: &mut Session<L>,
+    line: &str,
+    steps: &mut Steps<L>,
+) -> Result<String, Fail> {
+    let other = other_outcome(alloc, session, &HOUSEHOLD, steps)?;
     if !other.is_empty() {
         return Ok(other);
     }
-    held_again(alloc, session, line)
+    held_again(alloc, session, line, steps)
+}
+
+#[derive(Clone, Copy)]
+struct HeldAgain<'a> {
+    line: &'a str,
+}
+
+impl<'a> Telling<String> for HeldAgain<'a> {
+    fn told<L: Ledger>(
+        &self,
+        alloc: Global,
+        session: &mut Session<L>,
+        steps: &mut Steps<L>,
+    ) -> Result<String, Fail> {
+        answers_held_again(alloc, session, self.line, steps)
+    }
 }
 
 /// The same from the start.
 fn household_again(alloc: Global, line: &str) -> Result<String, Fail> {
-    let mut session = at_start(alloc, &texts::BENEFIT)?;
-    let words = answers_held_again(alloc, &mut session, line);
-    drop(session);
-    words
+    told_after(alloc, &texts::BENEFIT, &[], &HeldAgain { line })
 }
 
 /// A line that changes an income, one that changes nothing, and one after which nobody is there.

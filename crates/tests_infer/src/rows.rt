@@ -1,20 +1,23 @@
 // Lines of input, each with what it comes to.
 use crate::outcome::{counts, outcome};
 use opa_infer::Session;
+use opa_io::Steps;
 use std::alloc::Global;
+use std::sync::ledger::Ledger;
 use std::test::Fail;
-use tests_input::told::at_start;
+use tests_input::told::{Telling, told_after};
 use tests_samples::texts;
 
 /// The first line that comes to something else, with this; nothing where there is none.
-pub(crate) fn other_outcome(
+pub(crate) fn other_outcome<L: Ledger>(
     alloc: Global,
-    session: &mut Session,
+    session: &mut Session<L>,
     rows: &[(&str, &str)],
+    steps: &mut Steps<L>,
 ) -> Result<String, Fail> {
     let mut nobody = Vec::new(alloc);
     for (line, want) in rows {
-        let found = outcome(alloc, session, line, &mut nobody)?;
+        let found = outcome(alloc, session, line, &mut nobody, steps)?;
         if found.as_str() != *want {
             return Ok(format!(in alloc; "{line}: {found}")?);
         }
@@ -23,17 +26,35 @@ pub(crate) fn other_outcome(
 }
 
 /// The same of a session of which nothing has changed yet, and of which this is told.
-fn other_outcome_from(
+fn other_outcome_from<L: Ledger>(
     alloc: Global,
-    session: &mut Session,
+    session: &mut Session<L>,
     first: &str,
     rows: &[(&str, &str)],
+    steps: &mut Steps<L>,
 ) -> Result<String, Fail> {
     let found = counts(alloc, session, 0)?;
     if found.as_str() != first {
         return Ok(found);
     }
-    other_outcome(alloc, session, rows)
+    other_outcome(alloc, session, rows, steps)
+}
+
+#[derive(Clone, Copy)]
+struct Rows<'a> {
+    first: &'a str,
+    rows: &'a [(&'a str, &'a str)],
+}
+
+impl<'a> Telling<String> for Rows<'a> {
+    fn told<L: Ledger>(
+        &self,
+        alloc: Global,
+        session: &mut Session<L>,
+        steps: &mut Steps<L>,
+    ) -> Result<String, Fail> {
+        other_outcome_from(alloc, session, self.first, self.rows, steps)
+    }
 }
 
 /// The same from the start.
@@ -43,10 +64,7 @@ fn other_outcome_of(
     first: &str,
     rows: &[(&str, &str)],
 ) -> Result<String, Fail> {
-    let mut session = at_start(alloc, files)?;
-    let other = other_outcome_from(alloc, &mut session, first, rows);
-    drop(session);
-    other
+    told_after(alloc, files, &[], &Rows { first, rows })
 }
 
 /// An answer that is given again reaches nothing.
@@ -159,25 +177,36 @@ const PUT_BACK: [(&str, &str); 5] = [
 ];
 
 /// The first line of both that comes to something else.
-fn other_of_a_household(alloc: Global, session: &mut Session) -> Result<String, Fail> {
-    let other = other_outcome_from(alloc, session, "0 changes, 0 of 5, undecided", &HOUSEHOLD)?;
+fn other_of_a_household<L: Ledger>(
+    alloc: Global,
+    session: &mut Session<L>,
+    steps: &mut Steps<L>,
+) -> Result<String, Fail> {
+    let first = "0 changes, 0 of 5, undecided";
+    let other = other_outcome_from(alloc, session, first, &HOUSEHOLD, steps)?;
     if !other.is_empty() {
         return Ok(other);
     }
-    other_outcome(alloc, session, &PUT_BACK)
+    other_outcome(alloc, session, &PUT_BACK, steps)
 }
 
-/// The same from the start.
-fn other_of_a_new_household(alloc: Global) -> Result<String, Fail> {
-    let mut session = at_start(alloc, &texts::BENEFIT)?;
-    let other = other_of_a_household(alloc, &mut session);
-    drop(session);
-    other
+#[derive(Clone, Copy)]
+struct Household;
+
+impl Telling<String> for Household {
+    fn told<L: Ledger>(
+        &self,
+        alloc: Global,
+        session: &mut Session<L>,
+        steps: &mut Steps<L>,
+    ) -> Result<String, Fail> {
+        other_of_a_household(alloc, session, steps)
+    }
 }
 
 #[test]
 fn a_household(rt: HostRuntime) -> Result<(), Fail> {
-    let other = other_of_a_new_household(rt.alloc())?;
+    let other = told_after(rt.alloc(), &texts::BENEFIT, &[], &Household)?;
     assert_eq!(rt; other.as_str(), "");
     Ok(())
 }

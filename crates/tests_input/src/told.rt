@@ -2,10 +2,11 @@
 ghost use Rattle.std.specs.Prelude.{◌≡◌};
 ghost use Rattle.opa_infer.specs.Sessions.{rules_of};
 
-use crate::counted::{applied, started};
+use crate::counted::{Trial, applied, tried};
 use crate::printed::line_words;
 use opa_case::{ChangeCommand, InstanceId};
 use opa_infer::Session;
+use opa_io::Steps;
 use opa_line::Line;
 use opa_mean::Held;
 use opa_model::{AttrId, Model, RelId};
@@ -13,19 +14,19 @@ use opa_script::{CmdFault, Command, read_command};
 use opa_text::{names_text, point_text};
 use opa_value::Value;
 use std::alloc::Global;
+use std::sync::ledger::Ledger;
 use std::test::Fail;
 use tests_samples::load;
 
-/// The session over these files in which nothing is known.
-pub fn at_start(alloc: Global, files: &[(&str, &str)]) -> Result<Session, Fail> {
-    let base = load(alloc, files)?;
-    Ok(started(alloc, base)?)
-}
-
 /// Carries out lines of input, each of which prints nothing.
-fn carry_out_all(alloc: Global, session: &mut Session, input: &[&str]) -> Result<(), Fail> {
+fn carry_out_all<L: Ledger>(
+    alloc: Global,
+    session: &mut Session<L>,
+    input: &[&str],
+    steps: &mut Steps<L>,
+) -> Result<(), Fail> {
     for line in input {
-        let found = reply(alloc, session, line)?;
+        let found = reply(alloc, session, line, steps)?;
         if !found.is_empty() {
             return Err(Fail::new("a line is refused"));
         }
@@ -33,24 +34,73 @@ fn carry_out_all(alloc: Global, session: &mut Session, input: &[&str]) -> Result
     Ok(())
 }
 
-/// The session after lines of input, each of which prints nothing.
-pub fn after(alloc: Global, files: &[(&str, &str)], input: &[&str]) -> Result<Session, Fail> {
-    let mut session = at_start(alloc, files)?;
-    match carry_out_all(alloc, &mut session, input) {
-        Ok(()) => Ok(session),
-        Err(fail) => {
-            drop(session);
-            Err(fail)
-        }
+/// What is told of a session.
+pub trait Telling<R> {
+    fn told<L: Ledger>(
+        &self,
+        alloc: Global,
+        session: &mut Session<L>,
+        steps: &mut Steps<L>,
+    ) -> Result<R, Fail>;
+}
+
+/// What is told of the session over files after lines of input, each of which prints nothing.
+#[derive(Clone, Copy)]
+struct After<'a, T> {
+    files: &'a [(&'a str, &'a str)],
+    input: &'a [&'a str],
+    telling: &'a T,
+}
+
+impl<'a, R, T: Telling<R>> Trial<R> for After<'a, T> {
+    fn found<L: Ledger>(&self, alloc: Global, steps: &mut Steps<L>) -> Result<R, Fail> {
+        let base = load(alloc, self.files)?;
+        let mut session = Session::start(alloc, base, steps)?;
+        let told = told_then(alloc, &mut session, self.input, self.telling, steps);
+        drop(session);
+        told
     }
 }
 
+fn told_then<R, T: Telling<R>, L: Ledger>(
+    alloc: Global,
+    session: &mut Session<L>,
+    input: &[&str],
+    telling: &T,
+    steps: &mut Steps<L>,
+) -> Result<R, Fail> {
+    carry_out_all(alloc, session, input, steps)?;
+    telling.told(alloc, session, steps)
+}
+
+/// What is told of the session over these files after lines of input, each of which prints nothing.
+pub fn told_after<R, T: Telling<R>>(
+    alloc: Global,
+    files: &[(&str, &str)],
+    input: &[&str],
+    telling: &T,
+) -> Result<R, Fail> {
+    tried(
+        alloc,
+        &After {
+            files,
+            input,
+            telling,
+        },
+    )
+}
+
 /// What a line of input prints. The rulebase stays.
-pub fn reply(alloc: Global, session: &mut Session, line: &str) -> Result<String, Fail>
+pub fn reply<L: Ledger>(
+    alloc: Global,
+    session: &mut Session<L>,
+    line: &str,
+    steps: &mut Steps<L>,
+) -> Result<String, Fail>
     ensures { rules_of session.new ≡ rules_of session.old }
 {
     match read_command(alloc, &session.base().model, line.as_bytes()) {
-        Ok(command) => carry_out(alloc, session, command),
+        Ok(command) => carry_out(alloc, session, command, steps),
         Err(fault) => refused_command(alloc, fault),
     }
 }
@@ -65,11 +115,16 @@ fn refused_command(alloc: Global, fault: CmdFault) -> Result<String, Fail> {
     Ok(format!(in alloc; "refused: command {number}")?)
 }
 
-fn carry_out(alloc: Global, session: &mut Session, command: Command) -> Result<String, Fail>
+fn carry_out<L: Ledger>(
+    alloc: Global,
+    session: &mut Session<L>,
+    command: Command,
+    steps: &mut Steps<L>,
+) -> Result<String, Fail>
     ensures { rules_of session.new ≡ rules_of session.old }
 {
     match command {
-        Command::Change(change) => changed(alloc, session, change),
+        Command::Change(change) => changed(alloc, session, change, steps),
         Command::ShowAttr(attr, inst) => shown(alloc, session, attr, &inst),
         Command::ShowMembers(rel, inst) => listed(alloc, session, rel, &inst),
         _ => Ok(String::from_str(alloc, "another command")?),
@@ -77,13 +132,18 @@ fn carry_out(alloc: Global, session: &mut Session, command: Command) -> Result<S
 }
 
 /// Makes a change: nothing is printed, or why it is refused.
-fn changed(alloc: Global, session: &mut Session, change: ChangeCommand) -> Result<String, Fail>
+fn changed<L: Ledger>(
+    alloc: Global,
+    session: &mut Session<L>,
+    change: ChangeCommand,
+    steps: &mut Steps<L>,
+) -> Result<String, Fail>
     ensures { rules_of session.new ≡ rules_of session.old }
 {
     if !session.declares(&change) {
         return Ok(String::from_str(alloc, "undeclared")?);
     }
-    match applied(alloc, session, change) {
+    match applied(alloc, session, change, steps) {
         Ok(_) => Ok(String::new(alloc)),
         Err(refusal) => {
             let number = refusal.number();
@@ -93,9 +153,9 @@ fn changed(alloc: Global, session: &mut Session, change: ChangeCommand) -> Resul
 }
 
 /// An attribute with the line that is shown.
-fn shown(
+fn shown<L: Ledger>(
     alloc: Global,
-    session: &Session,
+    session: &Session<L>,
     attr: AttrId,
     inst: &InstanceId,
 ) -> Result<String, Fail> {
@@ -122,7 +182,12 @@ fn point_line(
 }
 
 /// A relation with the names that it lists.
-fn listed(alloc: Global, session: &Session, rel: RelId, inst: &InstanceId) -> Result<String, Fail> {
+fn listed<L: Ledger>(
+    alloc: Global,
+    session: &Session<L>,
+    rel: RelId,
+    inst: &InstanceId,
+) -> Result<String, Fail> {
     if rel.0 >= session.base().model.relation_count() {
         return Ok(String::from_str(alloc, "undeclared")?);
     }

@@ -7,21 +7,22 @@ ghost use Rattle.opa_infer.specs.Sessions.{rules_of, held_of};
 use opa_case::{Case, InstanceId};
 use opa_code::compile;
 use opa_infer::Session;
-use opa_io::NoMemory;
+use opa_io::{NoMemory, Steps};
 use opa_line::Line;
 use opa_mean::{Derive, Held, Plain};
 use opa_model::{AttrId, Kind};
 use opa_tree::Rulebase;
 use opa_value::Value;
 use std::alloc::Global;
+use std::sync::ledger::Ledger;
 use std::test::Fail;
 use tests_input::points::{attribute, instance};
 use tests_input::printed::line_words;
-use tests_input::told::after;
+use tests_input::told::{Telling, told_after};
 use tests_samples::texts;
 
 /// Whether the attribute has a rule, and the instance is live and of its entity.
-fn is_slot(session: &Session, attr: AttrId, inst: &InstanceId) -> bool
+fn is_slot<L: Ledger>(session: &Session<L>, attr: AttrId, inst: &InstanceId) -> bool
     ensures { result ≡ is_slot (rules_of session.now) (held_of session.now) attr inst.now }
 {
     session.has_place(attr, inst) && session.base().rules.of(attr).is_some()
@@ -73,9 +74,9 @@ fn coded_line(
 }
 
 /// The line of a conclusion by its code, where day by day it is the same.
-fn both(
+fn both<L: Ledger>(
     alloc: Global,
-    session: &Session,
+    session: &Session<L>,
     attr: AttrId,
     inst: &InstanceId,
 ) -> Result<Option<Line<Value>>, NoMemory> {
@@ -91,12 +92,34 @@ fn both(
 }
 
 /// What both give for a global conclusion.
-fn both_words(alloc: Global, session: &Session, phrase: &str, kind: Kind) -> Result<String, Fail> {
+fn both_words<L: Ledger>(
+    alloc: Global,
+    session: &Session<L>,
+    phrase: &str,
+    kind: Kind,
+) -> Result<String, Fail> {
     let attr = attribute(&session.base().model, phrase)?;
     let inst = instance(alloc, &session.base().model, attr, "")?;
     match both(alloc, session, attr, &inst)? {
         Some(line) => line_words(alloc, kind, &line),
         None => Ok(String::from_str(alloc, "they differ")?),
+    }
+}
+
+#[derive(Clone, Copy)]
+struct Both<'a> {
+    phrase: &'a str,
+    kind: Kind,
+}
+
+impl<'a> Telling<String> for Both<'a> {
+    fn told<L: Ledger>(
+        &self,
+        alloc: Global,
+        session: &mut Session<L>,
+        _steps: &mut Steps<L>,
+    ) -> Result<String, Fail> {
+        both_words(alloc, session, self.phrase, self.kind)
     }
 }
 
@@ -108,10 +131,7 @@ fn concluded(
     phrase: &str,
     kind: Kind,
 ) -> Result<String, Fail> {
-    let session = after(alloc, files, input)?;
-    let words = both_words(alloc, &session, phrase, kind);
-    drop(session);
-    words
+    told_after(alloc, files, input, &Both { phrase, kind })
 }
 
 /// Several examples, one behind the other in one line: a rule that is carried out day by day takes long.
@@ -178,9 +198,9 @@ fn of_a_table(rt: HostRuntime) -> Result<(), Fail> {
 }
 
 /// What code alone gives for a global conclusion: of a window of 36,600 days each day would be too many.
-fn coded_alone(
+fn coded_alone<L: Ledger>(
     alloc: Global,
-    session: &Session,
+    session: &Session<L>,
     attr: AttrId,
     inst: &InstanceId,
 ) -> Result<Option<Line<Value>>, NoMemory> {
@@ -192,7 +212,7 @@ fn coded_alone(
 }
 
 /// The line of a global truth value by its code.
-fn coded(alloc: Global, session: &Session, phrase: &str) -> Result<String, Fail> {
+fn coded<L: Ledger>(alloc: Global, session: &Session<L>, phrase: &str) -> Result<String, Fail> {
     let attr = attribute(&session.base().model, phrase)?;
     let inst = instance(alloc, &session.base().model, attr, "")?;
     match coded_alone(alloc, session, attr, &inst)? {
@@ -201,12 +221,25 @@ fn coded(alloc: Global, session: &Session, phrase: &str) -> Result<String, Fail>
     }
 }
 
+#[derive(Clone, Copy)]
+struct Coded<'a> {
+    phrase: &'a str,
+}
+
+impl<'a> Telling<String> for Coded<'a> {
+    fn told<L: Ledger>(
+        &self,
+        alloc: Global,
+        session: &mut Session<L>,
+        _steps: &mut Steps<L>,
+    ) -> Result<String, Fail> {
+        coded(alloc, session, self.phrase)
+    }
+}
+
 /// The same after a line of input.
 fn coded_after(alloc: Global, text: &str, line: &str, phrase: &str) -> Result<String, Fail> {
-    let session = after(alloc, &[("main", text)], &[line])?;
-    let words = coded(alloc, &session, phrase);
-    drop(session);
-    words
+    told_after(alloc, &[("main", text)], &[line], &Coded { phrase })
 }
 
 #[test]
@@ -233,7 +266,7 @@ fn forty_rules(alloc: Global) -> Result<String, Fail> {
 }
 
 /// The first of forty conclusions that isn't true on every day; nothing where there is none.
-fn first_not_true(alloc: Global, session: &Session) -> Result<String, Fail> {
+fn first_not_true<L: Ledger>(alloc: Global, session: &Session<L>) -> Result<String, Fail> {
     for k in 1..41 {
         let phrase = format!(in alloc; "the claimant is s{k}")?;
         let found = coded(alloc, session, phrase.as_str())?;
@@ -244,14 +277,25 @@ fn first_not_true(alloc: Global, session: &Session) -> Result<String, Fail> {
     Ok(String::new(alloc))
 }
 
+#[derive(Clone, Copy)]
+struct FirstNotTrue;
+
+impl Telling<String> for FirstNotTrue {
+    fn told<L: Ledger>(
+        &self,
+        alloc: Global,
+        session: &mut Session<L>,
+        _steps: &mut Steps<L>,
+    ) -> Result<String, Fail> {
+        first_not_true(alloc, session)
+    }
+}
+
 /// The same where the claimant is always employed.
 fn not_true_of_employed(alloc: Global) -> Result<String, Fail> {
     let text = forty_rules(alloc)?;
     let line = "answer the claimant is employed = true";
-    let session = after(alloc, &[("main", text.as_str())], &[line])?;
-    let phrase = first_not_true(alloc, &session);
-    drop(session);
-    phrase
+    told_after(alloc, &[("main", text.as_str())], &[line], &FirstNotTrue)
 }
 
 #[test]

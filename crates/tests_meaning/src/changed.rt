@@ -1,16 +1,17 @@
 // Changes that are made by hand.
 use opa_case::{ChangeCommand, InstanceId, Refusal};
 use opa_infer::Session;
-use opa_io::{List, NoMemory, Txt};
+use opa_io::{List, NoMemory, Steps, Txt};
 use opa_line::Line;
 use opa_mean::Held;
 use opa_model::{AttrId, EntityId, Model, RelId};
 use opa_value::Value;
 use std::alloc::Global;
+use std::sync::ledger::Ledger;
 use std::test::Fail;
 use tests_input::counted::applied;
 use tests_input::points::{attribute, instance};
-use tests_input::told::after;
+use tests_input::told::{Telling, told_after};
 use tests_samples::texts;
 
 /// True and false in turn, so many pairs.
@@ -24,9 +25,14 @@ fn alternating(alloc: Global, count: u32) -> Result<Line<Value>, Fail> {
 }
 
 /// Makes a change of something that is declared.
-fn made(alloc: Global, session: &mut Session, change: ChangeCommand) -> Result<(), Refusal> {
+fn made<L: Ledger>(
+    alloc: Global,
+    session: &mut Session<L>,
+    change: ChangeCommand,
+    steps: &mut Steps<L>,
+) -> Result<(), Refusal> {
     if session.declares(&change) {
-        applied(alloc, session, change)?;
+        applied(alloc, session, change, steps)?;
         Ok(())
     } else {
         Err(Refusal::Name)
@@ -42,17 +48,35 @@ fn long_answer(alloc: Global, model: &Model, count: u32) -> Result<ChangeCommand
 }
 
 /// Why a session refuses an answer of so many pairs.
-fn refused(alloc: Global, session: &mut Session, count: u32) -> Result<Option<Refusal>, Fail> {
+fn refused<L: Ledger>(
+    alloc: Global,
+    session: &mut Session<L>,
+    count: u32,
+    steps: &mut Steps<L>,
+) -> Result<Option<Refusal>, Fail> {
     let change = long_answer(alloc, &session.base().model, count)?;
-    Ok(made(alloc, session, change).err())
+    Ok(made(alloc, session, change, steps).err())
+}
+
+#[derive(Clone, Copy)]
+struct Pairs {
+    count: u32,
+}
+
+impl Telling<Option<Refusal>> for Pairs {
+    fn told<L: Ledger>(
+        &self,
+        alloc: Global,
+        session: &mut Session<L>,
+        steps: &mut Steps<L>,
+    ) -> Result<Option<Refusal>, Fail> {
+        refused(alloc, session, self.count, steps)
+    }
 }
 
 /// Why an answer of so many pairs is refused.
 fn refusal_of(alloc: Global, count: u32) -> Result<Option<Refusal>, Fail> {
-    let mut session = after(alloc, &[("main", texts::CLAIMANT)], &[])?;
-    let refusal = refused(alloc, &mut session, count);
-    drop(session);
-    refusal
+    told_after(alloc, &[("main", texts::CLAIMANT)], &[], &Pairs { count })
 }
 
 #[test]
@@ -77,18 +101,35 @@ fn no_names(alloc: Global, place: u32) -> Result<ChangeCommand, NoMemory> {
 }
 
 /// Whether a session declares an attribute and a relation with this number.
-fn declared(alloc: Global, session: &Session, place: u32) -> Result<(bool, bool), Fail> {
+fn declared<L: Ledger>(
+    alloc: Global,
+    session: &Session<L>,
+    place: u32,
+) -> Result<(bool, bool), Fail> {
     let answer = withdrawal(alloc, place)?;
     let list = no_names(alloc, place)?;
     Ok((session.declares(&answer), session.declares(&list)))
 }
 
+#[derive(Clone, Copy)]
+struct Declared {
+    place: u32,
+}
+
+impl Telling<(bool, bool)> for Declared {
+    fn told<L: Ledger>(
+        &self,
+        alloc: Global,
+        session: &mut Session<L>,
+        _steps: &mut Steps<L>,
+    ) -> Result<(bool, bool), Fail> {
+        declared(alloc, session, self.place)
+    }
+}
+
 /// The same of the family's rulebase.
 fn declares_both(alloc: Global, place: u32) -> Result<(bool, bool), Fail> {
-    let session = after(alloc, &[("main", texts::FAMILY)], &[])?;
-    let found = declared(alloc, &session, place);
-    drop(session);
-    found
+    told_after(alloc, &[("main", texts::FAMILY)], &[], &Declared { place })
 }
 
 #[test]
@@ -101,9 +142,9 @@ fn what_is_declared(rt: HostRuntime) -> Result<(), Fail> {
 }
 
 /// Whether an attribute has a place at the instance of an entity with a name.
-fn has_place(
+fn has_place<L: Ledger>(
     alloc: Global,
-    session: &Session,
+    session: &Session<L>,
     attr: u32,
     entity: u32,
     name: &str,
@@ -115,12 +156,28 @@ fn has_place(
     Ok(session.has_place(AttrId(attr), &inst))
 }
 
+#[derive(Clone, Copy)]
+struct HasPlace<'a> {
+    attr: u32,
+    entity: u32,
+    name: &'a str,
+}
+
+impl<'a> Telling<bool> for HasPlace<'a> {
+    fn told<L: Ledger>(
+        &self,
+        alloc: Global,
+        session: &mut Session<L>,
+        _steps: &mut Steps<L>,
+    ) -> Result<bool, Fail> {
+        has_place(alloc, session, self.attr, self.entity, self.name)
+    }
+}
+
 /// The same in Anna's family.
 fn has_place_there(alloc: Global, attr: u32, entity: u32, name: &str) -> Result<bool, Fail> {
-    let session = after(alloc, &[("main", texts::FAMILY)], &[ANNA])?;
-    let found = has_place(alloc, &session, attr, entity, name);
-    drop(session);
-    found
+    let place = HasPlace { attr, entity, name };
+    told_after(alloc, &[("main", texts::FAMILY)], &[ANNA], &place)
 }
 
 const ANNA: &str = "list the children = \"Anna\"";

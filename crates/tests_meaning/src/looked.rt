@@ -1,20 +1,21 @@
 // What the rules of a household's benefit can look at.
 use opa_case::{InstanceId, Question};
 use opa_infer::Session;
-use opa_io::{List, NoMemory, Txt};
+use opa_io::{List, NoMemory, Steps, Txt};
 use opa_mean::{Held, reads};
 use opa_model::{AttrId, Model};
 use opa_text::point_text;
 use std::alloc::Global;
+use std::sync::ledger::Ledger;
 use std::test::Fail;
 use tests_input::points::{attribute, instance};
-use tests_input::told::after;
+use tests_input::told::{Telling, told_after};
 use tests_samples::texts;
 
 /// What the rule of an attribute can look at, where it has one and the attribute has a place.
-fn looked_at(
+fn looked_at<L: Ledger>(
     alloc: Global,
-    session: &Session,
+    session: &Session<L>,
     attr: AttrId,
     inst: &InstanceId,
 ) -> Result<List<Question>, NoMemory> {
@@ -45,7 +46,12 @@ fn words(alloc: Global, model: &Model, question: &Question) -> Result<Txt, NoMem
 }
 
 /// The points that a rule can look at, with a stroke before each.
-fn looks(alloc: Global, session: &Session, phrase: &str, name: &str) -> Result<String, Fail> {
+fn looks<L: Ledger>(
+    alloc: Global,
+    session: &Session<L>,
+    phrase: &str,
+    name: &str,
+) -> Result<String, Fail> {
     let model = &session.base().model;
     let attr = attribute(model, phrase)?;
     let inst = instance(alloc, model, attr, name)?;
@@ -91,9 +97,9 @@ const LOOKS: [(&str, &str, &str); 8] = [
 ];
 
 /// The first of these conclusions whose rule looks at other points, with these points; nothing where there is none.
-fn other_looks(
+fn other_looks<L: Ledger>(
     alloc: Global,
-    session: &Session,
+    session: &Session<L>,
     rows: &[(&str, &str, &str)],
 ) -> Result<String, Fail> {
     for (phrase, name, want) in rows {
@@ -105,16 +111,29 @@ fn other_looks(
     Ok(String::new(alloc))
 }
 
+#[derive(Clone, Copy)]
+struct OtherLooks<'a> {
+    rows: &'a [(&'a str, &'a str, &'a str)],
+}
+
+impl<'a> Telling<String> for OtherLooks<'a> {
+    fn told<L: Ledger>(
+        &self,
+        alloc: Global,
+        session: &mut Session<L>,
+        _steps: &mut Steps<L>,
+    ) -> Result<String, Fail> {
+        other_looks(alloc, session, self.rows)
+    }
+}
+
 /// The same of the household after lines of input.
 fn other_looks_after(
     alloc: Global,
     input: &[&str],
     rows: &[(&str, &str, &str)],
 ) -> Result<String, Fail> {
-    let session = after(alloc, &texts::BENEFIT, input)?;
-    let other = other_looks(alloc, &session, rows);
-    drop(session);
-    other
+    told_after(alloc, &texts::BENEFIT, input, &OtherLooks { rows })
 }
 
 const THREE_PEOPLE: &str = "list the people = \"Ada\", \"Bo\", \"Cy\"";

@@ -7,16 +7,17 @@ ghost use Rattle.opa_date.specs.declared.TheConstants.{DAYS};
 use opa_case::InstanceId;
 use opa_date::DAYS;
 use opa_infer::Session;
-use opa_io::{List, NoMemory};
+use opa_io::{List, NoMemory, Steps};
 use opa_mean::{Held, tree_value, value_on};
 use opa_model::{AttrId, Kind};
 use opa_tree::Expr;
 use opa_value::Value;
 use std::alloc::Global;
+use std::sync::ledger::Ledger;
 use std::test::Fail;
 use tests_input::points::{attribute, instance};
 use tests_input::printed::value_words;
-use tests_input::told::after;
+use tests_input::told::{Telling, told_after};
 use tests_samples::texts;
 
 /// What is answered of an adult and of a veteran, and whether the claimant is entitled.
@@ -29,18 +30,23 @@ const ANSWERS: [(&str, &str, &str); 6] = [
     ("true", "true", "true"),
 ];
 
-/// The session of a claimant of whom this is answered.
-fn claimant(alloc: Global, adult: &str, veteran: &str) -> Result<Session, Fail> {
+/// What is told of a claimant of whom this is answered.
+fn told_of_claimant<T: Telling<String>>(
+    alloc: Global,
+    adult: &str,
+    veteran: &str,
+    telling: &T,
+) -> Result<String, Fail> {
     let adult = format!(in alloc; "answer the claimant is an adult = {adult}")?;
     let veteran = format!(in alloc; "answer the claimant is a veteran = {veteran}")?;
     let files = [("main", texts::CLAIMANT)];
-    after(alloc, &files, &[adult.as_str(), veteran.as_str()])
+    told_after(alloc, &files, &[adult.as_str(), veteran.as_str()], telling)
 }
 
 /// The value that is determined freshly, where the attribute has a place.
-fn fresh_value(
+fn fresh_value<L: Ledger>(
     alloc: Global,
-    session: &Session,
+    session: &Session<L>,
     attr: AttrId,
     inst: &InstanceId,
     day: u32,
@@ -55,7 +61,7 @@ fn fresh_value(
 }
 
 /// Whether the claimant is entitled, by a fresh determination.
-fn entitled(alloc: Global, session: &Session, day: u32) -> Result<String, Fail>
+fn entitled<L: Ledger>(alloc: Global, session: &Session<L>, day: u32) -> Result<String, Fail>
     requires { day < DAYS }
 {
     let model = &session.base().model;
@@ -72,14 +78,28 @@ fn words_of(alloc: Global, value: &Value) -> Result<String, Fail> {
     Ok(String::from_str(alloc, words.as_str())?)
 }
 
+#[derive(Clone, Copy)]
+struct EntitledOn {
+    day: u32,
+    ghost within: { day < DAYS },
+}
+
+impl Telling<String> for EntitledOn {
+    fn told<L: Ledger>(
+        &self,
+        alloc: Global,
+        session: &mut Session<L>,
+        _steps: &mut Steps<L>,
+    ) -> Result<String, Fail> {
+        entitled(alloc, session, self.day)
+    }
+}
+
 /// The same of a claimant of whom this is answered.
 fn entitled_after(alloc: Global, adult: &str, veteran: &str, day: u32) -> Result<String, Fail>
     requires { day < DAYS }
 {
-    let session = claimant(alloc, adult, veteran)?;
-    let words = entitled(alloc, &session, day);
-    drop(session);
-    words
+    told_of_claimant(alloc, adult, veteran, &EntitledOn { day })
 }
 
 #[test]
@@ -140,7 +160,7 @@ fn rule_parts<H: Held>(
 }
 
 /// What the rule of being entitled gives, and what its parts give.
-fn told_parts(alloc: Global, session: &Session, day: u32) -> Result<String, Fail>
+fn told_parts<L: Ledger>(alloc: Global, session: &Session<L>, day: u32) -> Result<String, Fail>
     requires { day < DAYS }
 {
     let attr = attribute(&session.base().model, "the claimant is entitled")?;
@@ -153,17 +173,24 @@ fn told_parts(alloc: Global, session: &Session, day: u32) -> Result<String, Fail
     Ok(out)
 }
 
-fn parts_after(alloc: Global, adult: &str, veteran: &str) -> Result<String, Fail> {
-    let session = claimant(alloc, adult, veteran)?;
-    let words = told_parts(alloc, &session, 154_893);
-    drop(session);
-    words
+#[derive(Clone, Copy)]
+struct Parts;
+
+impl Telling<String> for Parts {
+    fn told<L: Ledger>(
+        &self,
+        alloc: Global,
+        session: &mut Session<L>,
+        _steps: &mut Steps<L>,
+    ) -> Result<String, Fail> {
+        told_parts(alloc, session, 154_893)
+    }
 }
 
 #[test]
 fn values_of_parts(rt: HostRuntime) -> Result<(), Fail> {
     for (adult, veteran, entitled) in ANSWERS {
-        let found = parts_after(rt.alloc(), adult, veteran)?;
+        let found = told_of_claimant(rt.alloc(), adult, veteran, &Parts)?;
         let want = format!(in rt.alloc(); " {entitled} {adult} {veteran}")?;
         assert_eq!(rt; found.as_str(), want.as_str());
     }

@@ -1,11 +1,13 @@
 // Which instance an attribute or a list belongs to, in loaded rulebases.
 use opa_case::{Case, InstanceId};
-use opa_io::{List, NoMemory, Txt};
+use opa_infer::Session;
+use opa_io::{List, NoMemory, Steps, Txt};
 use opa_mean::{Held, place_of};
 use opa_model::EntityId;
 use std::alloc::Global;
+use std::sync::ledger::Ledger;
 use std::test::Fail;
-use tests_input::told::after;
+use tests_input::told::{Telling, told_after};
 use tests_samples::texts;
 
 /// Enclosing instances, each by its entity and its name.
@@ -34,6 +36,24 @@ fn place_name(
     }
 }
 
+/// The place of an entity, told as its name.
+#[derive(Clone, Copy)]
+struct Place<'a> {
+    instances: &'a [(u32, &'a str)],
+    entity: u32,
+}
+
+impl<'a> Telling<String> for Place<'a> {
+    fn told<L: Ledger>(
+        &self,
+        alloc: Global,
+        session: &mut Session<L>,
+        _steps: &mut Steps<L>,
+    ) -> Result<String, Fail> {
+        place_name(alloc, session.case(), self.instances, self.entity)
+    }
+}
+
 /// The same after a line of input.
 fn place_after(
     alloc: Global,
@@ -42,10 +62,12 @@ fn place_after(
     instances: &[(u32, &str)],
     entity: u32,
 ) -> Result<String, Fail> {
-    let session = after(alloc, &[("main", text)], &[line])?;
-    let name = place_name(alloc, session.case(), instances, entity);
-    drop(session);
-    name
+    told_after(
+        alloc,
+        &[("main", text)],
+        &[line],
+        &Place { instances, entity },
+    )
 }
 
 const AN_ADULT: &str = "answer the claimant is an adult = uncertain";

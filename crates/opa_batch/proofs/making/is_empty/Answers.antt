@@ -8,7 +8,7 @@ use Rattle.opa_batch.proofs.EmptyLaws.{nothing_known}
 use Rattle.opa_batch.proofs.making.is_empty.Goals as goal
 
 pub returns : goal.returns
-returns c =
+returns g c =
     let r = rules_of c.args.session.now in
     let held = held_of c.args.session.now in
     let is : c.case-case.result.now ≡ held = c.case-case.ensures.case in

@@ -1,7 +1,7 @@
 use Rattle.opa_infer.proofs.starting.begun.Goals as goal
 
 pub invariant_of-result : goal.invariant_of-result
-invariant_of-result c = record {
+invariant_of-result g c = record {
   owned = c.requires.owned;
   coded = c.requires.coded;
   freed = c.requires.freed;

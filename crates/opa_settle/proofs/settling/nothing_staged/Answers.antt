@@ -4,4 +4,4 @@ use Rattle.opa_store.proofs.Listing.{among, none_staged}
 use Rattle.opa_settle.proofs.settling.nothing_staged.Goals as goal
 
 pub returns : goal.returns
-returns c = none_staged (staged_of c.args.store.now) c.slots-slots.result.now (c.slots-slots.ensures.slots ∙ c.requires) (among (staged_of c.args.store.now) c.slots-slots.result.now c.slots-slots.ensures.listed)
+returns g c = none_staged (staged_of c.args.store.now) c.slots-slots.result.now (c.slots-slots.ensures.slots ∙ c.requires) (among (staged_of c.args.store.now) c.slots-slots.result.now c.slots-slots.ensures.listed)

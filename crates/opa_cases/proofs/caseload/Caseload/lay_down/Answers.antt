@@ -6,7 +6,7 @@ use Rattle.opa_cases.proofs.FitLaws.{apart_none, fits_none, fit_after}
 use Rattle.opa_cases.proofs.caseload.Caseload.lay_down.Goals as goal
 
 pub invariant_of-self : goal.invariant_of-self
-invariant_of-self c =
+invariant_of-self g c =
     let self = c.args.self.now in
     let r = rules_of self.session in
     let v = opened_as c.in_ok-case.case c.args.current.reached c.args.current.pile in

@@ -7,7 +7,7 @@ use Rattle.opa_infer.specs.Sessions.{rules_of, held_of}
 use Rattle.opa_infer.proofs.session.Session.slots.Goals as goal
 
 pub returns : goal.returns
-returns c =
+returns g c =
     let rules = rules_of c.args.self.now in
     let case = held_of c.args.self.now in
     let base = c.base-base.result.now in

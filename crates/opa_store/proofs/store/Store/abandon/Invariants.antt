@@ -5,10 +5,10 @@ use Rattle.opa_store.proofs.Listing.{AreAmong}
 use Rattle.opa_store.proofs.store.Store.abandon.Given as goal
 
 abbrev pub invariant-loop-slot : goal.invariant-loop-slot
-invariant-loop-slot l = record {
+invariant-loop-slot g l = record {
   kept : SameLines (kept_of l.fn.self) (kept_lines l.self-inside.entries);
   listed : AreAmong (staged_lines l.self-inside.entries) l.self-inside.slots;
 }
 
 abbrev pub decreases-loop-slot : goal.decreases-loop-slot
-decreases-loop-slot l = length l.self-inside.slots
+decreases-loop-slot g l = length l.self-inside.slots

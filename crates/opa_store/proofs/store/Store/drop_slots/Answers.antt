@@ -7,6 +7,6 @@ use Rattle.opa_store.proofs.Dropped.{dropped_lines}
 use Rattle.opa_store.proofs.store.Store.drop_slots.Goals as goal
 
 pub returns-clause-kept : goal.returns-clause-kept
-returns-clause-kept c a i =
+returns-clause-kept g c a i =
     dropped_lines c.args.base.now c.args.owners.now c.requires.owners c.args.went.now c.self.inside.entries c.drop_all.new.entries c.drop_all.ensures a i
     ∙ ap (λ (s : StoreView). cond (has_slot c.args.base.now a i && is_among c.args.went.now i) None (kept_of s a i)) c.self.view_is
