@@ -1,5 +1,5 @@
 -- The first day on which a goal is unknown, and the questions of all goals.
-use Rattle.std.proofs.Common.{◌≡◌, ◌≢◌, ◌↔◌, ℕ, zero, suc, ◌+◌, ◌<◌, ◌≤◌, Bool, true, false, cond, List, [], ◌∷◌, length, drop, Option, None, Some, Bor, is_some, refl, sym, ◌∙◌, ap, subst, arith, add-one}
+use Rattle.std.proofs.Common.{◌≡◌, ◌≢◌, ◌↔◌, ℕ, zero, suc, ◌+◌, ◌<◌, ◌≤◌, Bool, true, false, cond, List, [], ◌∷◌, length, drop, get_or, Option, None, Some, Bor, is_some, refl, sym, ◌∙◌, ap, subst, arith, add-one}
 use Rattle.std.specs.Prelude.{find, nat_le, ◌&&◌, ◌||◌, ◌==◌, slice_get}
 use Rattle.std.specs.FinMap.{get}
 use Rattle.std.specs.List.{list_any, AllByRecursion}
@@ -8,6 +8,7 @@ use Rattle.opa_date.specs.declared.TheConstants.{DAYS}
 use Rattle.opa_value.specs.declared.value.Value.{Value}
 use Rattle.opa_value.specs.declared.value.Value.TheVariants.{Unknown}
 use Rattle.opa_value.specs.Truth.{is_unknown}
+use Rattle.opa_line.proofs.LastPairs.{IsPlace}
 use Rattle.opa_line.specs.Lines.{at, value_from, Follows, IsLine, StandsFor}
 use Rattle.opa_model.specs.declared.ids.AttrId.{AttrId}
 use Rattle.opa_cells.specs.Instances.{global, is_same}
@@ -88,6 +89,19 @@ pub line_steady : (l : List (ℕ × Value)) (d k : ℕ) → IsLine DAYS l → d 
 line_steady [] d k form low high = absurd form
 line_steady (p ∷ l) d k form low high =
     ap Some (steady d k p.1 l low (subst (λ b. k < cond b (next_change d l) p.0) (subst (λ n. nat_le n d ≡ true) (sym form.0) (le-leb 0 d (omega arith))) high))
+
+-- the change behind a day stands behind the pairs that are reached
+pub next_at : (l : List (ℕ × Value)) (d n : ℕ) (e : ℕ × Value) → IsPlace d l n → n < length l → next_change d l ≡ (get_or l n e).0
+next_at [] d n e place lt = absurd (omega (arith, lt))
+next_at (p ∷ l) d zero e place lt = ap (λ b. cond b (next_change d l) p.0) (lt-leb p.0 d (place.1 0 p (omega arith) (omega arith)))
+next_at (p ∷ l) d (suc n) e place lt =
+    ap (λ b. cond b (next_change d l) p.0) (le-leb p.0 d (place.0 0 p (omega arith))) ∙ next_at l d n e ((λ i x lt. place.0 (suc i) x (omega (arith, lt))), (λ i x more lt. place.1 (suc i) x (omega (arith, more)) (omega (arith, lt)))) (omega (arith, lt))
+
+pub next_past : (l : List (ℕ × Value)) (d n : ℕ) → IsPlace d l n → length l ≤ n → next_change d l ≡ DAYS
+next_past [] d n place over = refl
+next_past (p ∷ l) d zero place over = absurd (omega (arith, over))
+next_past (p ∷ l) d (suc n) place over =
+    ap (λ b. cond b (next_change d l) p.0) (le-leb p.0 d (place.0 0 p (omega arith))) ∙ next_past l d n ((λ i x lt. place.0 (suc i) x (omega (arith, lt))), (λ i x more lt. place.1 (suc i) x (omega (arith, more)) (omega (arith, lt)))) (omega (arith, over))
 
 change_follows : (d0 d : ℕ) (v : Value) (l : List (ℕ × Value)) → d < DAYS → Follows DAYS d0 v l → (d < next_change d l) × (next_change d l ≤ DAYS)
 change_follows d0 d v [] lt f = (lt, omega arith)
