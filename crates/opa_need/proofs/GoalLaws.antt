@@ -31,7 +31,7 @@ use Rattle.opa_mean.proofs.LawsOver.{finished_holds}
 use Rattle.opa_mean.proofs.Unknowns.{unknown_is}
 use Rattle.opa_need.specs.Finding.{added}
 use Rattle.opa_need.specs.Goals.{IsGlobal, next_change, KnownBelow, IsFirstOpen, IsFirstUnknown, asked_first}
-use Rattle.opa_need.specs.Steps.{point_needs}
+use Rattle.opa_need.specs.Steps.{point_needs, IsKnownOn}
 use Rattle.opa_need.proofs.Adding.{from_none}
 
 find_first : (p : ℕ → Bool) (n s d : ℕ) → s ≤ d → d < s + n → p d ≡ true → ((k : ℕ) → k < d → p k ≡ false) → find p (days s n) ≡ Some d
@@ -54,7 +54,7 @@ find_none : (p : ℕ → Bool) (n s : ℕ) → ((k : ℕ) → s ≤ k → k < s 
 find_none p zero s none = refl
 find_none p (suc n) s none = ap (λ b. cond b (Some s) (find p (days (s + 1) n))) (none s (omega arith) (omega arith)) ∙ find_none p n (s + 1) (λ k low high. none k (omega (arith, low)) (omega (arith, high)))
 
-known_is : (v : Value) → v ≢ Unknown → is_unknown v ≡ false
+pub known_is : (v : Value) → v ≢ Unknown → is_unknown v ≡ false
 known_is v not = go (is_unknown v) refl
   where
     go : (b : Bool) → is_unknown v ≡ b → b ≡ false
@@ -122,6 +122,13 @@ known_more l d next form e not below k lt = go (nat_le d k) refl
     go : (b : Bool) → nat_le d k ≡ b → at l k ≢ Some Unknown
     go true f q = not (sym (line_steady l d k form (leb-true d k f) (subst (λ n. k < n) e lt)) ∙ q)
     go false f q = below k (leb-false d k f) q
+
+pub known_further : (l : List (ℕ × Value)) (s d next : ℕ) → IsLine DAYS l → next ≡ next_change d l → at l d ≢ Some Unknown → IsKnownOn l s d → IsKnownOn l s next
+known_further l s d next form e not before k begun lt = go (nat_le d k) refl
+  where
+    go : (b : Bool) → nat_le d k ≡ b → at l k ≢ Some Unknown
+    go true f q = not (sym (line_steady l d k form (leb-true d k f) (subst (λ n. k < n) e lt)) ∙ q)
+    go false f q = before k begun (leb-false d k f) q
 
 pub not_open : (o : Option Value) (v : Value) → o ≡ Some v → is_unknown v ≡ false → o ≢ Some Unknown
 not_open o v e f q = let same : v ≡ Unknown = cc (e, q) in absurd (cc (ap is_unknown same, f))

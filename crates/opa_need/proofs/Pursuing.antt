@@ -31,11 +31,12 @@ use Rattle.opa_mean.specs.Uses.{Use, Point, Listed}
 use Rattle.opa_mean.proofs.Everywhere.{all_append, all_weaker}
 use Rattle.opa_mean.proofs.LawsOver.{base}
 use Rattle.opa_need.specs.Finding.{AreFound, added}
-use Rattle.opa_need.specs.Steps.{tree_needs, part_needs, point_needs, days_needs, step_needs, claim, AreSound, IsReady, StandFor, IsRun, AreRuns, IsOnTheWay, IsSettled, Settles, IsRunOf, LeadsOn, PutsOn}
+use Rattle.opa_need.specs.Steps.{IsKnownUntil, part_value, tree_needs, part_needs, point_needs, days_needs, step_needs, claim, AreSound, IsReady, StandFor, IsRun, AreRuns, IsOnTheWay, IsSettled, Settles, IsRunOf, LeadsOn, PutsOn}
 use Rattle.opa_need.specs.declared.runs.Run.{Run}
 use Rattle.opa_need.specs.declared.steps.Step.{Step}
 use Rattle.opa_need.specs.declared.steps.Step.TheVariants as step
 use Rattle.opa_need.proofs.Adding.{added-append, all_stay, all_there, nothing_new, first_stays}
+use Rattle.opa_need.proofs.GoalLaws.{known_is}
 use Rattle.opa_need.proofs.OpeningLaws.{flat_append}
 use Rattle.opa_mean.proofs.ByRule.{by_its_rule}
 
@@ -220,6 +221,24 @@ module _ (r : Rulebase) (c : CaseView) where
   days_begin found runs e es es' es'' first end old mid new lt same same' f g total h =
       subst (IsOnTheWay r c total found runs) (sym (ap reverse g ∙ reversed mid (step.Part e es' first) ∙ ap (λ xs. step.Part e es' first ∷ reverse xs) f ∙ ap (λ xs. step.Part e es' first ∷ xs) (reversed old (step.AfterDay e es'' first end))))
       (first_day total found runs e es es' es'' first end (reverse old) lt same same' h)
+
+  -- days on which the part is known are passed over
+  pub days_pass : (found : List Question) (runs : FinMap cell_cmp (List Run)) (found' : List Question) (runs' : FinMap cell_cmp (List Run)) (e : Bor Expr) (es : List InstanceId) (first from end : ℕ) (old new : List Step) → first ≤ from → IsKnownUntil r c e.now es first from
+      → LeadsOn r c (step.Days e es from end) found runs old found' runs' new → LeadsOn r c (step.Days e es first end) found runs old found' runs' new
+  days_pass found runs found' runs' e es first from end old new low known h total way = h total (record {
+    whole = added-append found (days_needs r c e.now es from end) (flat_map (step_needs r c) (reverse old)) ∙ ap (λ qs. added qs (flat_map (step_needs r c) (reverse old))) (sym skips)
+        ∙ sym (added-append found (days_needs r c e.now es first end) (flat_map (step_needs r c) (reverse old))) ∙ way.whole;
+    sound = (tt, subst (λ qs. AreSound r c qs (reverse old)) skips way.sound.1);
+    ready = (way.ready.0, way.ready.1);
+    found_on = way.found_on;
+  })
+    where
+      none : (k : ℕ) → first ≤ k → k < first + (from - first) → AreFound found (part_needs r c e.now es k)
+      none k begun lt = subst (λ b. AreFound found (cond b (tree_needs r c e.now es k) [])) (sym (known_is (part_value r c e.now es k) (known k begun (omega (arith, lt, low))))) tt
+
+      skips : added found (days_needs r c e.now es first end) ≡ added found (days_needs r c e.now es from end)
+      skips = passed (part_needs r c e.now es) found (from - first) first end none
+          ∙ ap (λ t. added found (flat_map (part_needs r c e.now es) (days t (end - t)))) (let there : first + (from - first) ≡ from = omega (arith, low) in there)
 
   pub days_go_on : (found : List Question) (runs : FinMap cell_cmp (List Run)) (e : Bor Expr) (es es' : List InstanceId) (d end until from : ℕ) (old new : List Step) → es' ≡ es → from ≡ max until (d + 1) → Settles r c found runs (part_needs r c e.now es) d until
       → new ≡ old ++ step.Days e es' from end ∷ [] → LeadsOn r c (step.AfterDay e es d end) found runs old found runs new

@@ -18,7 +18,7 @@ use Rattle.opa_mean.specs.Places.{owner_of, place}
 use Rattle.opa_mean.specs.Rulebases.{value_at}
 use Rattle.opa_mean.proofs.Values.{value-Attr}
 use Rattle.opa_need.specs.Goals.{next_change}
-use Rattle.opa_need.specs.Steps.{HasUntil, IsStay, part_value}
+use Rattle.opa_need.specs.Steps.{HasUntil, IsKnownOn, IsKnownUntil, IsStay, part_value}
 use Rattle.opa_need.proofs.GoalLaws.{line_steady, change_later}
 
 pub stay_on_line : (l : List (ℕ × Value)) (d : ℕ) (v w : Value) (until : ℕ) → IsLine DAYS l → d < DAYS → at l d ≡ Some v → w ≡ v → until ≡ next_change d l → IsStay l d until w
@@ -44,3 +44,6 @@ module _ (r : Rulebase) (c : CaseView) where
 
   pub stays_so : (e : Expr) (es : List InstanceId) (d until : ℕ) (v : Value) → HasUntil r c e es d until v → HasUntil r c e es d until (part_value r c e es d)
   stays_so e es d until v stays k low high = stays k low high ∙ sym (stays d (omega arith) (omega (arith, low, high)))
+
+  pub known_by_line : (e : Expr) (es : List InstanceId) (l : List (ℕ × Value)) (d until : ℕ) → StandsFor DAYS (part_value r c e es) l → until ≤ DAYS → IsKnownOn l d until → IsKnownUntil r c e es d until
+  known_by_line e es l d until stands most known k low high un = known k low high (stands k (omega (arith, high, most)) ∙ ap Some un)

@@ -39,6 +39,10 @@ IsSettled f found day until = (k : ℕ) → day ≤ k → k < until → AreFound
 abbrev pub IsStay : List (ℕ × Value) → ℕ → ℕ → Value → Type 0
 IsStay l d until v = ((k : ℕ) → d ≤ k → k < until → at l k ≡ Some v) × (until ≤ DAYS)
 
+-- a line is known from a day on and below another
+abbrev pub IsKnownOn : List (ℕ × Value) → ℕ → ℕ → Type 0
+IsKnownOn l d until = (k : ℕ) → d ≤ k → k < until → at l k ≢ Some Unknown
+
 module _ (r : Rulebase) (c : CaseView) where
   -- the needs of a tree, and those of a part, which has some only where it is unknown
   abbrev pub tree_needs : Expr → Uses

@@ -14,6 +14,7 @@ use crate::found::Found;
 use crate::looking::{again, is_unknown, rule_of, value_at};
 use crate::opening::open;
 use crate::runs::{Run, Runs, add_run, run_of};
+use crate::stays::open_from;
 use crate::steps::Step;
 use crate::stretches::{settled, settled_part};
 use opa_case::{InstanceId, Question};
@@ -172,10 +173,10 @@ fn step_list<'a, H: Held>(
     Ok((more, runs))
 }
 
-/// Days: the first of them, and what is behind it.
+/// Days: the first of them on which the part isn't known, and what is behind it.
 fn step_days<'a, H: Held>(
     alloc: Global,
-    _held: &'a H,
+    held: &'a H,
     steps: &mut List<Step<'a>>,
     part: &'a Expr,
     enclosing: &List<InstanceId>,
@@ -184,15 +185,16 @@ fn step_days<'a, H: Held>(
     found: Found,
     runs: Runs,
 ) -> Result<(Found, Runs), NoMemory>
-    ensures { IfOk result (λ x. LeadsOn (H.rules _held.now) (H.held _held.now) (step.Days part.entry enclosing.now first end) found runs steps.old x.0 x.1 steps.new) }
+    ensures { IfOk result (λ x. LeadsOn (H.rules held.now) (H.held held.now) (step.Days part.entry enclosing.now first end) found runs steps.old x.0 x.1 steps.new) }
 {
-    if first >= end {
+    let from = open_from(alloc, held, part, enclosing, first)?;
+    if from >= end {
         return Ok((found, runs));
     }
     let at_first = again(alloc, enclosing)?;
     let behind = again(alloc, enclosing)?;
-    steps.push(Step::AfterDay(part, behind, first, end))?;
-    steps.push(Step::Part(part, at_first, first))?;
+    steps.push(Step::AfterDay(part, behind, from, end))?;
+    steps.push(Step::Part(part, at_first, from))?;
     Ok((found, runs))
 }
 

@@ -1,13 +1,13 @@
 // The value of a part from a day on, and how long it stays: known from its line, whatever the number of days.
-ghost use Rattle.std.specs.Prelude.{◌≡◌, ◌<◌, true, IfOk, IfSome};
+ghost use Rattle.std.specs.Prelude.{◌≡◌, ◌<◌, ◌≤◌, true, IfOk, IfSome};
 ghost use Rattle.std.specs.List.{AllByRecursion};
 ghost use Rattle.opa_case.specs.Cases.{IsLive};
 ghost use Rattle.opa_date.specs.declared.TheConstants.{DAYS};
 ghost use Rattle.opa_line.specs.Lines.{StandsFor};
-ghost use Rattle.opa_need.specs.Steps.{HasUntil, IsStay, part_value};
+ghost use Rattle.opa_need.specs.Steps.{HasUntil, IsKnownOn, IsKnownUntil, IsStay, part_value};
 
 use crate::goals::until;
-use crate::looking::attr_place;
+use crate::looking::{attr_place, is_unknown};
 use opa_case::InstanceId;
 use opa_code::tree_line;
 use opa_date::DAYS;
@@ -111,4 +111,46 @@ fn stay_on(alloc: Global, line: &Line<Value>, day: u32) -> Result<Stay, NoMemory
         value,
         until: until(line, day),
     })
+}
+
+/// The first day from a day on, on which a part isn't known, or the calendar's end; that day itself outside the calendar,
+/// and at instances that aren't live.
+pub(crate) fn open_from<H: Held>(
+    alloc: Global,
+    held: &H,
+    part: &Expr,
+    enclosing: &List<InstanceId>,
+    day: u32,
+) -> Result<u32, NoMemory>
+    ensures from { IfOk result (λ from. day ≤ from) }
+    ensures known { IfOk result (IsKnownUntil (H.rules held.now) (H.held held.now) part.now enclosing.now day) }
+{
+    if day >= DAYS || !are_live(held, enclosing.as_slice()) {
+        return Ok(day);
+    }
+    match held_line(held, part, enclosing) {
+        Some(line) => Ok(open_on(line, day)),
+        None => {
+            let line = tree_line(alloc, held, part, enclosing)?;
+            Ok(open_on(&line, day))
+        }
+    }
+}
+
+/// The first day from a day on, on which a line isn't known, or the calendar's end.
+fn open_on(line: &Line<Value>, day: u32) -> u32
+    requires { day < DAYS }
+    ensures from { day ≤ result }
+    ensures end { result ≤ DAYS }
+    ensures known { IsKnownOn line.now day result }
+{
+    let _form = line.segments();
+    let mut from = day;
+    while from < DAYS {
+        if is_unknown(line.at(from)) {
+            return from;
+        }
+        from = until(line, from);
+    }
+    from
 }
