@@ -1,5 +1,5 @@
 -- The first day on which a goal is unknown, and the questions of all goals.
-use Rattle.std.proofs.Common.{◌≡◌, ◌≢◌, ◌↔◌, ℕ, zero, suc, ◌+◌, ◌<◌, ◌≤◌, Bool, true, false, cond, List, [], ◌∷◌, length, drop, Option, None, Some, Bor, is_some, refl, sym, ◌∙◌, ap, subst, arith, add-one}
+use Rattle.std.proofs.Common.{◌≡◌, ◌≢◌, ◌↔◌, ℕ, zero, suc, ◌+◌, ◌<◌, ◌≤◌, Bool, true, false, cond, List, [], ◌∷◌, length, drop, get_or, Option, None, Some, Bor, is_some, refl, sym, ◌∙◌, ap, subst, arith, add-one}
 use Rattle.std.specs.Prelude.{find, nat_le, ◌&&◌, ◌||◌, ◌==◌, slice_get}
 use Rattle.std.specs.FinMap.{get}
 use Rattle.std.specs.List.{list_any, AllByRecursion}
@@ -8,6 +8,7 @@ use Rattle.opa_date.specs.declared.TheConstants.{DAYS}
 use Rattle.opa_value.specs.declared.value.Value.{Value}
 use Rattle.opa_value.specs.declared.value.Value.TheVariants.{Unknown}
 use Rattle.opa_value.specs.Truth.{is_unknown}
+use Rattle.opa_line.proofs.LastPairs.{IsPlace}
 use Rattle.opa_line.specs.Lines.{at, value_from, Follows, IsLine, StandsFor}
 use Rattle.opa_model.specs.declared.ids.AttrId.{AttrId}
 use Rattle.opa_cells.specs.Instances.{global, is_same}
@@ -30,7 +31,7 @@ use Rattle.opa_mean.proofs.LawsOver.{finished_holds}
 use Rattle.opa_mean.proofs.Unknowns.{unknown_is}
 use Rattle.opa_need.specs.Finding.{added}
 use Rattle.opa_need.specs.Goals.{IsGlobal, next_change, KnownBelow, IsFirstOpen, IsFirstUnknown, asked_first}
-use Rattle.opa_need.specs.Steps.{point_needs}
+use Rattle.opa_need.specs.Steps.{point_needs, IsKnownOn}
 use Rattle.opa_need.proofs.Adding.{from_none}
 
 find_first : (p : ℕ → Bool) (n s d : ℕ) → s ≤ d → d < s + n → p d ≡ true → ((k : ℕ) → k < d → p k ≡ false) → find p (days s n) ≡ Some d
@@ -53,7 +54,7 @@ find_none : (p : ℕ → Bool) (n s : ℕ) → ((k : ℕ) → s ≤ k → k < s 
 find_none p zero s none = refl
 find_none p (suc n) s none = ap (λ b. cond b (Some s) (find p (days (s + 1) n))) (none s (omega arith) (omega arith)) ∙ find_none p n (s + 1) (λ k low high. none k (omega (arith, low)) (omega (arith, high)))
 
-known_is : (v : Value) → v ≢ Unknown → is_unknown v ≡ false
+pub known_is : (v : Value) → v ≢ Unknown → is_unknown v ≡ false
 known_is v not = go (is_unknown v) refl
   where
     go : (b : Bool) → is_unknown v ≡ b → b ≡ false
@@ -89,6 +90,19 @@ line_steady [] d k form low high = absurd form
 line_steady (p ∷ l) d k form low high =
     ap Some (steady d k p.1 l low (subst (λ b. k < cond b (next_change d l) p.0) (subst (λ n. nat_le n d ≡ true) (sym form.0) (le-leb 0 d (omega arith))) high))
 
+-- the change behind a day stands behind the pairs that are reached
+pub next_at : (l : List (ℕ × Value)) (d n : ℕ) (e : ℕ × Value) → IsPlace d l n → n < length l → next_change d l ≡ (get_or l n e).0
+next_at [] d n e place lt = absurd (omega (arith, lt))
+next_at (p ∷ l) d zero e place lt = ap (λ b. cond b (next_change d l) p.0) (lt-leb p.0 d (place.1 0 p (omega arith) (omega arith)))
+next_at (p ∷ l) d (suc n) e place lt =
+    ap (λ b. cond b (next_change d l) p.0) (le-leb p.0 d (place.0 0 p (omega arith))) ∙ next_at l d n e ((λ i x lt. place.0 (suc i) x (omega (arith, lt))), (λ i x more lt. place.1 (suc i) x (omega (arith, more)) (omega (arith, lt)))) (omega (arith, lt))
+
+pub next_past : (l : List (ℕ × Value)) (d n : ℕ) → IsPlace d l n → length l ≤ n → next_change d l ≡ DAYS
+next_past [] d n place over = refl
+next_past (p ∷ l) d zero place over = absurd (omega (arith, over))
+next_past (p ∷ l) d (suc n) place over =
+    ap (λ b. cond b (next_change d l) p.0) (le-leb p.0 d (place.0 0 p (omega arith))) ∙ next_past l d n ((λ i x lt. place.0 (suc i) x (omega (arith, lt))), (λ i x more lt. place.1 (suc i) x (omega (arith, more)) (omega (arith, lt)))) (omega (arith, over))
+
 change_follows : (d0 d : ℕ) (v : Value) (l : List (ℕ × Value)) → d < DAYS → Follows DAYS d0 v l → (d < next_change d l) × (next_change d l ≤ DAYS)
 change_follows d0 d v [] lt f = (lt, omega arith)
 change_follows d0 d v (p ∷ l) lt f = go (nat_le p.0 d) refl (change_follows p.0 d p.1 l lt f.3)
@@ -108,6 +122,13 @@ known_more l d next form e not below k lt = go (nat_le d k) refl
     go : (b : Bool) → nat_le d k ≡ b → at l k ≢ Some Unknown
     go true f q = not (sym (line_steady l d k form (leb-true d k f) (subst (λ n. k < n) e lt)) ∙ q)
     go false f q = below k (leb-false d k f) q
+
+pub known_further : (l : List (ℕ × Value)) (s d next : ℕ) → IsLine DAYS l → next ≡ next_change d l → at l d ≢ Some Unknown → IsKnownOn l s d → IsKnownOn l s next
+known_further l s d next form e not before k begun lt = go (nat_le d k) refl
+  where
+    go : (b : Bool) → nat_le d k ≡ b → at l k ≢ Some Unknown
+    go true f q = not (sym (line_steady l d k form (leb-true d k f) (subst (λ n. k < n) e lt)) ∙ q)
+    go false f q = before k begun (leb-false d k f) q
 
 pub not_open : (o : Option Value) (v : Value) → o ≡ Some v → is_unknown v ≡ false → o ≢ Some Unknown
 not_open o v e f q = let same : v ≡ Unknown = cc (e, q) in absurd (cc (ap is_unknown same, f))

@@ -8,3 +8,5 @@ pub mod TreesOpen
 pub mod Pursuing
 pub mod GoalLaws
 pub mod Settling
+pub mod SettledParts
+pub mod Steadiness

@@ -105,7 +105,7 @@ module _ (r : Rulebase) (c : CaseView) where
   pub all_more : {X : Type 0} (f : X → List Use) (xs : List X) (i : ℕ) (x : X) (old new : List Step) → i < length xs → x ≡ get_or xs i x → StandFor r c (flat_map f (take i xs)) old → Adds r c (f x) old new → StandFor r c (flat_map f (take (i + 1) xs)) new
   all_more f xs i x old new within is h k = subst (λ us. StandFor r c us new) (sym (flat_more f xs i x within is)) (k (flat_map f (take i xs)) h)
 
-  member_single : (q : Quant) (x : Expr) (es : List InstanceId) (d : ℕ) → part_needs r c x es d ≡ member_needs r c q (x ∷ []) es d
+  pub member_single : (q : Quant) (x : Expr) (es : List InstanceId) (d : ℕ) → part_needs r c x es d ≡ member_needs r c q (x ∷ []) es d
   member_single quant.SumIf x es d = refl
   member_single q x es d = refl
 

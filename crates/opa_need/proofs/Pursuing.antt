@@ -31,11 +31,12 @@ use Rattle.opa_mean.specs.Uses.{Use, Point, Listed}
 use Rattle.opa_mean.proofs.Everywhere.{all_append, all_weaker}
 use Rattle.opa_mean.proofs.LawsOver.{base}
 use Rattle.opa_need.specs.Finding.{AreFound, added}
-use Rattle.opa_need.specs.Steps.{tree_needs, part_needs, point_needs, days_needs, step_needs, claim, AreSound, IsReady, StandFor, IsRun, AreRuns, IsOnTheWay, IsSettled, IsRunOf, LeadsOn, PutsOn}
+use Rattle.opa_need.specs.Steps.{IsKnownUntil, part_value, tree_needs, part_needs, point_needs, days_needs, step_needs, claim, AreSound, IsReady, StandFor, IsRun, AreRuns, IsOnTheWay, IsSettled, Settles, IsRunOf, LeadsOn, PutsOn}
 use Rattle.opa_need.specs.declared.runs.Run.{Run}
 use Rattle.opa_need.specs.declared.steps.Step.{Step}
 use Rattle.opa_need.specs.declared.steps.Step.TheVariants as step
 use Rattle.opa_need.proofs.Adding.{added-append, all_stay, all_there, nothing_new, first_stays}
+use Rattle.opa_need.proofs.GoalLaws.{known_is}
 use Rattle.opa_need.proofs.OpeningLaws.{flat_append}
 use Rattle.opa_mean.proofs.ByRule.{by_its_rule}
 
@@ -221,11 +222,29 @@ module _ (r : Rulebase) (c : CaseView) where
       subst (IsOnTheWay r c total found runs) (sym (ap reverse g ∙ reversed mid (step.Part e es' first) ∙ ap (λ xs. step.Part e es' first ∷ reverse xs) f ∙ ap (λ xs. step.Part e es' first ∷ xs) (reversed old (step.AfterDay e es'' first end))))
       (first_day total found runs e es es' es'' first end (reverse old) lt same same' h)
 
-  pub days_go_on : (found : List Question) (runs : FinMap cell_cmp (List Run)) (e : Bor Expr) (es es' : List InstanceId) (d end until from : ℕ) (old new : List Step) → es' ≡ es → from ≡ max until (d + 1) → (AreRuns r c found runs → IsSettled (part_needs r c e.now es) found d until)
+  -- days on which the part is known are passed over
+  pub days_pass : (found : List Question) (runs : FinMap cell_cmp (List Run)) (found' : List Question) (runs' : FinMap cell_cmp (List Run)) (e : Bor Expr) (es : List InstanceId) (first from end : ℕ) (old new : List Step) → first ≤ from → IsKnownUntil r c e.now es first from
+      → LeadsOn r c (step.Days e es from end) found runs old found' runs' new → LeadsOn r c (step.Days e es first end) found runs old found' runs' new
+  days_pass found runs found' runs' e es first from end old new low known h total way = h total (record {
+    whole = added-append found (days_needs r c e.now es from end) (flat_map (step_needs r c) (reverse old)) ∙ ap (λ qs. added qs (flat_map (step_needs r c) (reverse old))) (sym skips)
+        ∙ sym (added-append found (days_needs r c e.now es first end) (flat_map (step_needs r c) (reverse old))) ∙ way.whole;
+    sound = (tt, subst (λ qs. AreSound r c qs (reverse old)) skips way.sound.1);
+    ready = (way.ready.0, way.ready.1);
+    found_on = way.found_on;
+  })
+    where
+      none : (k : ℕ) → first ≤ k → k < first + (from - first) → AreFound found (part_needs r c e.now es k)
+      none k begun lt = subst (λ b. AreFound found (cond b (tree_needs r c e.now es k) [])) (sym (known_is (part_value r c e.now es k) (known k begun (omega (arith, lt, low))))) tt
+
+      skips : added found (days_needs r c e.now es first end) ≡ added found (days_needs r c e.now es from end)
+      skips = passed (part_needs r c e.now es) found (from - first) first end none
+          ∙ ap (λ t. added found (flat_map (part_needs r c e.now es) (days t (end - t)))) (let there : first + (from - first) ≡ from = omega (arith, low) in there)
+
+  pub days_go_on : (found : List Question) (runs : FinMap cell_cmp (List Run)) (e : Bor Expr) (es es' : List InstanceId) (d end until from : ℕ) (old new : List Step) → es' ≡ es → from ≡ max until (d + 1) → Settles r c found runs (part_needs r c e.now es) d until
       → new ≡ old ++ step.Days e es' from end ∷ [] → LeadsOn r c (step.AfterDay e es d end) found runs old found runs new
   days_go_on found runs e es es' d end until from old new same at settled g total h =
       subst (IsOnTheWay r c total found runs) (sym (ap reverse g ∙ reversed old (step.Days e es' from end)))
-      (next_day total found runs e es es' d end until from (reverse old) same (at ∙ (let turned : max until (d + 1) ≡ max (d + 1) until = omega arith in turned)) (settled h.found_on) h)
+      (next_day total found runs e es es' d end until from (reverse old) same (at ∙ (let turned : max until (d + 1) ≡ max (d + 1) until = omega arith in turned)) (settled h.found_on h.sound.0) h)
 
   -- a run more of a point
   pub run_more : (found : List Question) (runs runs' : FinMap cell_cmp (List Run)) (a : AttrId) (i : InstanceId) (own : List Run) (run : Run) → runs' ≡ insert runs (a.0, i) (own ++ run ∷ []) → AllByRecursion (IsRun r c found a i) own → IsRun r c found a i run
@@ -268,17 +287,20 @@ module _ (r : Rulebase) (c : CaseView) where
   own_is (Some own) = inl refl
 
   pub left_on : (found : List Question) (runs runs' : FinMap cell_cmp (List Run)) (a : AttrId) (i : InstanceId) (d until : ℕ) (run : Run) → runs' ≡ insert runs (a.0, i) (unwrap_or (get runs (a.0, i)) [] ++ run ∷ []) → run.first ≡ d → run.end ≡ max until (d + 1)
-      → (AreRuns r c found runs → IsSettled (point_needs r c a i) found d until) → (steps : List Step) → LeadsOn r c (step.AfterPoint a i d) found runs steps found runs' steps
+      → Settles r c found runs (point_needs r c a i) d until → (steps : List Step) → LeadsOn r c (step.AfterPoint a i d) found runs steps found runs' steps
   left_on found runs runs' a i d until run e f g settled steps total h =
-      left total found runs runs' a i d until (unwrap_or (get runs (a.0, i)) []) run (reverse steps) e (own_is (get runs (a.0, i))) f (g ∙ (let turned : max until (d + 1) ≡ max (d + 1) until = omega arith in turned)) (settled h.found_on) h
+      left total found runs runs' a i d until (unwrap_or (get runs (a.0, i)) []) run (reverse steps) e (own_is (get runs (a.0, i))) f (g ∙ (let turned : max until (d + 1) ≡ max (d + 1) until = omega arith in turned)) (settled h.found_on h.sound.0) h
 
   pub none_settled : (f : ℕ → List Use) (found : List Question) (d : ℕ) → IsSettled f found d d
   none_settled f found d k low high = absurd (omega (arith, low, high))
 
-  pub by_its_tree : IsOf r c → (found : List Question) (a : AttrId) (i : InstanceId) (rule : Rule) (e : Expr) (es : List InstanceId) (d until : ℕ) → Some rule ≡ rule_of r.rules a → e ≡ rule.expr → es ≡ i ∷ [] → IsSettled (tree_needs r c e es) found d until → IsSettled (point_needs r c a i) found d until
-  by_its_tree is found a i rule e es d until ruled at alone h k low high =
-      subst (AreFound found) (ap (λ x. tree_needs r c x es k) at ∙ ap (λ ks. tree_needs r c rule.expr ks k) alone
-      ∙ sym (by_its_rule (base_of r) (facts_of c) (base r c is).falls a i k ∙ ap (λ o. needs_or o (Point a i k ∷ []) (λ x. tree_needs r c x (i ∷ []) k)) (sym ruled))) (h k low high)
+  pub by_its_tree : IsOf r c → (found : List Question) (runs : FinMap cell_cmp (List Run)) (a : AttrId) (i : InstanceId) (rule : Rule) (e : Expr) (es : List InstanceId) (d until : ℕ) → Some rule ≡ rule_of r.rules a → e ≡ rule.expr → es ≡ i ∷ []
+      → Settles r c found runs (tree_needs r c e es) d until → Settles r c found runs (point_needs r c a i) d until
+  by_its_tree is found runs a i rule e es d until ruled at alone h right there k low high = subst (AreFound found) (same k) (h right (subst (AreFound found) (sym (same d)) there) k low high)
+    where
+      same : (k : ℕ) → tree_needs r c e es k ≡ point_needs r c a i k
+      same k = ap (λ x. tree_needs r c x es k) at ∙ ap (λ ks. tree_needs r c rule.expr ks k) alone
+          ∙ sym (by_its_rule (base_of r) (facts_of c) (base r c is).falls a i k ∙ ap (λ o. needs_or o (Point a i k ∷ []) (λ x. tree_needs r c x (i ∷ []) k)) (sym ruled))
 
   -- all that was asked for is found
   pub all_found : (total found : List Question) (runs : FinMap cell_cmp (List Run)) (steps : List Step) → steps ≡ [] → IsOnTheWay r c total found runs (reverse steps) → found ≡ total

@@ -31,6 +31,18 @@ use Rattle.opa_need.specs.declared.steps.Step.{Step}
 use Rattle.opa_need.specs.declared.steps.Step.TheVariants as step
 use Rattle.opa_need.specs.declared.runs.Run.{Run}
 
+-- from a day on and below another, what is needed is found
+abbrev pub IsSettled : (ℕ → List Use) → List Question → ℕ → ℕ → Type 0
+IsSettled f found day until = (k : ℕ) → day ≤ k → k < until → AreFound found (f k)
+
+-- a line has the value from a day on and below another, which is a day of the calendar or its end
+abbrev pub IsStay : List (ℕ × Value) → ℕ → ℕ → Value → Type 0
+IsStay l d until v = ((k : ℕ) → d ≤ k → k < until → at l k ≡ Some v) × (until ≤ DAYS)
+
+-- a line is known from a day on and below another
+abbrev pub IsKnownOn : List (ℕ × Value) → ℕ → ℕ → Type 0
+IsKnownOn l d until = (k : ℕ) → d ≤ k → k < until → at l k ≢ Some Unknown
+
 module _ (r : Rulebase) (c : CaseView) where
   -- the needs of a tree, and those of a part, which has some only where it is unknown
   abbrev pub tree_needs : Expr → Uses
@@ -71,6 +83,10 @@ module _ (r : Rulebase) (c : CaseView) where
 
   abbrev pub attr_needs : AttrId → Uses
   attr_needs a enclosing d = at_place_uses (place (container_of c.live) enclosing (owner_of (shape_of r.model) a)) (λ i. point_needs a i d)
+
+  -- a part has the value from a day on and below another
+  abbrev pub HasUntil : Expr → List InstanceId → ℕ → ℕ → Value → Type 0
+  HasUntil e enclosing d until v = (k : ℕ) → d ≤ k → k < until → part_value e enclosing k ≡ v
 
   -- a part is known from a day on and below another
   abbrev pub IsKnownUntil : Expr → List InstanceId → ℕ → ℕ → Type 0
@@ -131,6 +147,10 @@ module _ (r : Rulebase) (c : CaseView) where
   abbrev pub AreRuns : List Question → FinMap cell_cmp (List Run) → Type 0
   AreRuns found runs = (a : AttrId) (i : InstanceId) (own : List Run) → get runs (a.0, i) ≡ Some own → AllByRecursion (IsRun found a i) own
 
+  -- where the runs are right and what is needed on a day is found, what is needed from it on and below another is found
+  abbrev pub Settles : List Question → FinMap cell_cmp (List Run) → (ℕ → List Use) → ℕ → ℕ → Type 0
+  Settles found runs f day until = AreRuns found runs → AreFound found (f day) → IsSettled f found day until
+
   -- What was found and what the steps ask for are all questions together; their claims hold, and so do the runs.
   pub record IsOnTheWay (total found : List Question) (runs : FinMap cell_cmp (List Run)) (steps : List Step) : Type 0 where
     pub whole : added found (flat_map step_needs steps) ≡ total
@@ -146,11 +166,3 @@ module _ (r : Rulebase) (c : CaseView) where
 abbrev pub IsRunOf : Option (List Run) → ℕ → Run → Type 0
 IsRunOf None d run = ⊥
 IsRunOf (Some own) d run = find (λ k. nat_le k.first d && nat_lt d k.end) own ≡ Some run
-
--- from a day on and below another, what is needed is found
-abbrev pub IsSettled : (ℕ → List Use) → List Question → ℕ → ℕ → Type 0
-IsSettled f found day until = (k : ℕ) → day ≤ k → k < until → AreFound found (f k)
-
--- a line is known from a day on and below another
-abbrev pub IsKnownOn : List (ℕ × Value) → ℕ → ℕ → Type 0
-IsKnownOn l d until = ((k : ℕ) → d ≤ k → k < until → at l k ≢ Some Unknown) × (until ≤ DAYS)

@@ -12,10 +12,11 @@ ghost use Rattle.opa_tree.specs.Rules as rules;
 ghost use Rattle.opa_value.specs.Truth as truth;
 
 use opa_case::InstanceId;
+use opa_code::tree_line;
 use opa_io::{List, NoMemory, Txt};
 use opa_mean::{Held, place_in, tree_value};
 use opa_model::{AttrId, RelId};
-use opa_tree::{Expr, Rule};
+use opa_tree::{Expr, Row, Rule};
 use opa_value::Value;
 use std::alloc::Global;
 
@@ -77,7 +78,64 @@ pub(crate) fn value_at<H: Held>(
     requires live { AllByRecursion (IsLive (H.held held.now)) enclosing.now }
     ensures { IfOk result (λ v. v ≡ part_value (H.rules held.now) (H.held held.now) tree.now enclosing.now day) }
 {
-    tree_value(alloc, held, tree, enclosing, day)
+    if looks_over_days(tree) {
+        value_by_line(alloc, held, tree, enclosing, day)
+    } else {
+        tree_value(alloc, held, tree, enclosing, day)
+    }
+}
+
+fn value_by_line<H: Held>(
+    alloc: Global,
+    held: &H,
+    tree: &Expr,
+    enclosing: &List<InstanceId>,
+    day: u32,
+) -> Result<Value, NoMemory>
+    requires day { day < DAYS }
+    requires live { AllByRecursion (IsLive (H.held held.now)) enclosing.now }
+    ensures { IfOk result (λ v. v ≡ part_value (H.rules held.now) (H.held held.now) tree.now enclosing.now day) }
+{
+    let line = tree_line(alloc, held, tree, enclosing)?;
+    let value = line.at(day).copy(alloc)?;
+    Ok(value)
+}
+
+/// Whether a part of the tree is a function over time. Its value at a day rests on other days, however many, so it is
+/// taken from its line.
+#[cycle(looking)]
+fn looks_over_days(tree: &Expr) -> bool {
+    match tree {
+        Expr::Const(_) | Expr::Attr(_) => false,
+        Expr::Window(_, _) | Expr::Rolling(_, _, _) => true,
+        Expr::All(parts) | Expr::Any(parts) | Expr::Op(_, parts) | Expr::Over(_, _, parts) => {
+            look_over_days(parts.as_slice())
+        }
+        Expr::Not(part) | Expr::Certain(part) | Expr::Known(part) => looks_over_days(part.get()),
+        Expr::Table(rows, last) => {
+            rows_look_over_days(rows.as_slice()) || looks_over_days(last.get())
+        }
+    }
+}
+
+#[cycle(looking)]
+fn look_over_days(parts: &[Expr]) -> bool {
+    for part in parts {
+        if looks_over_days(part) {
+            return true;
+        }
+    }
+    false
+}
+
+#[cycle(looking)]
+fn rows_look_over_days(rows: &[Row]) -> bool {
+    for row in rows {
+        if looks_over_days(&row.cond) || looks_over_days(&row.value) {
+            return true;
+        }
+    }
+    false
 }
 
 /// The same instances.
@@ -98,4 +156,16 @@ pub(crate) fn is_unknown(value: &Value) -> bool
     ensures { result ≡ truth.is_unknown value.now }
 {
     matches!(value, Value::Unknown)
+}
+
+pub(crate) fn is_true(value: &Value) -> bool
+    ensures { result ≡ truth.is_true value.now }
+{
+    matches!(value, Value::Bool(true))
+}
+
+pub(crate) fn is_false(value: &Value) -> bool
+    ensures { result ≡ truth.is_false value.now }
+{
+    matches!(value, Value::Bool(false))
 }

@@ -6,17 +6,15 @@ ghost use Rattle.opa_cells.specs.Instances.{named};
 ghost use Rattle.opa_date.specs.declared.TheConstants.{DAYS};
 ghost use Rattle.opa_mean.specs.Uses.{Use};
 ghost use Rattle.opa_tree.specs.declared.kinds.Quant.TheVariants as quants;
-ghost use Rattle.opa_value.specs.Truth as truth;
 ghost use Rattle.opa_need.specs.Steps.{StandFor, Adds, part_needs, member_needs};
 
-use crate::looking::{again, value_at};
+use crate::looking::{again, is_true, value_at};
 use crate::operands::{Operands, taken};
 use crate::steps::Step;
 use opa_case::InstanceId;
 use opa_io::{List, NoMemory, Txt};
 use opa_mean::{Held, within};
 use opa_tree::{Expr, Quant};
-use opa_value::Value;
 use std::alloc::Global;
 
 /// Adds a part.
@@ -104,12 +102,6 @@ fn add_tested<'a, H: Held>(
     } else {
         Ok(())
     }
-}
-
-fn is_true(value: &Value) -> bool
-    ensures { result ≡ truth.is_true value.now }
-{
-    matches!(value, Value::Bool(true))
 }
 
 /// The steps of the members of a quantifier, in list order.

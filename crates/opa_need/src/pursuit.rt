@@ -6,7 +6,7 @@ ghost use Rattle.opa_case.specs.declared.question.Question.{Question as Question
 ghost use Rattle.opa_date.specs.declared.TheConstants.{DAYS};
 ghost use Rattle.opa_mean.specs.Next.{first_or};
 ghost use Rattle.opa_need.specs.Finding.{added};
-ghost use Rattle.opa_need.specs.Steps.{AreRuns, IsReady, IsSettled, LeadsOn, PutsOn, part_needs, point_needs, tree_needs};
+ghost use Rattle.opa_need.specs.Steps.{IsReady, LeadsOn, PutsOn, Settles, part_needs, point_needs, tree_needs};
 ghost use Rattle.opa_need.specs.declared.steps.Step.{Step as Steps};
 ghost use Rattle.opa_need.specs.declared.steps.Step.TheVariants as step;
 
@@ -14,6 +14,7 @@ use crate::found::Found;
 use crate::looking::{again, is_unknown, rule_of, value_at};
 use crate::opening::open;
 use crate::runs::{Run, Runs, add_run, run_of};
+use crate::stays::open_from;
 use crate::steps::Step;
 use crate::stretches::{settled, settled_part};
 use opa_case::{InstanceId, Question};
@@ -172,10 +173,10 @@ fn step_list<'a, H: Held>(
     Ok((more, runs))
 }
 
-/// Days: the first of them, and what is behind it.
+/// Days: the first of them on which the part isn't known, and what is behind it.
 fn step_days<'a, H: Held>(
     alloc: Global,
-    _held: &'a H,
+    held: &'a H,
     steps: &mut List<Step<'a>>,
     part: &'a Expr,
     enclosing: &List<InstanceId>,
@@ -184,15 +185,16 @@ fn step_days<'a, H: Held>(
     found: Found,
     runs: Runs,
 ) -> Result<(Found, Runs), NoMemory>
-    ensures { IfOk result (λ x. LeadsOn (H.rules _held.now) (H.held _held.now) (step.Days part.entry enclosing.now first end) found runs steps.old x.0 x.1 steps.new) }
+    ensures { IfOk result (λ x. LeadsOn (H.rules held.now) (H.held held.now) (step.Days part.entry enclosing.now first end) found runs steps.old x.0 x.1 steps.new) }
 {
-    if first >= end {
+    let from = open_from(alloc, held, part, enclosing, first)?;
+    if from >= end {
         return Ok((found, runs));
     }
     let at_first = again(alloc, enclosing)?;
     let behind = again(alloc, enclosing)?;
-    steps.push(Step::AfterDay(part, behind, first, end))?;
-    steps.push(Step::Part(part, at_first, first))?;
+    steps.push(Step::AfterDay(part, behind, from, end))?;
+    steps.push(Step::Part(part, at_first, from))?;
     Ok((found, runs))
 }
 
@@ -212,7 +214,7 @@ fn step_after<'a, H: Held>(
     requires live { AllByRecursion (IsLive (H.held held.now)) enclosing.now }
     ensures { IfOk result (λ x. LeadsOn (H.rules held.now) (H.held held.now) (step.AfterDay part.entry enclosing.now day end) found runs steps.old x.0 x.1 steps.new) }
 {
-    let until = settled_part(held, &found, &runs, part, enclosing, day);
+    let until = settled_part(alloc, held, &found, &runs, part, enclosing, day)?;
     let from = until.max(day + 1);
     let behind = again(alloc, enclosing)?;
     steps.push(Step::Days(part, behind, from, end))?;
@@ -293,7 +295,7 @@ fn leave_point<H: Held>(
     Ok(noted)
 }
 
-/// The day below which all that a point needs is found.
+/// The day below which all that a point needs is found, from a day on which it is.
 fn point_until<H: Held>(
     alloc: Global,
     held: &H,
@@ -303,14 +305,15 @@ fn point_until<H: Held>(
     inst: &InstanceId,
     day: u32,
 ) -> Result<u32, NoMemory>
-    ensures { IfOk result (λ until. AreRuns (H.rules held.now) (H.held held.now) found.now runs.now → IsSettled (point_needs (H.rules held.now) (H.held held.now) attr inst.now) found.now day until) }
+    ensures { IfOk result (Settles (H.rules held.now) (H.held held.now) found.now runs.now (point_needs (H.rules held.now) (H.held held.now) attr inst.now) day) }
 {
     let _case = held.case();
     match rule_of(held, attr) {
         None => Ok(day),
         Some(rule) => {
             let enclosing = alone(alloc, inst)?;
-            Ok(settled(held, found, runs, &rule.expr, &enclosing, day))
+            let until = settled(alloc, held, found, runs, &rule.expr, &enclosing, day)?;
+            Ok(until)
         }
     }
 }
