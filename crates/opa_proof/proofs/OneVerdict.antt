@@ -1,12 +1,11 @@
 -- A text has at most one verdict.
-use Rattle.std.proofs.Common.{◌≡◌, ◌⊎◌, inl, inr, ℕ, zero, suc, ◌+◌, ◌<◌, ◌≤◌, ◌^◌, List, [], ◌∷◌, length, take, Option, None, Some, Contains, refl, sym, ◌∙◌, ap, subst, arith}
+use Rattle.std.proofs.Common.{◌≡◌, ◌⊎◌, inl, inr, ℕ, zero, suc, ◌+◌, ◌<◌, ◌≤◌, ◌^◌, List, [], ◌∷◌, length, take, None, Some, Contains, refl, sym, ◌∙◌, ap, subst, arith}
 use Rattle.std.specs.Prelude.{slice_get}
 use Rattle.std.proofs.lemmas.Bool.{cases_lt}
-use Rattle.opa_value.specs.declared.value.Value.{Value}
 use Rattle.opa_model.specs.declared.ids.AttrId.{AttrId}
 use Rattle.opa_cells.specs.declared.instance.InstanceId.{InstanceId}
 use Rattle.opa_tree.specs.declared.rulebase.Rulebase.{Rulebase}
-use Rattle.opa_tree.proofs.Members.{contains_head, contains_tail, contains_cases, none_in}
+use Rattle.opa_tree.proofs.Members.{contains_head, contains_tail}
 use Rattle.opa_mean.specs.Given.{base_of}
 use Rattle.opa_mean.specs.Mean.{Base}
 use Rattle.opa_report.specs.declared.lines.Report.{Report}
@@ -63,7 +62,7 @@ all_named r (x ∷ xs) (y ∷ ys) (l ∷ ls) (suc n) h a f = all_named r xs ys l
 stands_before : (xs : List ReportLine) (n m : ℕ) (x : ReportLine) → n < m → slice_get xs n ≡ Some x → Contains (take m xs) x
 stands_before [] n m x lt e = absurd (cc e)
 stands_before (y ∷ xs) n zero x lt e = absurd (omega (arith, lt))
-stands_before (y ∷ xs) zero (suc m) x lt e = let same : y ≡ x = cc e in subst (Contains (y ∷ take m xs)) same (contains_head y (take m xs))
+stands_before (y ∷ xs) zero (suc m) x lt e = let same : y ≡ x = cc e in subst (λ z. Contains (y ∷ take m xs) z) same (contains_head y (take m xs))
 stands_before (y ∷ xs) (suc n) (suc m) x lt e = contains_tail y x (take m xs) (stands_before xs n m x (omega (arith, lt)) e)
 
 first_fault : (b : Base) (lines : List ReportLine) (n m : ℕ) → IsFirstFault b lines n → IsFirstFault b lines m → n ≡ m

@@ -1,5 +1,5 @@
 -- A report's text, printed again, and what says the same is named the same.
-use Rattle.std.proofs.Common.{◌≡◌, inl, inr, ℕ, zero, suc, ◌+◌, ◌<◌, ◌≤◌, ◌^◌, ◌&&◌, List, [], ◌∷◌, ◌++◌, map, length, Bool, true, false, cond, Option, None, Some, Contains, decimal, refl, sym, ◌∙◌, ap, subst, append_assoc, length-append, arith}
+use Rattle.std.proofs.Common.{◌≡◌, ℕ, zero, suc, ◌+◌, ◌<◌, ◌≤◌, ◌^◌, ◌&&◌, List, [], ◌∷◌, ◌++◌, map, length, Bool, true, false, cond, Option, None, Some, Contains, decimal, refl, sym, ◌∙◌, ap, append_assoc, length-append, arith}
 use Rattle.std.specs.Prelude.{codes, slice_get}
 use Rattle.std.specs.Option.{option_and_then}
 use Rattle.std.specs.Str.{bytes_eq}
@@ -15,8 +15,6 @@ use Rattle.opa_cells.specs.declared.instance.InstanceId.{InstanceId}
 use Rattle.opa_tree.specs.declared.rulebase.Rulebase.{Rulebase}
 use Rattle.opa_tree.specs.declared.rules.Rule.{Rule}
 use Rattle.opa_tree.specs.Rules.{rule_of}
-use Rattle.opa_mean.specs.Given.{base_of}
-use Rattle.opa_mean.specs.Mean.{Base}
 use Rattle.opa_report.specs.declared.lines.Report.{Report}
 use Rattle.opa_report.specs.declared.lines.ReportLine.{ReportLine}
 use Rattle.opa_report.specs.declared.lines.ReportLine.TheVariants as line
@@ -24,24 +22,14 @@ use Rattle.opa_report_text.specs.Texts as told
 use Rattle.opa_report_text.specs.Texts.{line_text, numbered, first_line, report_text}
 use Rattle.opa_text.specs.Points.{point_text, instance_part, names_text}
 use Rattle.opa_text.specs.Texts.{value_text}
-use Rattle.opa_spelled.specs.Lines.{lined}
 use Rattle.opa_spelled.specs.Printed.{name_part, spot_text, origin_text, printed_text, numbered_line, lines_text, end_line, head_line, spelled_text}
-use Rattle.opa_spelled.specs.Reading.{IsTextOf}
-use Rattle.opa_spelled.specs.Same.{IsSame, AreSame, SaysSame}
+use Rattle.opa_spelled.specs.Same.{IsSame, AreSame}
 use Rattle.opa_spelled.specs.declared.printed.Origin.TheVariants as origin
 use Rattle.opa_spelled.specs.declared.printed.Printed.{Printed}
 use Rattle.opa_spelled.specs.declared.printed.Printed.TheVariants as printed
 use Rattle.opa_spelled.specs.declared.printed.Spelled.{Spelled}
-use Rattle.opa_spelled.proofs.Breaking.{spelled_has_none_holds}
-use Rattle.opa_spelled.proofs.Feeding.{text_spells}
-use Rattle.opa_spelled.proofs.Sameness.{one_spelling_holds}
-use Rattle.opa_upheld.specs.Faults.{IsFirstFault}
-use Rattle.opa_upheld.specs.Proofs.{AreHeldUp}
-use Rattle.opa_proof.specs.Judging.{IsReadAs, IsNotDerivedAt, IsUnnamedAt, Judges, asked_value}
 use Rattle.opa_proof.specs.Naming.{asked_point, named_line, named_point, named_members, named_member, AreNamed}
-use Rattle.opa_proof.specs.Restating.{name_of, spot_of, origin_by, spelled_line, spelled_of, IsRestated}
-use Rattle.opa_proof.specs.declared.verdict.Verdict.{Verdict}
-use Rattle.opa_proof.specs.declared.verdict.Verdict.TheVariants as verdict
+use Rattle.opa_proof.specs.Restating.{name_of, spot_of, origin_by, spelled_line, spelled_of}
 use Rattle.opa_proof.proofs.Printing.{listed_is}
 
 -- ---- the text of a report

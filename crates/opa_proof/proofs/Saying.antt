@@ -34,9 +34,9 @@ module _ (r : Rulebase) (text : List ℕ) where
 
   pub tells_supported : (x : Report) (v : Value) (w : Verdict) (said : List ℕ) → w ≡ verdict.Yes → said ≡ supported_text r x v → IsTextOfReport r text x → IsReadAs r text x → AreHeldUp (base_of r) x.lines → asked_value x ≡ Some v → Tells r text w said
   tells_supported x v w said e s told read held listed = subst (λ y. Tells r text y said) (sym e) (
-    let upheld : IsUpheld r text = record { report = x; read = read; holds = record { told = told; lines = held; value = v; listed = listed } } in
-    record { supported = record { upheld = upheld; supports = held_up_supports_holds r x.lines held x.attr x.inst x.day v listed }; says = s }
-  )
+      let upheld : IsUpheld r text = record { report = x; read = read; holds = record { told = told; lines = held; value = v; listed = listed } } in
+      record { supported = record { upheld = upheld; supports = held_up_supports_holds r x.lines held x.attr x.inst x.day v listed }; says = s }
+      )
 
   pub told_judges : (v : Verdict) (said : List ℕ) → Tells r text v said → Judges r text v
   told_judges verdict.Yes said t = t.supported.upheld

@@ -1,5 +1,5 @@
 -- What is printed of a verdict.
-use Rattle.std.specs.Prelude.{◌≡◌, ℕ, List, [], ◌∷◌, ◌++◌, codes, Some}
+use Rattle.std.specs.Prelude.{◌≡◌, ℕ, List, [], ◌∷◌, ◌++◌, codes}
 use Rattle.std.specs.Fmt.{decimal}
 use Rattle.opa_case.specs.Shapes.{attribute_or}
 use Rattle.opa_cells.specs.declared.instance.InstanceId.{InstanceId}
