@@ -67,7 +67,7 @@ def page(made: Coverage, folder: pathlib.Path) -> str:
         counts = {kind: f"{reached} of {count}" for kind, reached, count in parts(items)}
         link = name if name == "together" else Markup(f'<a href="#{html.escape(name)}">{html.escape(name)}</a>')
         rows.append((link, f"{percent(items):.1f} %", bar(round(percent(items)), 100, "more", 150), *(counts.get(kind, "") for kind in KINDS)))
-    body = [STYLE, f"<p>What the tests of {html.escape(folder.name or str(folder))} reach: {made.reports} reports were read.</p>"]
+    body = [STYLE, f"<p>What the tests of {html.escape(folder.resolve().name)} reach: {made.reports} reports were read.</p>"]
     body.append(table(["file", "reached", "", "rules", "rows", "records", "operands"], rows))
     body.append('<p class="key"><span style="background:#d7efe3"></span>reached<span style="background:#fbeec2"></span>reached in part<span style="background:#f6cdbb"></span>never reached</p>')
     for name, items in files(made):
