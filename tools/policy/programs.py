@@ -5,6 +5,7 @@ import argparse
 import dataclasses
 import os
 import pathlib
+import shutil
 import subprocess
 import sys
 from collections.abc import Callable
@@ -38,7 +39,7 @@ class Programs:
             raise Fault(f"there is no rulebase {rulebase}")
         try:
             done = subprocess.run(
-                [os.path.abspath(program), mode, rulebase.name], cwd=rulebase.parent, input=given.encode(), capture_output=True
+                [path_of(program), mode, rulebase.name], cwd=rulebase.parent, input=given.encode(), capture_output=True
             )
         except OSError as error:
             raise Fault(f"can't run {program}: {error.strerror}") from error
@@ -46,6 +47,11 @@ class Programs:
             said = (done.stderr or done.stdout).decode(errors="replace").strip()[-300:]
             raise Fault(f"{program} {mode} {rulebase.name} ended with status {done.returncode}: {said}")
         return done.returncode, done.stdout.decode(errors="replace")
+
+
+def path_of(program: str) -> str:
+    """The path of a program, whichever folder it runs in."""
+    return os.path.abspath(shutil.which(program) or program)
 
 
 def add_programs(words: argparse.ArgumentParser) -> None:
