@@ -4,9 +4,10 @@ from __future__ import annotations
 import html
 from collections import Counter
 
-from .comparing import Change, Pair, Tally, Version, Why, sort_of
+from .comparing import Change, Pair, Tally, Version, sort_of
 from .compare_text import Whys, accepted, goals_of_one, line_of, order, said, unknown_heads
 from .pages import Markup, bar, page as whole_page, table, whole
+from .reasons import Why
 from .texts import differing, value_at, without_place
 
 

@@ -4,7 +4,8 @@ from __future__ import annotations
 from collections import Counter
 
 from .cases import table
-from .comparing import Change, Pair, Tally, Version, Why, sort_of
+from .comparing import Change, Pair, Tally, Version, sort_of
+from .reasons import Why
 from .texts import FIRST_DAY, Pairs, differing, number, value_at
 
 Whys = dict[str, list[Why]]

@@ -1,4 +1,4 @@
-"""Two rulebases over the same cases: outcomes, changes of each goal, groups, and where a change begins."""
+"""Two rulebases over the same cases: outcomes, changes of each goal, and groups."""
 from __future__ import annotations
 
 import dataclasses
@@ -11,7 +11,7 @@ from .cases import Case, head_of, record_commands, records, table
 from .declared import Declared, declared
 from .programs import Fault, Programs
 from .rules import Rules
-from .texts import LINE, Pairs, Report, differing, number, pairs_of, quoted, reports_of, value_at, without_place
+from .texts import LINE, Pairs, differing, number, pairs_of, quoted, value_at
 
 
 @dataclasses.dataclass
@@ -227,66 +227,3 @@ def banded(value: str, step: str, word: str) -> str:
         raise Fault(f"--by {word}: {step} is no width of a group")
     low = amount // width * width
     return f"{low} to below {low + width}" if amount >= 0 or amount % width == 0 else f"{low - width} to below {low}"
-
-
-# Why.
-
-
-@dataclasses.dataclass
-class Why:
-    """Both reports of a case, and where they begin to differ."""
-
-    place: int
-    sort: str
-    day: str
-    old: Report
-    new: Report
-    first: tuple[str, str]
-    begins: list[str]
-
-
-def why(programs: Programs, old: Version, new: Version, pair: Pair, place: int, goal: str, sort: str, day: str) -> Why:
-    if sort == "other days only":
-        day = differing(pair.old.lines[goal], pair.new.lines[goal])[0]
-    reports = [report(programs, made, pair.case, goal, day) for made in (old, new)]
-    return Why(place, sort, day, reports[0], reports[1], first_difference(*reports), beginnings(old, new, *reports))
-
-
-def report(programs: Programs, made: Version, case: Case, goal: str, day: str) -> Report:
-    given = "".join(f"{command}\n" for command in [*made.commands(case), f"report {goal} at {day}"])
-    printed = programs.run("run", made.rulebase, given)
-    found = reports_of(printed)
-    if len(found) != 1:
-        raise Fault(f"{made.rulebase}: no report of {goal} at {day} for {case.name}: {printed.strip()[:200]}")
-    return found[0]
-
-
-def first_difference(old: Report, new: Report) -> tuple[str, str]:
-    """The first lines below the goal's own that differ, apart from their numbers and the places of rules."""
-    lines = [report.lines[1:-1] for report in (old, new)]
-    for place in range(1, max(map(len, lines))):
-        one, other = (side[place] if place < len(side) else "(no line)" for side in lines)
-        if without_place(one) != without_place(other):
-            return one, other
-    return lines[0][0], lines[1][0]
-
-
-def values(report: Report) -> dict[str, list[tuple[str, str, str]]]:
-    found: dict[str, list[tuple[str, str, str]]] = {}
-    for said in report.said:
-        found.setdefault(said.point, []).append((said.first, said.last, said.value))
-    return found
-
-
-def beginnings(old: Version, new: Version, first: Report, second: Report) -> list[str]:
-    """The points whose value differs although nothing that their rules mention does: there the change begins."""
-    before, after = values(first), values(second)
-    changed = [point for point in before if point in after and before[point] != after[point]]
-    phrases = {point.split(' of "')[0] for point in changed}
-    found = []
-    for point in changed:
-        phrase = point.split(' of "')[0]
-        mentioned = {name for made in (old, new) if phrase in made.rules.of_phrase for name in made.rules.of_phrase[phrase].mentions()}
-        if not (mentioned - {phrase}) & phrases:
-            found.append(phrase)
-    return list(dict.fromkeys(found))

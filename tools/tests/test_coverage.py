@@ -87,10 +87,19 @@ class CoverageTest(ToolTest):
         return covered.cover(programs.Programs(OPA, DESK), folder, only, checks=True)
 
     def test_permit_by_hand(self) -> None:
-        made = self.found(EXAMPLES, ["permit"])
+        self.take("permit.txt", "permit_replies.txt")
+        made = self.found(self.folder, [])
         self.assertEqual({(item.kind, item.line) for item in made.items.values() if item.is_reached}, PERMIT)
         self.assertEqual({(item.kind, item.line) for item in made.items.values() if not item.is_reached}, PERMIT_MISSED)
         self.assertEqual(made.untold, [])
+
+    def test_the_examples(self) -> None:
+        """Each rule, row, record and operand of the example policies is reached, and each line of a report is worked out as it is printed."""
+        from policy import covered, programs
+
+        made = covered.cover(programs.Programs(OPA, DESK), EXAMPLES, [])
+        missed = [f"{item.file}:{item.line}: {item.kind} {item.text}" for item in made.items.values() if not item.is_reached]
+        self.assertEqual((missed, made.untold), ([], []))
 
     def test_permit_as_text(self) -> None:
         self.take("permit.txt", "permit_replies.txt", "permit_output.txt")
