@@ -1,0 +1,1 @@
+"""What the tools for rule authors share: running the programs, reading what they print, and reading rule files."""
