@@ -1,5 +1,5 @@
 -- Days on which all that quantifiers, functions over time and tables need is found.
-use Rattle.std.proofs.Common.{◌≡◌, ℕ, zero, suc, ◌+◌, ◌<◌, ◌≤◌, min, Bool, true, false, cond, List, [], ◌∷◌, ◌++◌, length, take, drop, get_or, Option, None, Some, refl, sym, ◌∙◌, ap, subst, arith}
+use Rattle.std.proofs.Common.{◌≡◌, ℕ, zero, suc, ◌+◌, ◌<◌, ◌≤◌, min, Bool, true, false, cond, List, [], ◌∷◌, ◌++◌, length, take, drop, get_or, None, Some, refl, sym, ◌∙◌, ap, subst, arith}
 use Rattle.std.specs.Prelude.{flat_map, Result, IfOk}
 use Rattle.std.specs.FinMap.{FinMap}
 use Rattle.std.proofs.lemmas.List.{append-nil, take_all}
@@ -25,7 +25,6 @@ use Rattle.opa_mean.specs.Given.{base_of, facts_of}
 use Rattle.opa_mean.specs.Needs.{asked, cond_needs, over_needs}
 use Rattle.opa_mean.specs.Places.{place}
 use Rattle.opa_mean.specs.Uses.{Use, at_place_uses, on_date_uses, in_window_uses}
-use Rattle.opa_mean.proofs.Everywhere.{all_append, all_parts}
 use Rattle.opa_mean.specs.PartNeeds as part
 use Rattle.opa_mean.proofs.NeedsLaws as law
 use Rattle.opa_need.specs.Finding.{AreFound}

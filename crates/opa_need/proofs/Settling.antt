@@ -1,5 +1,5 @@
 -- Days on which all that is needed is found.
-use Rattle.std.proofs.Common.{◌≡◌, ℕ, zero, suc, ◌+◌, ◌-◌, ◌<◌, ◌≤◌, min, Bool, true, false, cond, List, [], ◌∷◌, ◌++◌, length, take, get_or, None, Some, refl, sym, ◌∙◌, ap, subst, arith}
+use Rattle.std.proofs.Common.{◌≡◌, ℕ, zero, suc, ◌+◌, ◌-◌, ◌<◌, ◌≤◌, min, Bool, true, false, cond, List, [], ◌∷◌, ◌++◌, length, take, get_or, None, refl, sym, ◌∙◌, ap, subst, arith}
 use Rattle.std.specs.Prelude.{flat_map, nat_lt, Result, IfOk}
 use Rattle.std.specs.FinMap.{FinMap}
 use Rattle.std.proofs.lemmas.Bool.{ltb-true, ltb-false}
@@ -8,7 +8,6 @@ use Rattle.opa_value.specs.Truth.{is_unknown}
 use Rattle.opa_model.specs.declared.ids.AttrId.{AttrId}
 use Rattle.opa_cells.specs.declared.instance.InstanceId.{InstanceId}
 use Rattle.opa_case.specs.Cases.{CaseView}
-use Rattle.opa_case.specs.Live.{container_of}
 use Rattle.opa_case.specs.Shapes.{shape_of}
 use Rattle.opa_case.specs.declared.question.Question.{Question}
 use Rattle.opa_tree.specs.Rules.{rule_of}
@@ -19,7 +18,6 @@ use Rattle.opa_tree.specs.declared.rulebase.Rulebase.{Rulebase}
 use Rattle.opa_window.specs.Days.{days}
 use Rattle.opa_mean.specs.Given.{base_of, facts_of}
 use Rattle.opa_mean.specs.Needs.{asked}
-use Rattle.opa_mean.specs.Places.{owner_of, place}
 use Rattle.opa_mean.specs.Rulebases.{IsOf}
 use Rattle.opa_mean.specs.Uses.{Use}
 use Rattle.opa_mean.proofs.Everywhere.{all_append, all_parts}

@@ -1,4 +1,4 @@
-use Rattle.opa_need.proofs.Steadiness.{stays_nowhere, stays_by_line}
+use Rattle.opa_need.proofs.Steadiness.{stays_by_line}
 use Rattle.opa_need.proofs.stays.stay_of.Goals as goal
 
 pub returns-in_ok-stay-in-Some : goal.returns-in_ok-stay-in-Some

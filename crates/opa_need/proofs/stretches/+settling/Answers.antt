@@ -1,4 +1,4 @@
-use Rattle.std.proofs.Common.{◌≡◌, ◌∙◌, ◌∷◌, List, sym, ap, subst, rules, arith}
+use Rattle.std.proofs.Common.{◌∙◌, ◌∷◌, ap, subst, rules, arith}
 use Rattle.opa_cells.specs.Instances.{named}
 use Rattle.opa_need.specs.Finding.{AreFound}
 use Rattle.opa_need.specs.Steps.{IsSettled}
