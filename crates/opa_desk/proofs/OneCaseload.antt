@@ -41,7 +41,7 @@ last_of {X} xs ys x y e =
     reverse_twice (z ∷ zs) = ap reverse (reverse-append (z ∷ []) zs) ∙ reverse-append (reverse zs) (z ∷ []) ∙ ap (λ ws. z ∷ ws) (reverse_twice zs)
 
 not_both : {T : Type 0} (b : Bool) → b ≡ true → b ≡ false → T
-not_both b yes no = let e : true ≡ false = sym yes ∙ no in absurd (cc e)
+not_both b h g = let e : true ≡ false = sym h ∙ g in absurd (cc e)
 
 -- ---- one case
 

@@ -25,8 +25,8 @@ returns g c = inr (
     kept = refl;
     unread = refl;
   },
-  answers_example _ _ c.open_and_talk.result c.unless_lacking.result c.has_lacked.result
-      (answers a_run c.one_opening.ensures c.one_transcript.ensures.run generated_name _ _ c.open_and_talk.result c.open_and_talk.ensures)
+  answers_example _ _ c.open_and_talk-status.result c.unless_lacking.result c.has_lacked.result
+      (answers a_run c.one_opening.ensures c.one_transcript.ensures.run generated_name _ _ c.open_and_talk-status.result c.open_and_talk-status.ensures)
       (λ none rose. none_rose _ _ (c.has_lacked.ensures none) rose)
       c.unless_lacking.ensures,
 )
