@@ -16,6 +16,7 @@ from .rulebase import Point, Question, Rulebase
 from .values import UNKNOWN, Missing, Timeline, Value, day, written
 
 Names = tuple[str, ...]
+Lines = list[str]  # inside of Case the word `list` is a command
 
 
 @dataclass(frozen=True)
@@ -25,6 +26,9 @@ class Goal:
     phrase: str
     line: Timeline
     state: str
+
+
+Goals = list[Goal]
 
 
 @dataclass(frozen=True)
@@ -130,13 +134,13 @@ class Cases:
 class Case:
     """One case. `lines` are the accepted commands that make it: keep them, and `Cases.open(lines)` carries it on."""
 
-    def __init__(self, cases: Cases, name: str, lines: list[str]) -> None:
+    def __init__(self, cases: Cases, name: str, lines: Lines) -> None:
         self.cases, self.name = cases, name
-        self.levels: list[list[str]] = [lines]
+        self.levels = [lines]
         self.generation = -1
 
     @property
-    def lines(self) -> list[str]:
+    def lines(self) -> Lines:
         return [line for level in self.levels for line in level]
 
     # Changes
@@ -191,7 +195,7 @@ class Case:
 
     # Looks
 
-    def ask(self, command: str, count: int) -> list[str]:
+    def ask(self, command: str, count: int) -> Lines:
         """The lines that a command prints; a refusal is raised."""
         printed = self.cases.exchange(self, command)
         if printed and printed[0].startswith("refused: "):
@@ -208,7 +212,7 @@ class Case:
             return UNKNOWN if text == "unknown" else tuple(texts.names(text))
         return Timeline.read(text)
 
-    def goals(self) -> list[Goal]:
+    def goals(self) -> Goals:
         phrases = self.cases.base.goals
         found = []
         for phrase, line in zip(phrases, self.ask("goals", len(phrases))):
@@ -231,7 +235,7 @@ class Case:
 
     def look(self, reports: Iterable[tuple[Point, date]] = ()) -> Look:
         """The screen and some reports by one `opa run` over the case's lines, what is supposed among them."""
-        wanted = list(reports)
+        wanted = (*reports,)
         printed = self.cases.run(self.lines, ["screen", *(f"report {point} at {day(at)}" for point, at in wanted)])
         lines, found = printed.split("\n")[:-1], []
         end = 1

@@ -96,8 +96,9 @@ class Report:
             return []
         wanted = self.reached(about.rule.attributes, about.rule.lists, base)
         found: list[Stated | Gone] = []
+        others: list[Stated | Gone] = [*self.stated, *self.lists]
         for phrase in wanted:
-            for other in (*self.stated, *self.lists):
+            for other in others:
                 if other.number > stated.number and other.point.phrase == phrase and self.is_near(other.point, stated.point, base):
                     found.append(other)
         return found

@@ -103,7 +103,7 @@ class Rulebase:
         return cls(
             folder=pathlib.Path(folder),
             name=document["rulebase"],
-            attributes={a["phrase"]: Attribute(*(a[key] for key in plain), rule(a["rule"])) for a in document["attributes"]},
+            attributes={a["phrase"]: Attribute(**{key: a[key] for key in plain}, rule=rule(a["rule"])) for a in document["attributes"]},
             lists={
                 r["phrase"]: Listed(r["phrase"], r["sort"], r["of"], r["to"], r["question"], r["screen"], rule(r["rule"])) for r in document["lists"]
             },

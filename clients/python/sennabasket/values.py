@@ -81,6 +81,10 @@ def read(text: str) -> Value:
         raise BadText(f"this is no value: {text[:100]}") from None
 
 
+def plain(value: Value | int) -> Value:
+    return Decimal(value) if isinstance(value, int) and not isinstance(value, bool) else value
+
+
 @dataclass(frozen=True)
 class Timeline:
     """A value for every day: each part holds from its day to the day before the next one; the first begins on FIRST_DAY."""
@@ -95,8 +99,7 @@ class Timeline:
     @classmethod
     def of(cls, value: Value | int, changes: Iterable[tuple[date, Value | int]] = ()) -> Timeline:
         """A value, and others from later days on."""
-        plain = lambda v: Decimal(v) if isinstance(v, int) and not isinstance(v, bool) else v
-        return cls(((FIRST_DAY, plain(value)), *((since, plain(later)) for since, later in changes)))
+        return cls(tuple((since, plain(each)) for since, each in [(FIRST_DAY, value), *changes]))
 
     @classmethod
     def read(cls, text: str) -> Timeline:
