@@ -143,6 +143,12 @@ class Case:
     def lines(self) -> Lines:
         return [line for level in self.levels for line in level]
 
+    @property
+    def points(self) -> tuple[Point, ...]:
+        """What the lines speak of, each once, in the order in which they first do."""
+        said = (re.match(rf"[a-z]+ ((?:[^\"]|{texts.QUOTED})*?)(?: = .*)?$", line) for line in self.lines)
+        return tuple(dict.fromkeys(Point.read(found[1]) for found in said if found))
+
     # Changes
 
     def answer(self, phrase: str, value: Value | int | Timeline, of: str | None = None) -> None:

@@ -105,13 +105,15 @@ class OneCase(unittest.TestCase):
 
     def test_hostile_names(self) -> None:
         """A name is a name, whatever is in it, and another case doesn't see it."""
-        names = ['"', '" of "x', "#1", "~1", '"1" goals', "a; from 2024-01-01 b", "<script>", "日本 ü", "none", "x\u2028y", "'"]
+        names = ['"', '" of "x', "#1", "~1", '"1" goals', "a; from 2024-01-01 b", "<script>", "日本 ü", "none", "x\u2028y", "'", "a = b", 'of "a" = 5']
         other = self.cases.open()
         self.case.list("the people", names)
         self.assertEqual(self.case.show("the people"), tuple(names))
         for name in names:
             self.case.answer("the person's income", 1, of=name)
             self.assertEqual(self.case.show("the person's income", of=name), Timeline.of(1))
+        income = [Point("the person's income", name) for name in names]
+        self.assertEqual(self.case.points, (Point("the people"), *income))
         report = self.case.report("the monthly benefit", DAY)
         self.assertLessEqual({p.of for p in report.unanswered}, set(names))
         self.assertIs(other.show("the people"), UNKNOWN)
