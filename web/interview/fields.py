@@ -72,6 +72,11 @@ class Field:
         return self.sort in ("names", "one", "many")
 
     @property
+    def has_changes(self) -> bool:
+        """Whether the part for changes is to be seen."""
+        return any(not change.is_empty for change in self.changes) or any(at.startswith(f"{self.key}-c") for at in (self.focus, self.error_at))
+
+    @property
     def is_empty(self) -> bool:
         if self.is_list:
             return not (self.is_none or any(self.names))

@@ -33,6 +33,7 @@ HEADERS = {
     "Referrer-Policy": "same-origin",
     "Cross-Origin-Opener-Policy": "same-origin",
 }
+MOST_CONTROLS = 10_000
 FAULTS = {400: "csrf", 404: "missing", 405: "method", 411: "large", 413: "large"}
 
 
@@ -95,6 +96,8 @@ class Views:
             stream = request.environ["wsgi.input"]
             while left > 0 and (part := stream.read(min(left, 65_536))):
                 left -= len(part)
+            abort(413)
+        if len(request.form) > MOST_CONTROLS:
             abort(413)
         sent = request.form.get("csrf", "").encode("utf-8", "replace")
         if not g.token or not hmac.compare_digest(sent, self.site.csrf(g.token).encode()):

@@ -15,6 +15,7 @@
     unit = "dollars a month"              behind a number
     choices = {rented = "I rent it"}      of a text: what may be chosen, and how it is called
     label = "Date of birth"               the name of it in lists and results
+    constant = true                       the answer doesn't change over time: no dates of changes are offered
 """
 from __future__ import annotations
 
@@ -26,7 +27,7 @@ from typing import Any
 
 from sennabasket import Attribute, Listed, Rulebase
 
-KEYS = ("question", "help", "unit", "choices", "label")
+KEYS = {"question": str, "help": str, "unit": str, "choices": dict, "label": str, "constant": bool}
 PARTS = ("title", "about", "screens", "words")
 
 
@@ -61,8 +62,8 @@ class Words:
                     raise BadWords(f"[{language}] has no {key}: it has {', '.join(PARTS)}")
             for phrase, entry in part.get("words", {}).items():
                 for key, text in entry.items():
-                    if key not in KEYS or not isinstance(text, dict if key == "choices" else str):
-                        raise BadWords(f'[{language}.words."{phrase}"]: {key} isn\'t one of {", ".join(KEYS)}, or is no text')
+                    if key not in KEYS or not isinstance(text, KEYS[key]):
+                        raise BadWords(f'[{language}.words."{phrase}"]: {key} isn\'t one of {", ".join(KEYS)}, or isn\'t of its sort')
 
     @classmethod
     def read(cls, base: Rulebase, path: pathlib.Path | None) -> Words:
@@ -128,6 +129,9 @@ class Words:
     def unit(self, language: str, phrase: str) -> str:
         return self.entry(language, phrase, "unit") or ""
 
+    def is_constant(self, phrase: str) -> bool:
+        return bool(self.entry(self.language, phrase, "constant"))
+
     def choices(self, language: str, phrase: str) -> dict[str, str]:
         return {str(value): str(label) for value, label in (self.entry(language, phrase, "choices") or {}).items()}
 
@@ -170,6 +174,8 @@ class Words:
                     found.append(f"{where}: {key} has {{{name}}}, which names nothing")
         if "choices" in entry and not (isinstance(about, Attribute) and about.kind == "text"):
             found.append(f"{where}: choices are for texts alone")
+        if "constant" in entry and language != self.language:
+            found.append(f"{where}: constant stands in [{self.language}] alone")
         if "unit" in entry and not (isinstance(about, Attribute) and about.kind in ("number", "currency")):
             found.append(f"{where}: a unit is for numbers alone")
         return found
