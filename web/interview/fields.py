@@ -175,7 +175,7 @@ class Field:
 
     @property
     def about_kind(self) -> str:
-        return self.about.kind if isinstance(self.about, Attribute) else "list"
+        return str(self.about.kind) if isinstance(self.about, Attribute) else "list"
 
 
 def day_piece(day: date) -> Piece:
@@ -225,7 +225,10 @@ def field_of(key: str, point: Point, words: Words, saying: Saying, instances: li
 
 def typed(form: Mapping[str, str], key: str, sort: str) -> Piece:
     """What was typed into the controls of one value."""
-    take = lambda name: form.get(name, "")[:MOST_TYPED].strip()
+
+    def take(name: str) -> str:
+        return form.get(name, "")[:MOST_TYPED].strip()
+
     if sort in ("bool", "choice"):
         text = take(key)
         return Piece(is_cant=True) if text == "~" else Piece(text)

@@ -25,7 +25,8 @@ def living(case: Case, words: Words, entity: str) -> list[str]:
     """All instances of an entity that are listed."""
     container = words.base.container(entity)
     found: list[str] = []
-    for of in [None] if container.of is None else living(case, words, container.of):
+    places: list[str | None] = [None] if container.of is None else [*living(case, words, container.of)]
+    for of in places:
         held = case.show(container.phrase, of)
         found += held if isinstance(held, tuple) else ()
     return found
@@ -41,8 +42,8 @@ def needed(case: Case) -> tuple[Screen | None, set[Point]]:
     opened = [goal for goal in case.goals() if goal.state == "undecided"]
     if not opened:
         return None, set()
-    first = lambda goal: next(since for since, value in goal.line.parts if value is UNKNOWN)
-    look = case.look([(Point(goal.phrase), first(goal)) for goal in opened])
+    days = [next(since for since, value in goal.line.parts if value is UNKNOWN) for goal in opened]
+    look = case.look([(Point(goal.phrase), day) for goal, day in zip(opened, days)])
     asked = {question.point for question in look.screen.questions} if look.screen else set()
     return look.screen, asked.union(*(report.unanswered for report in look.reports))
 

@@ -10,6 +10,7 @@ import urllib.parse
 from collections.abc import Callable
 from dataclasses import dataclass
 from datetime import date
+from functools import partial
 from typing import Any
 
 from flask import Flask, Response, abort, g, redirect, render_template, request
@@ -165,7 +166,7 @@ class Views:
 
     def has_case(self) -> bool:
         try:
-            return bool(g.token) and self.site.store.find(g.token) is not None
+            return g.token != "" and self.site.store.find(g.token) is not None
         except sqlite3.Error:
             return False
 
@@ -177,7 +178,8 @@ class Views:
 
     def look(self, what: Callable[[Case, Kept], Any]) -> Any:
         kept = self.kept()
-        return self.site.live.look(kept, lambda case: what(case, kept))
+        told: Any = self.site.live.look(kept, lambda case: what(case, kept))
+        return told
 
     def start(self) -> Answer:
         is_new = not g.token
@@ -322,7 +324,7 @@ class Views:
         results = []
         for number, (goal, report) in enumerate(zip(goals, reports)):
             about = words.base.attributes[goal.phrase]
-            said = lambda value: saying.value(value, about.kind, words.unit(saying.language, about.phrase))
+            said = partial(saying.value, kind=about.kind, unit=words.unit(saying.language, about.phrase))
             results.append(
                 {
                     "goal": goal, "label": words.label(saying.language, about), "help": words.help(saying.language, about, None),
@@ -362,5 +364,5 @@ def rows(goal: Goal, saying: Saying, said: Callable[[Any], str]) -> list[tuple[i
     days = [since for since, _ in goal.line.parts]
     if len(days) == 1:
         return [(1, saying("always"), said(goal.line.parts[0][1]))]
-    first = saying("until_day", day=saying.date(date.fromordinal(days[1].toordinal() - 1)))
-    return [(n, first if n == 1 else saying("from_day", day=saying.date(since)), said(value)) for n, (since, value) in enumerate(goal.line.parts, 1)]
+    first = saying("until_day", day=saying.day(date.fromordinal(days[1].toordinal() - 1)))
+    return [(n, first if n == 1 else saying("from_day", day=saying.day(since)), said(value)) for n, (since, value) in enumerate(goal.line.parts, 1)]

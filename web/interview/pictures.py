@@ -55,7 +55,10 @@ def look(value: Value) -> str:
 def picture(line: Timeline, today: date) -> Picture:
     first, last = window(line, today)
     days = (last - first).days + 1
-    place = lambda day: 100 * (day - first).days / days
+
+    def place(day: date) -> float:
+        return 100 * (day - first).days / days
+
     numbers = [value for _, value in line.parts if isinstance(value, Decimal)]
     least, most = min([Decimal(0), *numbers]), max([Decimal(1), *numbers])
     ends = [since - timedelta(days=1) for since, _ in line.parts[1:]] + [LAST_DAY]

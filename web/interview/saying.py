@@ -23,7 +23,7 @@ class Saying:
     def __call__(self, key: str, **parts: object) -> str:
         return str(self.texts[key]).format(**parts)
 
-    def date(self, day: date) -> str:
+    def day(self, day: date) -> str:
         return str(self.texts["date_form"]).format(day=day.day, month=self.texts["months"][day.month - 1], year=day.year)
 
     def number(self, value: Decimal, decimals: int | None = None) -> str:
@@ -47,11 +47,11 @@ class Saying:
             said = self.number(value, 2 if kind == "currency" else None)
             return f"{said} {unit}" if unit else said
         if isinstance(value, date):
-            return self.date(value)
+            return self.day(value)
         return (choices or {}).get(str(value), str(value))
 
     def since(self, day: date, index: int) -> str:
-        return self("at_first") if index == 0 or day == FIRST_DAY else self("from_day", day=self.date(day))
+        return self("at_first") if index == 0 or day == FIRST_DAY else self("from_day", day=self.day(day))
 
 
 def languages() -> list[str]:

@@ -3,7 +3,7 @@ from __future__ import annotations
 
 from dataclasses import dataclass, field
 
-from sennabasket import Gone, Report, Stated, UNCERTAIN, UNKNOWN
+from sennabasket import Gone, Report, Stated
 
 from .saying import Saying
 from .words import Words, upper
@@ -48,7 +48,10 @@ class Why:
 
     def stated(self, line: Stated) -> Sentence:
         about = self.words.base.attributes[line.point.phrase]
-        named = lambda text: upper(self.words.named(text, about.entity, line.point.of))
+
+        def named(text: str) -> str:
+            return upper(self.words.named(text, about.entity, line.point.of))
+
         if line.value is True:
             said = named(about.phrase)
         elif line.value is False:
@@ -56,9 +59,9 @@ class Why:
         else:
             unit = self.words.unit(self.saying.language, about.phrase)
             said = f"{named(about.phrase)}: {self.saying.value(line.value, about.kind, unit)}"
-        days = "" if line.first == line.last else self.saying("why_days", first=self.saying.date(line.first), last=self.saying.date(line.last))
+        days = "" if line.first == line.last else self.saying("why_days", first=self.saying.day(line.first), last=self.saying.day(line.last))
         if line.first == line.last != self.report.at:
-            days = self.saying.date(line.first)
+            days = self.saying.day(line.first)
         return Sentence(line.number, said, self.saying(f"why_{line.origin}"), days)
 
     def listed(self, line: Gone) -> Sentence:
@@ -74,7 +77,3 @@ class Why:
         if any(table["file"] == rule.file for table in self.words.base.document["tables"]):
             return [], self.saying("why_table", file=rule.file)
         return self.words.base.text_of(rule.file, rule.line, rule.last_line), self.saying("why_text", file=rule.file, line=rule.line)
-
-
-def known(value: object) -> bool:
-    return value is not UNKNOWN and value is not UNCERTAIN

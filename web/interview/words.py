@@ -84,10 +84,10 @@ class Words:
         return None
 
     def title(self, language: str) -> str:
-        return self.part(language, "title") or upper(self.base.goals[0] if self.base.goals else self.base.name)
+        return str(self.part(language, "title") or upper(self.base.goals[0] if self.base.goals else self.base.name))
 
     def about(self, language: str) -> str:
-        return self.part(language, "about") or ""
+        return str(self.part(language, "about") or "")
 
     def screen(self, language: str, title: str) -> str:
         for chosen in (language, self.language):
@@ -96,21 +96,22 @@ class Words:
         return title
 
     def entity(self, about: Attribute | Listed) -> str | None:
-        return about.entity if isinstance(about, Attribute) else about.of
+        found: str | None = about.entity if isinstance(about, Attribute) else about.of
+        return found
 
     def named(self, text: str, entity: str | None, of: str | None) -> str:
         """A text with the instance's name in the place of its entity's phrase."""
         if of is None or entity is None:
             return text
-        found, count = re.subn(rf"(?<![\w'’-]){re.escape(entity)}(?![\w-])", lambda _: of, text)
-        return found if count else f"{text} ({of})"
+        parts = re.split(rf"(?<![\w'’-]){re.escape(entity)}(?![\w-])", text)
+        return of.join(parts) if len(parts) > 1 else f"{text} ({of})"
 
     def filled(self, text: str, entity: str | None, of: str | None) -> str:
         """A text of the file with the instance's name in the place of {member} or {name}."""
         if of is None:
             return text
         plain = (entity or "").removeprefix("the ")
-        return re.sub(rf"\{{(?:{re.escape(plain)}|name)\}}", lambda _: of, text)
+        return of.join(re.split(rf"\{{(?:{re.escape(plain)}|name)\}}", text))
 
     def question(self, language: str, about: Attribute | Listed, of: str | None) -> str:
         said = self.entry(language, about.phrase, "question")
@@ -127,7 +128,7 @@ class Words:
         return self.filled(said, self.entity(about), of) if said else upper(self.named(about.phrase, self.entity(about), of))
 
     def unit(self, language: str, phrase: str) -> str:
-        return self.entry(language, phrase, "unit") or ""
+        return str(self.entry(language, phrase, "unit") or "")
 
     def is_constant(self, phrase: str) -> bool:
         return bool(self.entry(self.language, phrase, "constant"))

@@ -15,9 +15,9 @@ from browsing import EXAMPLES, HERE, MISSING
 
 try:
     from selenium import webdriver
+    from selenium.common.exceptions import WebDriverException
     from selenium.webdriver.chrome.service import Service
     from selenium.webdriver.common.by import By
-    from selenium.webdriver.common.keys import Keys  # noqa: F401
 except ImportError:
     webdriver = None  # type: ignore[assignment]
 
@@ -99,7 +99,7 @@ class Driven:
 
     def start(self) -> None:
         self.open("/")
-        self.one("form[action='/start'] button").click()
+        self.press(self.one("form[action='/start'] button").click)
 
     @property
     def questions(self) -> dict[str, str]:
@@ -129,7 +129,7 @@ class Driven:
         elif isinstance(said, list):
             for number, name in enumerate(said):
                 if not self.all(f"#{key}-{number}"):
-                    self.one(f"button[value='add-name:{key}']").click()
+                    self.press(self.one(f"button[value='add-name:{key}']").click)
                 self.put(f"{key}-{number}", name)
             if not said:
                 self.choose(f"{key}-none")
@@ -139,8 +139,20 @@ class Driven:
         else:
             self.put(key, str(said))
 
+    def press(self, act: Any) -> None:
+        """Does what leads to another page, and waits for that."""
+        old = self.one("html")
+        act()
+        for _ in range(600):
+            try:
+                old.tag_name
+            except WebDriverException:
+                return
+            time.sleep(0.1)
+        raise AssertionError("no other page has come")
+
     def go(self) -> None:
-        self.one(".buttons button").click()
+        self.press(self.one(".buttons button").click)
 
     def answer(self, known: dict[str, Any]) -> None:
         """Answers the questions of the page from what is known, and goes on."""
@@ -153,9 +165,8 @@ class Driven:
         for _ in range(most):
             if not self.path.startswith("/questions"):
                 return
-            before = self.driver.page_source
             self.answer(known)
-            assert self.driver.page_source != before or not self.all(".summary"), self.text[:600]
+            assert not self.all(".summary"), self.text[:600]
         raise AssertionError("there is no end of questions")
 
     def width(self, width: int, height: int = 900) -> None:
