@@ -178,8 +178,11 @@ class Views:
 
     def look(self, what: Callable[[Case, Kept], Any]) -> Any:
         kept = self.kept()
-        told: Any = self.site.live.look(kept, lambda case: what(case, kept))
-        return told
+
+        def on(case: Case) -> Any:
+            return what(case, kept)
+
+        return self.site.live.look(kept, on)
 
     def start(self) -> Answer:
         is_new = not g.token
