@@ -79,9 +79,11 @@ class Store:
     def find(self, token: str) -> Kept | None:
         with self.open() as base:
             row = base.execute(
-                "select number, version, lines, pages from cases where digest = ? and rulebase = ? and touched >= ?",
+                "select number, version, lines, pages, touched from cases where digest = ? and rulebase = ? and touched >= ?",
                 (digest(token), self.rulebase, time.time() - self.seconds),
             ).fetchone()
+            if row and row[4] < time.time() - 3_600:
+                base.execute("update cases set touched = ? where number = ?", (time.time(), row[0]))
         if row is None:
             return None
         return Kept(row[0], row[1], json.loads(row[2]), [[(p, of) for p, of in page] for page in json.loads(row[3])])

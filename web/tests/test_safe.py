@@ -50,6 +50,28 @@ class Pages(SiteCase):
             for told in re.findall(r'aria-describedby="([^"]+)"', text):
                 self.assertLessEqual(set(told.split()), set(ids), page)
 
+    def test_contrast(self) -> None:
+        """Each text colour on each ground that it stands on: 4.5 to 1 at least, as WCAG asks; bars, borders and the focus 3 to 1."""
+        style = (HERE.parent / "interview" / "static" / "style.css").read_text()
+        colour = dict(re.findall(r"--(\w+): (#[0-9a-f]{3,6});", style)) | {"white": "#fff"}
+        colour |= {name: found for name, found in re.findall(r"\.bar\.(\w+) \{ fill: (#[0-9a-f]{6})", style)}
+
+        def light(name: str) -> float:
+            text = colour[name][1:]
+            text = "".join(each * 2 for each in text) if len(text) == 3 else text
+            parts = [int(text[n : n + 2], 16) / 255 for n in (0, 2, 4)]
+            one, two, three = (part / 12.92 if part <= 0.03928 else ((part + 0.055) / 1.055) ** 2.4 for part in parts)
+            return 0.2126 * one + 0.7152 * two + 0.0722 * three
+
+        def contrast(one: str, two: str) -> float:
+            high, low = sorted((light(one), light(two)), reverse=True)
+            return (high + 0.05) / (low + 0.05)
+
+        for text, ground in (("ink", "white"), ("ink", "tint"), ("soft", "white"), ("soft", "tint"), ("main", "white"), ("main", "tint"), ("white", "main"), ("white", "bad"), ("bad", "white"), ("good", "white")):
+            self.assertGreaterEqual(contrast(text, ground), 4.5, (text, ground))
+        for one, two in (("value", "white"), ("true", "white"), ("ink", "focus")):
+            self.assertGreaterEqual(contrast(one, two), 3, (one, two))
+
     def test_cookies(self) -> None:
         app = self.site(is_secure=True)
         answer = app.test_client().get("/")

@@ -82,7 +82,7 @@ class Cases:
             return Case(self, f"{self.count}", [texts.command(line) for line in lines])
 
     def process(self) -> program.Desk:
-        if self.running is None or self.owner != os.getpid() or not self.running.is_running:
+        if self.running is None or self.owner != os.getpid() or not self.running.is_running or self.running.sent > program.MOST_GIVEN:
             self.close()
             self.running, self.owner = program.Desk([self.desk, "cases", self.base.name], self.base.folder, self.memory), os.getpid()
             self.generation += 1

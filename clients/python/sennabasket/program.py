@@ -16,6 +16,7 @@ TOP = pathlib.Path(__file__).resolve().parents[3]
 MEMORY = 3 << 30  # of address space: a program may put a gibibyte aside for its stack
 SECONDS = 20.0
 MOST_PRINTED = 64 << 20
+MOST_GIVEN = 60 << 20  # a program takes 64 MiB of input and then ends; it is started again before
 
 
 def found(name: str, given: str | None = None) -> str:
@@ -47,8 +48,7 @@ class Desk:
         self.given, self.printed = self.process.stdin, self.process.stdout
         os.set_blocking(self.given.fileno(), False)
         os.set_blocking(self.printed.fileno(), False)
-        self.count = 0
-        self.rest = b""
+        self.count = self.sent = 0
 
     @property
     def is_running(self) -> bool:
@@ -59,9 +59,10 @@ class Desk:
         self.count += 1
         mark = f'"~{self.count}"'
         data = "".join(f"{line}\n" for line in [*lines, f"{mark} close"]).encode("utf-8")
+        self.sent += len(data)
         end = f"{mark} closed\n".encode()
         until = time.monotonic() + seconds
-        printed, size = [self.rest], 0
+        printed, size = [b""], 0
         try:
             with selectors.DefaultSelector() as ready:
                 ready.register(self.printed, selectors.EVENT_READ)

@@ -11,6 +11,7 @@ from decimal import Decimal
 
 from helping import EXAMPLES, base, needs_programs
 from sennabasket import UNCERTAIN, UNKNOWN, BadText, Cases, Point, ProgramDied, ProgramSlow, Refused, RulebaseRefused, Timeline
+from sennabasket import program
 from sennabasket.program import found
 
 DAY = date(2024, 3, 14)
@@ -152,6 +153,19 @@ class ManyCases(unittest.TestCase):
                 for number, case in enumerate(held):
                     self.assertEqual(case.show("the people"), (f"P{number}",))
             self.assertEqual(cases.generation, 4)
+
+    def test_a_program_takes_so_much_input(self) -> None:
+        """Before it has taken all that it may, it is started again."""
+        before, program.MOST_GIVEN = program.MOST_GIVEN, 200
+        try:
+            with Cases(base("benefit.txt")) as cases:
+                case = cases.open()
+                for number in range(10):
+                    case.list("the people", [f"P{number}"])
+                    self.assertEqual(case.show("the people"), (f"P{number}",))
+                self.assertGreater(cases.generation, 3)
+        finally:
+            program.MOST_GIVEN = before
 
     def test_threads(self) -> None:
         with Cases(base("benefit.txt")) as cases:
