@@ -63,6 +63,7 @@ class Field:
     changes: list[Change] = field(default_factory=list)
     names: list[str] = field(default_factory=list)
     is_none: bool = False
+    is_too_many: bool = False
     error: str = ""
     error_at: str = ""
     focus: str = ""
@@ -88,6 +89,8 @@ class Field:
 
     def said_names(self) -> list[str]:
         names = [name for name in self.names if name]
+        if self.is_too_many:
+            raise Wrong("error_many", f"{self.key}-0", most=MOST_NAMES)
         if names and self.is_none:
             raise Wrong("error_both_list", f"{self.key}-0")
         for place, name in enumerate(self.names):
@@ -101,6 +104,8 @@ class Field:
         return names
 
     def said_line(self, saying: Saying) -> Timeline:
+        if self.is_too_many:
+            raise Wrong("error_many", self.control(self.key), most=MOST_CHANGES)
         first = self.read(self.value, self.key, saying)
         parts: list[tuple[date, Value]] = []
         for place, change in enumerate(self.changes, 1):
@@ -247,7 +252,9 @@ def take(found: Field, form: Mapping[str, str], chosen: list[str]) -> None:
             while f"{key}-{count}" in form and count < MOST_NAMES:
                 found.names.append(form[f"{key}-{count}"][:MOST_TYPED].strip())
                 count += 1
+            found.is_too_many = f"{key}-{count}" in form
         else:
+            found.is_too_many = len(chosen) > MOST_NAMES
             found.names = [name for name in chosen[:MOST_NAMES] if name != "~"]
             found.is_none = found.is_none or "~" in chosen
         return
@@ -256,3 +263,4 @@ def take(found: Field, form: Mapping[str, str], chosen: list[str]) -> None:
         if f"{key}-c{place}-f-d" not in form:
             break
         found.changes.append(Change(typed(form, f"{key}-c{place}-f", "date"), typed(form, f"{key}-c{place}", found.sort)))
+    found.is_too_many = f"{key}-c{MOST_CHANGES + 1}-f-d" in form

@@ -93,17 +93,15 @@ def sent(case: Case, words: Words, saying: Saying, form: Any, one: Point | None)
 def act(case: Case, made: list[Field], saying: Saying, form: Any, is_strict: bool) -> bool:
     """Carries out what was sent; whether all of it is done. What is wrong stands at its field afterwards."""
     action = form.get("action", "go")
-    if action == "remove":
-        for each in made:
-            remove(case, each)
-        return True
-    if action != "go":
+    if action not in ("go", "remove"):
         arrange(made, action)
         return False
     empty = []
     for each in made:
         try:
-            if each.is_empty:
+            if action == "remove":
+                remove(case, each)
+            elif each.is_empty:
                 empty.append(each)
             else:
                 answer(case, each, each.said(saying))
@@ -132,9 +130,13 @@ def mark_needed(case: Case, empty: list[Field], saying: Saying, is_strict: bool)
             each.error = saying("error_empty_list" if each.sort == "names" else "error_empty_choice" if each.is_list else "error_empty")
 
 
-def answer(case: Case, each: Field, said: Timeline | list[str]) -> None:
+def bounded(case: Case) -> None:
     if len(case.lines) >= MOST_LINES:
         raise Wrong("error_full")
+
+
+def answer(case: Case, each: Field, said: Timeline | list[str]) -> None:
+    bounded(case)
     if isinstance(said, list):
         if case.show(each.point.phrase, each.point.of) != tuple(said):
             case.list(each.point.phrase, said, each.point.of)
@@ -144,6 +146,7 @@ def answer(case: Case, each: Field, said: Timeline | list[str]) -> None:
 
 def remove(case: Case, each: Field) -> None:
     if each.is_list:
+        bounded(case)
         case.forget(each.point.phrase, each.point.of)
     else:
         case.withdraw(each.point.phrase, each.point.of)

@@ -42,6 +42,8 @@ class InABrowser(unittest.TestCase):
     def test_food_without_javascript(self) -> None:
         """A whole interview comes to the goals of the transcript, and no page is wider than its window."""
         driven = self.driven(self.server("food.txt"), has_script=False)
+        driven.driver.get("data:text/html,<title>plain</title><script>document.title='scripted'</script>")
+        self.assertEqual(driven.driver.title, "plain")
         driven.start()
         while driven.path == "/questions":
             for width in WIDTHS:

@@ -149,8 +149,14 @@ class TooMuch(SiteCase):
         browser.send({browser.questions[0]: ["ä" * 51]})
         self.assertEqual(browser.status, 422)
         browser.send({browser.questions[0]: [f"N{n}" for n in range(500)]})
+        self.assertEqual(browser.status, 422)
+        self.assertIn("At most 60", browser.said)
+        browser.send({browser.questions[0]: [f"N{n}" for n in range(60)]})
         line = next(line for line in lines_of(app, browser) if line.startswith("list"))
         self.assertEqual(line.count('"'), 120)
+        many = {f"q0-c{n}-f-{part}": str(number) for n in range(1, 60) for part, number in (("d", 1), ("m", 1), ("y", 1900 + n))}
+        browser.open("/change?phrase=the+monthly+rent").send({"What is your rent, or your mortgage payment, in a month?": "5"}, **many)
+        self.assertIn("At most 40", browser.said)
 
     def test_a_case_has_an_end(self) -> None:
         from interview import forms
