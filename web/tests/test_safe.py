@@ -1,6 +1,7 @@
 """What strangers may try: foreign tokens, forged forms, too much at once; and programs and servers that die."""
 import os
 import pathlib
+import random
 import re
 import signal
 import subprocess
@@ -181,6 +182,41 @@ class TooMuch(SiteCase):
             self.assertIn("No further case", Browser(app).start().said)
         finally:
             store.MOST_CASES = before
+
+
+@needs_site
+class Anything(SiteCase):
+    def test_whatever_is_sent(self) -> None:
+        """Forms with anything in them: each is answered by a page, and the case's lines stay lines that the program takes."""
+        chance = random.Random(20240501)
+        app = self.site("food.txt")
+        browser = Browser(app).start()
+        base = app.extensions["site"].base
+        browser.send({browser.questions[0]: "2024-11-12"}).send({"Who lives with you, and buys and prepares food together with you?": ["Ada"]})
+        asked = [about.phrase for about in app.extensions["site"].words.asked()]
+        points = [*asked * 5, *base.attributes, "the weather", "", "x\ny", 'a of "b"', "a" * 2000, "the members = none"]
+        texts = ["", "1", "-1", "yes", "no", "~", "31", "2", "2024", "99999", "1e9", '"', '"; from 2024-01-01 2', "\n", "\x00", "\ud800", "é" * 60, "n" * 1001, "<b>", "{{x}}", "%s", "unknown"]
+        for turn in range(250):
+            sent = {"csrf": browser_csrf(browser), "action": chance.choice(["go", "go", "remove", "add-name:q0", "remove-name:q0:0", "add-change:q1", "x", "", "remove-name:q0:999", "add-change:q\u0661"])}
+            for number in range(chance.randrange(6)):
+                key = f"q{number}"
+                sent[f"{key}-p"] = chance.choice(points)
+                if chance.random() < (0.9 if "member's" in sent[f"{key}-p"] else 0.1):
+                    sent[f"{key}-i"] = chance.choice(["Ada"] * 9 + texts)
+                for part in ("", "-d", "-m", "-y", "-n", "-0", "-1", "-r", "-none", "-c1", "-c1-f-d", "-c1-f-m", "-c1-f-y", "-c2-f-d"):
+                    if chance.random() < (0.9 if part == "" else 0.1):
+                        sent[key + part] = chance.choice(["Ada", *texts])
+            sent = {key: said.encode("utf-8", "replace").decode() for key, said in sent.items()}
+            page = chance.choice(["/questions", "/page/0", "/change?phrase=the+members", "/change?phrase=the+member%27s+cash&of=Ada", "/change?phrase=the+monthly+rent"])
+            answer = browser.client.post(page, data=sent)
+            self.assertIn(answer.status_code, (200, 303, 422), (turn, page, sent))
+        lines = lines_of(app, browser)
+        self.assertGreater(len(lines), 3)
+        self.assertEqual(len(goals_of(app, lines)), 4)
+
+
+def browser_csrf(browser: Browser) -> str:
+    return str(browser.filled("/questions")["csrf"][0])
 
 
 @needs_site
