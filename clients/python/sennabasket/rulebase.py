@@ -1,0 +1,149 @@
+"""A rulebase as its description says it: what can be answered and listed, its questions, screens and goals."""
+from __future__ import annotations
+
+import json
+import pathlib
+import re
+import subprocess
+import sys
+from collections.abc import Mapping
+from dataclasses import dataclass, field
+from typing import Any
+
+from . import texts
+from .errors import Fault, RulebaseRefused
+
+FORMAT = {"name": "sennabasket description", "version": 1}
+
+
+@dataclass(frozen=True)
+class Rule:
+    file: str
+    line: int
+    last_line: int
+    attributes: tuple[str, ...]
+    lists: tuple[str, ...]
+
+
+@dataclass(frozen=True)
+class Attribute:
+    phrase: str
+    kind: str
+    entity: str | None
+    question: str
+    least: str | None
+    most: str | None
+    decimals: int | None
+    denied: str | None
+    screen: str | None
+    rule: Rule | None
+
+
+@dataclass(frozen=True)
+class Listed:
+    """A list: `sort` is contains, one, many, every or concluded."""
+
+    phrase: str
+    sort: str
+    of: str | None
+    to: str | None
+    question: str | None
+    screen: str | None
+    rule: Rule | None
+
+
+@dataclass(frozen=True)
+class Point:
+    """What is answered or shown: an attribute or a list, of the case itself or of an instance."""
+
+    phrase: str
+    of: str | None = None
+
+    def __str__(self) -> str:
+        return texts.point(self.phrase, self.of)
+
+    @classmethod
+    def read(cls, text: str) -> Point:
+        found = re.fullmatch(rf"(.*?) of ({texts.QUOTED})", text)
+        return cls(found[1], texts.unquoted(found[2])) if found else cls(text)
+
+
+@dataclass(frozen=True)
+class Question:
+    text: str
+    point: Point
+    about: Attribute | Listed
+
+
+def rule(said: Mapping[str, Any] | None) -> Rule | None:
+    if said is None:
+        return None
+    return Rule(said["file"], said["line"], said["last_line"], tuple(said["mentions"]["attributes"]), tuple(said["mentions"]["lists"]))
+
+
+@dataclass
+class Rulebase:
+    """What a description says. `folder` is where its files are, and `name` its main file."""
+
+    folder: pathlib.Path
+    name: str
+    attributes: dict[str, Attribute]
+    lists: dict[str, Listed]
+    parents: dict[str, str | None]
+    screens: dict[str, list[str]]
+    goals: list[str]
+    files: list[str]
+    document: Mapping[str, Any] = field(repr=False)
+
+    @classmethod
+    def from_description(cls, document: Mapping[str, Any], folder: pathlib.Path | str) -> Rulebase:
+        if document.get("format") != FORMAT:
+            raise Fault(f"this is no description of a known form: {document.get('format')!r:.100}")
+        plain = ("phrase", "kind", "entity", "question", "least", "most", "decimals", "denied", "screen")
+        return cls(
+            folder=pathlib.Path(folder),
+            name=document["rulebase"],
+            attributes={a["phrase"]: Attribute(**{key: a[key] for key in plain}, rule=rule(a["rule"])) for a in document["attributes"]},
+            lists={
+                r["phrase"]: Listed(r["phrase"], r["sort"], r["of"], r["to"], r["question"], r["screen"], rule(r["rule"])) for r in document["lists"]
+            },
+            parents={e["phrase"]: e["in"] for e in document["entities"]},
+            screens={s["title"]: list(s["shows"]) for s in document["screens"]},
+            goals=list(document["goals"]),
+            files=[f["name"] for f in document["files"]],
+            document=document,
+        )
+
+    @classmethod
+    def describe(cls, rulebase: pathlib.Path | str, describe: pathlib.Path | str, opa: str | None = None) -> Rulebase:
+        """Runs the program that describes rulebases, and takes what it prints."""
+        words = [sys.executable, str(describe), str(rulebase)] + (["--opa", opa] if opa else [])
+        done = subprocess.run(words, capture_output=True, text=True, timeout=120)
+        if done.returncode == 1:
+            raise RulebaseRefused(done.stdout.strip())
+        if done.returncode:
+            raise Fault(f"the rulebase can't be described: {(done.stderr or done.stdout).strip()[:500]}")
+        return cls.from_description(json.loads(done.stdout), pathlib.Path(rulebase).resolve().parent)
+
+    def question(self, text: str) -> Question:
+        """What a printed question asks for."""
+        if not hasattr(self, "_asked"):
+            asked: dict[str, Attribute | Listed] = {r.question[:-1]: r for r in self.lists.values() if r.question}
+            asked |= {a.question[:-1]: a for a in self.attributes.values()}
+            self._asked = asked
+        point = Point.read(text.removesuffix("?"))
+        about = self._asked.get(point.phrase)
+        if about is None:
+            raise Fault(f"nothing has this question: {text[:200]}")
+        return Question(text, Point(about.phrase, point.of), about)
+
+    def container(self, entity: str) -> Listed:
+        """The list in which the instances of an entity live."""
+        return next(r for r in self.lists.values() if r.sort == "contains" and r.to == entity)
+
+    def text_of(self, file: str, line: int, last: int | None = None) -> list[str]:
+        """The lines of a rule file from one to another one."""
+        if file not in self.files:
+            raise Fault(f"this is no file of the rulebase: {file[:100]}")
+        lines = (self.folder / file).read_text(encoding="utf-8-sig").split("\n")
+        return [text.rstrip() for text in lines[line - 1 : last or line]]

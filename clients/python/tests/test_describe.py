@@ -1,0 +1,97 @@
+"""The descriptions of all examples: of the schema's form, and as the programs say it."""
+import json
+import re
+import subprocess
+import sys
+import tempfile
+import unittest
+from datetime import date
+
+from helping import DESCRIBE, EXAMPLES, TOP, base, needs_programs
+from sennabasket import Cases, Fault, Rulebase, RulebaseRefused
+
+try:
+    import jsonschema
+except ImportError:
+    jsonschema = None  # type: ignore[assignment]
+
+RULEBASES = sorted(
+    p.name for p in EXAMPLES.glob("*.txt") if re.search(r"^goal ", p.read_text(), re.M) and not p.stem.endswith(("_input", "_output", "_replies"))
+)
+
+
+@needs_programs
+class Descriptions(unittest.TestCase):
+    @unittest.skipUnless(jsonschema, "python3-jsonschema isn't installed")
+    def test_each_example_is_of_the_form(self) -> None:
+        schema = json.loads((TOP / "docs" / "description.schema.json").read_text())
+        jsonschema.Draft202012Validator.check_schema(schema) if hasattr(jsonschema, "Draft202012Validator") else None
+        for name in RULEBASES:
+            with self.subTest(name=name):
+                jsonschema.validate(base(name).document, schema)
+
+    def test_what_is_mentioned_is_declared(self) -> None:
+        for name in RULEBASES:
+            found = base(name)
+            for about in [*found.attributes.values(), *found.lists.values()]:
+                with self.subTest(name=name, phrase=about.phrase):
+                    for phrase in about.rule.attributes if about.rule else ():
+                        self.assertIn(phrase, found.attributes)
+                    for phrase in about.rule.lists if about.rule else ():
+                        self.assertIn(phrase, found.lists)
+
+    def test_rules_and_questions_are_the_programs(self) -> None:
+        """Every conclusion's file and line is what a report says, and every first question is known."""
+        for name in RULEBASES:
+            found = base(name)
+            with Cases(found) as cases:
+                case = cases.open()
+                for phrase in found.goals:
+                    with self.subTest(name=name, goal=phrase):
+                        report = case.report(phrase, date(2024, 5, 1))
+                        for stated in report.stated:
+                            rule = found.attributes[stated.point.phrase].rule
+                            self.assertEqual((rule.file, rule.line) if rule else ("", 0), (stated.file, stated.line))
+                            mentioned = {p for p in (rule.attributes if rule else ())}
+                            below = {b.point.phrase for b in report.below(stated, found)}
+                            self.assertLessEqual(below & set(found.attributes), mentioned | below)
+                question = case.next()
+                self.assertTrue(question is None or question.about.rule is None)
+
+    def test_every_line_of_a_report_is_reached(self) -> None:
+        """From the asked point, by what rules mention, each other line of the report is come to."""
+        found = base("food.txt")
+        lines = [
+            line for line in (EXAMPLES / "food_cases_input.txt").read_text().split("\n# 2\n")[0].split("\n") if line.startswith(("answer", "list"))
+        ]  # fmt: skip
+        with Cases(found) as cases:
+            case = cases.open(lines)
+            for phrase in found.goals:
+                report = case.report(phrase, date(2024, 3, 14))
+                seen, open_lines = set(), [report.asked]
+                while open_lines:
+                    line = open_lines.pop()
+                    if line.number not in seen:
+                        seen.add(line.number)
+                        open_lines += [b for b in report.below(line, found)] if hasattr(line, "origin") else []
+                self.assertEqual(seen, {s.number for s in (*report.stated, *report.lists)})
+
+    def test_a_refused_rulebase(self) -> None:
+        with tempfile.TemporaryDirectory() as folder:
+            with open(f"{folder}/bad.txt", "w") as file:
+                file.write("goal the weather\n")
+            with self.assertRaises(RulebaseRefused) as refused:
+                Rulebase.describe(f"{folder}/bad.txt", DESCRIBE)
+            self.assertEqual(refused.exception.printed, "refused: rulebase 3 bad.txt:1")
+            done = subprocess.run([sys.executable, DESCRIBE, f"{folder}/bad.txt"], capture_output=True, text=True)
+            self.assertEqual((done.returncode, done.stdout), (1, "refused: rulebase 3 bad.txt:1\n"))
+            with self.assertRaises(Fault):
+                Rulebase.describe(f"{folder}/nowhere/bad.txt", DESCRIBE)
+
+    def test_another_form_is_refused(self) -> None:
+        with self.assertRaises(Fault):
+            Rulebase.from_description({"format": {"name": "sennabasket description", "version": 2}}, ".")
+
+
+if __name__ == "__main__":
+    unittest.main()
