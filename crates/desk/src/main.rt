@@ -5,11 +5,11 @@ ghost use Rattle.std.specs.Prelude.{◌≡◌, ◌<◌};
 
 use opa_desk::desk;
 use opa_io::{FileShelf, Status, StdSink, StdSource, Steps};
+use std::io::ErrorKind;
 use std::marker::Brand;
 use std::process::ExitCode;
 use std::rt::Env;
 use std::sync::ledger::{Blank, Ledger};
-use std::io::ErrorKind;
 use std::{env, io};
 
 /// The words of the command line: none if one of them isn't text, so that the answer is that for wrong words.

@@ -8,11 +8,11 @@ use opa_listen::{Journal, Listener, Watch};
 use opa_model::AttrId;
 use opa_top::run;
 use std::alloc::Global;
+use std::io::ErrorKind;
 use std::marker::Brand;
 use std::process::ExitCode;
 use std::rt::Env;
 use std::sync::ledger::{Blank, Ledger};
-use std::io::ErrorKind;
 use std::{env, io};
 
 /// The words of the command line: none if one of them isn't text, so that the answer is that for wrong words.

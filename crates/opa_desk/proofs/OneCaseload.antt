@@ -88,7 +88,7 @@ module _ (r : Rulebase) (s : OpenCase) where
 
   -- what is left of a case that stays open, or that is closed
   stays_open : (t u : List ℕ) (c d : Bool) (y z : OpenCase) → c ≡ false → d ≡ false → Same t u y z → Same t u (left_by c y) (left_by d z)
-  stays_open t u c d y z open also h = (h.0, ap (λ b. left_by b y) open ∙ ap (λ (x : OpenCase). Some x) h.1 ∙ sym (ap (λ b. left_by b z) also))
+  stays_open t u c d y z still also h = (h.0, ap (λ b. left_by b y) still ∙ ap (λ (x : OpenCase). Some x) h.1 ∙ sym (ap (λ b. left_by b z) also))
 
   carries_one : (k : Order) (t u : List ℕ) (c d : Bool) (y z : OpenCase) → Carries r s k t c y → Carries r s k u d z → Same t u (left_by c y) (left_by d z)
   carries_one order.Nothing t u c d y z h g = stays_open t u c d y z h.1 g.1 (h.0 ∙ sym g.0, h.2 ∙ sym g.2)

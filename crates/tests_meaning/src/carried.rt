@@ -107,12 +107,12 @@ fn both_words<L: Ledger>(
 }
 
 #[derive(Clone, Copy)]
-struct Both<'a> {
+struct BothTrial<'a> {
     phrase: &'a str,
     kind: Kind,
 }
 
-impl<'a> Telling<String> for Both<'a> {
+impl<'a> Telling<String> for BothTrial<'a> {
     fn told<L: Ledger>(
         &self,
         alloc: Global,
@@ -131,7 +131,7 @@ fn concluded(
     phrase: &str,
     kind: Kind,
 ) -> Result<String, Fail> {
-    told_after(alloc, files, input, &Both { phrase, kind })
+    told_after(alloc, files, input, &BothTrial { phrase, kind })
 }
 
 /// Several examples, one behind the other in one line: a rule that is carried out day by day takes long.
@@ -222,11 +222,11 @@ fn coded<L: Ledger>(alloc: Global, session: &Session<L>, phrase: &str) -> Result
 }
 
 #[derive(Clone, Copy)]
-struct Coded<'a> {
+struct CodedTrial<'a> {
     phrase: &'a str,
 }
 
-impl<'a> Telling<String> for Coded<'a> {
+impl<'a> Telling<String> for CodedTrial<'a> {
     fn told<L: Ledger>(
         &self,
         alloc: Global,
@@ -239,7 +239,7 @@ impl<'a> Telling<String> for Coded<'a> {
 
 /// The same after a line of input.
 fn coded_after(alloc: Global, text: &str, line: &str, phrase: &str) -> Result<String, Fail> {
-    told_after(alloc, &[("main", text)], &[line], &Coded { phrase })
+    told_after(alloc, &[("main", text)], &[line], &CodedTrial { phrase })
 }
 
 #[test]

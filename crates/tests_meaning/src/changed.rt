@@ -112,11 +112,11 @@ fn declared<L: Ledger>(
 }
 
 #[derive(Clone, Copy)]
-struct Declared {
+struct DeclaredTrial {
     place: u32,
 }
 
-impl Telling<(bool, bool)> for Declared {
+impl Telling<(bool, bool)> for DeclaredTrial {
     fn told<L: Ledger>(
         &self,
         alloc: Global,
@@ -129,7 +129,12 @@ impl Telling<(bool, bool)> for Declared {
 
 /// The same of the family's rulebase.
 fn declares_both(alloc: Global, place: u32) -> Result<(bool, bool), Fail> {
-    told_after(alloc, &[("main", texts::FAMILY)], &[], &Declared { place })
+    told_after(
+        alloc,
+        &[("main", texts::FAMILY)],
+        &[],
+        &DeclaredTrial { place },
+    )
 }
 
 #[test]

@@ -174,9 +174,9 @@ fn told_parts<L: Ledger>(alloc: Global, session: &Session<L>, day: u32) -> Resul
 }
 
 #[derive(Clone, Copy)]
-struct Parts;
+struct PartsTrial;
 
-impl Telling<String> for Parts {
+impl Telling<String> for PartsTrial {
     fn told<L: Ledger>(
         &self,
         alloc: Global,
@@ -190,7 +190,7 @@ impl Telling<String> for Parts {
 #[test]
 fn values_of_parts(rt: HostRuntime) -> Result<(), Fail> {
     for (adult, veteran, entitled) in ANSWERS {
-        let found = told_of_claimant(rt.alloc(), adult, veteran, &Parts)?;
+        let found = told_of_claimant(rt.alloc(), adult, veteran, &PartsTrial)?;
         let want = format!(in rt.alloc(); " {entitled} {adult} {veteran}")?;
         assert_eq!(rt; found.as_str(), want.as_str());
     }
