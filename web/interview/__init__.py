@@ -20,6 +20,7 @@ from sennabasket import Cases, Rulebase  # noqa: E402
 from . import pages  # noqa: E402
 from .live import Live  # noqa: E402
 from .saying import Saying, languages  # noqa: E402
+from .serving import Site  # noqa: E402
 from .store import Store  # noqa: E402
 from .words import Words, beside  # noqa: E402
 
@@ -50,7 +51,7 @@ def create_app(
     app.jinja_env.trim_blocks = app.jinja_env.lstrip_blocks = True
     there = languages()
     sayings = {language: Saying(language) for language in said.languages if language in there} or {"en": Saying("en")}
-    pages.add(app, pages.Site(base, Live(cases, kept), kept, said, sayings))
+    pages.add(app, Site(base, Live(cases, kept), kept, said, sayings))
     return app
 
 

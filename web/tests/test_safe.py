@@ -238,7 +238,7 @@ class Apart(SiteCase):
             for other in range(6):
                 if other != number:
                     self.assertNotIn(f"Secret{other}", text)
-                    self.assertNotIn(f"{700 + other}", text)
+                    self.assertNotRegex(text, rf"(?<![0-9a-f]){700 + other}(?![0-9a-f])")  # not inside of a form's token
 
     def test_two_workers(self) -> None:
         """Two servers over one store, turn by turn: each goes on from what the other one kept."""
