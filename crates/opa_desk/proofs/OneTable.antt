@@ -107,9 +107,6 @@ module _ (r : Rulebase) (is : IsModel r.model) (one_command : OneCommand) (one_f
   one_cell column c h [] x y a b = a ∙ sym b
   one_cell column c h (byte ∷ bytes) x y a b = one_carried column c (line_of h (byte ∷ bytes)) x y a b
 
-  one_text : (t u : List ℕ) → Err t ≡ Err u → t ≡ u
-  one_text t u e = cc e
-
   ok_or_err : {T : Type 0} (c : CaseView) (t : List ℕ) → Ok c ≡ Err t → T
   ok_or_err c t e = absurd (cc e)
 
