@@ -1,4 +1,5 @@
 pub mod formers
+pub mod Gathering
 pub mod Memory
 pub mod Outside
 pub mod Statuses

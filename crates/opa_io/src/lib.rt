@@ -4,6 +4,7 @@
 mod boxed;
 mod fault;
 mod files;
+mod gathered;
 pub mod limits;
 mod list;
 mod memory;
@@ -19,6 +20,7 @@ mod witness;
 pub use boxed::Boxed;
 pub use fault::{Failed, NoMemory, Status, TakeFault};
 pub use files::FileShelf;
+pub use gathered::Gathered;
 pub use list::{List, front};
 pub use memory::{MemSink, MemSource};
 pub use outside::{Shelf, Sink, Source, write_all_of};

@@ -102,4 +102,8 @@ impl Sink for MemSink {
         }
         Ok(count)
     }
+
+    fn flush(&mut self) -> Result<(), Failed> {
+        Ok(())
+    }
 }
