@@ -4,7 +4,7 @@
 ghost use Rattle.std.specs.Prelude.{◌≡◌, ◌<◌};
 
 use opa_desk::desk;
-use opa_io::{FileShelf, Status, StdSink, StdSource, Steps};
+use opa_io::{FileShelf, Gathered, Status, StdSink, StdSource, Steps, flushed};
 use std::io::ErrorKind;
 use std::marker::Brand;
 use std::process::ExitCode;
@@ -30,15 +30,16 @@ fn counted<L: Ledger>(rt: &HostRuntime, blank: Blank, words: &[String]) -> Statu
     let mut steps: Steps<L> = Steps::open(blank);
     let mut shelf = FileShelf::new(rt);
     let mut input = StdSource::new(rt.stdin());
-    let mut out = StdSink::new(rt.stdout());
-    desk(
+    let mut out = Gathered::new(rt.alloc(), StdSink::new(rt.stdout()));
+    let status = desk(
         rt.alloc(),
         words,
         &mut shelf,
         &mut input,
         &mut out,
         &mut steps,
-    )
+    );
+    flushed(status, &mut out)
 }
 
 fn main(rt: HostRuntime) -> ExitCode {

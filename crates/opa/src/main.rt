@@ -3,7 +3,7 @@
 
 ghost use Rattle.std.specs.Prelude.{◌≡◌, ◌<◌};
 
-use opa_io::{FileShelf, List, NoMemory, Status, StdSink, StdSource, Steps};
+use opa_io::{FileShelf, Gathered, List, NoMemory, Status, StdSink, StdSource, Steps, flushed};
 use opa_listen::{Journal, Listener, Watch};
 use opa_model::AttrId;
 use opa_top::run;
@@ -47,8 +47,8 @@ fn counted<L: Ledger>(
     let _count = listeners.len();
     let mut shelf = FileShelf::new(rt);
     let mut input = StdSource::new(rt.stdin());
-    let mut out = StdSink::new(rt.stdout());
-    run(
+    let mut out = Gathered::new(rt.alloc(), StdSink::new(rt.stdout()));
+    let status = run(
         rt.alloc(),
         words,
         &mut shelf,
@@ -56,7 +56,8 @@ fn counted<L: Ledger>(
         &mut out,
         listeners,
         &mut steps,
-    )
+    );
+    flushed(status, &mut out)
 }
 
 /// Does what the words say; a journal of all changes and a watch on the first declared attribute listen.

@@ -2,6 +2,7 @@
 #![tactic(auto)]
 
 mod boxed;
+mod ending;
 mod fault;
 mod files;
 mod gathered;
@@ -18,6 +19,7 @@ mod text;
 mod witness;
 
 pub use boxed::Boxed;
+pub use ending::flushed;
 pub use fault::{Failed, NoMemory, Status, TakeFault};
 pub use files::FileShelf;
 pub use gathered::Gathered;

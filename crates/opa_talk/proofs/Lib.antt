@@ -1,5 +1,6 @@
 pub mod EndLaws
 pub mod FeedLaws
+pub mod KeptLaws
 pub mod LinesLaws
 pub mod PointsLaws
 pub mod RoseLaws

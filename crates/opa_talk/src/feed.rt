@@ -2,9 +2,10 @@
 ghost use Rattle.std.specs.Prelude.{◌≡◌, ◌<◌, ◌≤◌, ◌^◌, [], length, map, vec_len, IfOk, OnOk, OnErr, IfErr};
 ghost use Rattle.std.specs.Io.KnownBytes.{Keeps};
 ghost use Rattle.opa_io.specs.declared.limits.TheConstants.{MOST_INPUT};
-ghost use Rattle.opa_io.specs.Outside.{Reads, HasCause};
+ghost use Rattle.opa_io.specs.Outside.{Reads, HasCause, Rose};
 ghost use Rattle.opa_listen.specs.Hearing.{hearer};
 ghost use Rattle.opa_talk.specs.Halt.{IsCause};
+ghost use Rattle.opa_talk.specs.declared.halt.Halt.TheVariants as halts;
 ghost use Rattle.opa_talk.specs.Lines.{IsPart};
 ghost use Rattle.opa_talk.specs.Transcript.{IsGoing, CutsAnywhere, HasOneTranscript};
 ghost use Rattle.opa_talk.specs.Talk.{Converses, Halts, MayLeave};
@@ -50,7 +51,7 @@ fn read_into<S: Source>(input: &mut S, buf: &mut Vec<u8>) -> Result<usize, Faile
 }
 
 /// Reads a piece of the input, and carries out the lines that are whole then.
-fn take_turn<T: Replier<L>, F: Shelf, S: Source, K: Sink, L: Ledger>(
+fn read_turn<T: Replier<L>, F: Shelf, S: Source, K: Sink, L: Ledger>(
     alloc: Global,
     replier: &mut T,
     shelf: &mut F,
@@ -94,6 +95,49 @@ fn take_turn<T: Replier<L>, F: Shelf, S: Source, K: Sink, L: Ledger>(
     } else {
         Ok(Turn::Read(count))
     }
+}
+
+/// Passes on what was written, since a read may wait.
+fn pass_on<K: Sink>(out: &mut K) -> Result<(), Halt>
+    ensures bytes { Keeps (K.written out.old) (K.written out.new) }
+    ensures err { IfErr result (λ halt. halt ≡ halts.Output) }
+    ensures cause { OnErr result (Rose (K.faults out.old) (K.faults out.new)) }
+    ensures later { K.faults out.old ≤ K.faults out.new }
+{
+    match out.flush() {
+        Ok(()) => Ok(()),
+        Err(_) => Err(Halt::Output),
+    }
+}
+
+/// Passes on what was written, then reads a piece of the input, and carries out the lines that are whole then.
+fn take_turn<T: Replier<L>, F: Shelf, S: Source, K: Sink, L: Ledger>(
+    alloc: Global,
+    replier: &mut T,
+    shelf: &mut F,
+    listeners: &mut Vec<Box<dyn Listener>>,
+    steps: &mut Steps<L>,
+    pending: &mut Pending,
+    buf: &mut Vec<u8>,
+    input: &mut S,
+    out: &mut K,
+) -> Result<Turn, Halt>
+    requires going { IsGoing T.rule (T.held replier.old (map (λ l. hearer (state l)) listeners.old.items) (F.files shelf.old) steps.old) }
+    requires part { IsPart pending.old.bytes.items }
+    requires room { 0 < vec_len buf.old }
+    ensures ok { IfOk result (TakesTurn T.rule (point_of (T.held replier.old (map (λ l. hearer (state l)) listeners.old.items) (F.files shelf.old) steps.old) pending.old) (point_of (T.held replier.new (map (λ l. hearer (state l)) listeners.new.items) (F.files shelf.new) steps.new) pending.new) (vec_len buf.old) (S.left input.old) (S.left input.new) (K.written out.old) (K.written out.new)) }
+    ensures err { IfErr result (BreaksPart T.rule (MayLeave (F.keep_faults shelf.old) (F.keep_faults shelf.new) T.Stops T.Lacks) (point_of (T.held replier.old (map (λ l. hearer (state l)) listeners.old.items) (F.files shelf.old) steps.old) pending.old) (point_of (T.held replier.new (map (λ l. hearer (state l)) listeners.new.items) (F.files shelf.new) steps.new) pending.new) (vec_len buf.old) (S.left input.old) (S.left input.new) (K.written out.old) (K.written out.new)) }
+    ensures cause { IfErr result (IsCause (F.take_faults shelf.old) (F.take_faults shelf.new) (F.keep_faults shelf.old) (F.keep_faults shelf.new) (K.faults out.old) (K.faults out.new) (S.faults input.old) (S.faults input.new)) }
+    ensures later_input { S.faults input.old ≤ S.faults input.new }
+    ensures later { K.faults out.old ≤ K.faults out.new }
+    ensures later_take { F.take_faults shelf.old ≤ F.take_faults shelf.new }
+    ensures later_keep { F.keep_faults shelf.old ≤ F.keep_faults shelf.new }
+    ensures room { vec_len buf.new ≡ vec_len buf.old }
+{
+    pass_on(out)?;
+    read_turn(
+        alloc, replier, shelf, listeners, steps, pending, buf, input, out,
+    )
 }
 
 /// Reads the input up to its end, or to the most that is read, and carries out each line that is whole.
