@@ -15,6 +15,8 @@ pub mod FrontLaws
 pub mod Separate
 pub mod LongestPieces
 pub mod Ascii
+pub mod AsciiLetters
+pub mod FirstCharacter
 pub mod Quoting
 pub mod Writing
 pub mod LawsHold

@@ -11,12 +11,6 @@ use crate::cursor::Cursor;
 use crate::{Token, WordFault};
 use std::alloc::Global;
 
-fn chars_of(alloc: Global, text: &str) -> Result<Vec<char>, WordFault>
-    ensures { MatchResult result (λ v. v.items ≡ chars text.now) (λ e. e ≡ Full) }
-{
-    Ok(text.chars().collect(alloc)?)
-}
-
 /// The tokens of a line.
 pub fn tokens(alloc: Global, text: &str) -> Result<Vec<Token>, WordFault>
     requires { length text.now < 2 ^ 32 }
@@ -29,14 +23,13 @@ pub fn tokens(alloc: Global, text: &str) -> Result<Vec<Token>, WordFault>
     ensures apart { IfOk result (λ v. AreApart text.now 0 v.items) }
     ensures border { IfErr result (IsAtCharacter text.now) }
 {
-    let all = chars_of(alloc, text)?;
-    cut(alloc, Cursor::new(&all))
+    cut(alloc, Cursor::new(text))
 }
 
 /// The tokens of what is left.
 fn cut(alloc: Global, start: Cursor<'_>) -> Result<Vec<Token>, WordFault>
-    ensures cut { IfOk result (λ v. Cuts (start.entry.at + width start.entry.rest.now) start.entry.rest.now v.items) }
-    ensures fault { IfErr result (IsCause (start.entry.at + width start.entry.rest.now) start.entry.rest.now) }
+    ensures cut { IfOk result (λ v. Cuts (start.entry.at + width (chars start.entry.rest.now)) (chars start.entry.rest.now) v.items) }
+    ensures fault { IfErr result (IsCause (start.entry.at + width (chars start.entry.rest.now)) (chars start.entry.rest.now)) }
 {
     let mut tokens = Vec::new(alloc);
     let mut here = start;

@@ -1,4 +1,4 @@
-use Rattle.std.proofs.Common.{◌≡◌, ◌+◌, length, ap, ◌∙◌, subst, arith}
+use Rattle.std.proofs.Common.{◌≡◌, ◌+◌, length, ap, subst, arith}
 use Rattle.std.specs.Prelude.{IfOk, IfErr}
 use Rattle.std.specs.Str.{chars}
 use Rattle.opa_words.specs.Characters.{width}
@@ -10,24 +10,19 @@ use Rattle.opa_words.proofs.PlaceLaws.{tokens_within, tokens_of_kind, tokens_apa
 use Rattle.opa_words.proofs.ResultLaws.{on_ok, on_err}
 use Rattle.opa_words.proofs.cutting.tokens.Goals as goal
 
-pub new-requires : goal.new-requires
-new-requires c =
-    let e : width c.deref.result.now ≡ length c.args.text.now = ap width (c.deref.ensures.value ∙ c.in_ok-all.ensures) ∙ width_chars c.args.text.now c.utf8.text in
-    omega (arith, e)
-
 pub returns-clause-cut : goal.returns-clause-cut
 returns-clause-cut c =
-    let all : c.new.result.rest.now ≡ chars c.args.text.now = c.new.ensures.rest ∙ c.deref.ensures.value ∙ c.in_ok-all.ensures in
-    let total : c.new.result.at + width c.new.result.rest.now ≡ length c.args.text.now = omega (arith, c.new.ensures.place, ap width all, width_chars c.args.text.now c.utf8.text) in
+    let all : chars c.new.result.rest.now ≡ chars c.args.text.now = ap chars c.new.ensures.rest in
+    let total : c.new.result.at + width (chars c.new.result.rest.now) ≡ length c.args.text.now = omega (arith, c.new.ensures.place, ap width all, width_chars c.args.text.now c.utf8.text) in
     subst (λ n. IfOk c.cut.result (λ v. Cuts n (chars c.args.text.now) v.items)) total
-    (subst (λ cs. IfOk c.cut.result (λ v. Cuts (c.new.result.at + width c.new.result.rest.now) cs v.items)) all c.cut.ensures.cut)
+    (subst (λ cs. IfOk c.cut.result (λ v. Cuts (c.new.result.at + width (chars c.new.result.rest.now)) cs v.items)) all c.cut.ensures.cut)
 
 pub returns-clause-fault : goal.returns-clause-fault
 returns-clause-fault c =
-    let all : c.new.result.rest.now ≡ chars c.args.text.now = c.new.ensures.rest ∙ c.deref.ensures.value ∙ c.in_ok-all.ensures in
-    let total : c.new.result.at + width c.new.result.rest.now ≡ length c.args.text.now = omega (arith, c.new.ensures.place, ap width all, width_chars c.args.text.now c.utf8.text) in
+    let all : chars c.new.result.rest.now ≡ chars c.args.text.now = ap chars c.new.ensures.rest in
+    let total : c.new.result.at + width (chars c.new.result.rest.now) ≡ length c.args.text.now = omega (arith, c.new.ensures.place, ap width all, width_chars c.args.text.now c.utf8.text) in
     subst (λ n. IfErr c.cut.result (IsCause n (chars c.args.text.now))) total
-    (subst (λ cs. IfErr c.cut.result (IsCause (c.new.result.at + width c.new.result.rest.now) cs)) all c.cut.ensures.fault)
+    (subst (λ cs. IfErr c.cut.result (IsCause (c.new.result.at + width (chars c.new.result.rest.now)) cs)) all c.cut.ensures.fault)
 
 pub returns-clause-within : goal.returns-clause-within
 returns-clause-within c = on_ok (λ v. Cuts (length c.args.text.now) (chars c.args.text.now) v.items) (λ v. All (IsWithin c.args.text.now) v.items) c.cut.result (λ v. tokens_within c.args.text.now v.items c.utf8.text) (returns-clause-cut c)
