@@ -26,5 +26,5 @@ pub use names::printed_name;
 pub use phrases::Phrases;
 pub use piece_laws::{ascii_is_token, one_cutting, quoted_is_token, written_is_cut};
 pub use pieces::Pieces;
-pub use quotes::{quoted, text_of_token, unquoted};
+pub use quotes::{push_quoted, quoted, text_of_token, unquoted};
 pub use reserved::{is_ending, is_phrase, is_reserved, phrase_text, token_text};

@@ -30,5 +30,5 @@ pub fn printed_name(alloc: Global, name: &str) -> Result<Txt, NoMemory>
         out.push(printed_character(*c))?;
         rest = later;
     }
-    Txt::from_str(alloc, out.as_str())
+    Ok(Txt::from_string(out))
 }

@@ -1,5 +1,6 @@
 // The text that a Text token stands for, and back.
-ghost use Rattle.std.specs.Prelude.{◌≡◌, ◌∷◌, [], true, false, IfOk, MatchOption};
+ghost use Rattle.std.specs.Prelude.{◌≡◌, ◌∷◌, ◌++◌, [], true, false, IfOk, OnOk, MatchOption};
+ghost use Rattle.std.specs.String.{string_bytes};
 ghost use Rattle.std.specs.Str.{chars};
 ghost use Rattle.opa_words.specs.Kinds.{quoted, IsText};
 ghost use Rattle.opa_words.specs.Quoted.{inside, after_quote, unquoted};
@@ -12,7 +13,16 @@ use std::alloc::Global;
 pub fn quoted(alloc: Global, text: &str) -> Result<Txt, NoMemory>
     ensures { IfOk result (λ t. t ≡ quoted text.now) }
 {
-    let mut out = String::from_str(alloc, "\"")?;
+    let mut out = String::new(alloc);
+    push_quoted(&mut out, text)?;
+    Ok(Txt::from_string(out))
+}
+
+/// Puts the same behind a text.
+pub fn push_quoted(out: &mut String, text: &str) -> Result<(), NoMemory>
+    ensures { OnOk result (string_bytes out.new ≡ string_bytes out.old ++ quoted text.now) }
+{
+    out.push_str("\"")?;
     let mut rest = text;
     while let Some((front, later)) = at_quote(rest) {
         out.push_str(front)?;
@@ -21,7 +31,7 @@ pub fn quoted(alloc: Global, text: &str) -> Result<Txt, NoMemory>
     }
     out.push_str(rest)?;
     out.push_str("\"")?;
-    Txt::from_str(alloc, out.as_str())
+    Ok(())
 }
 
 /// The text that the text of a Text token stands for.
@@ -88,7 +98,7 @@ fn undoubled(alloc: Global, text: &str) -> Result<Txt, NoMemory>
     while let Some((front, later)) = at_quote(rest) {
         out.push_str(front)?;
         match past_quote(later) {
-            None => return Txt::from_str(alloc, out.as_str()),
+            None => return Ok(Txt::from_string(out)),
             Some(more) => {
                 out.push_str("\"")?;
                 rest = more;
@@ -96,5 +106,5 @@ fn undoubled(alloc: Global, text: &str) -> Result<Txt, NoMemory>
         }
     }
     out.push_str(rest)?;
-    Txt::from_str(alloc, out.as_str())
+    Ok(Txt::from_string(out))
 }

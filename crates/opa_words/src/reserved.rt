@@ -69,7 +69,7 @@ pub fn phrase_text(alloc: Global, text: &str, tokens: &[Token]) -> Result<Txt, N
         out.push_str(space_before(before == 0))?;
         out.push_str(token_text(text, *token))?;
     }
-    Txt::from_str(alloc, out.as_str())
+    Ok(Txt::from_string(out))
 }
 
 /// What stands before a word of a phrase.
