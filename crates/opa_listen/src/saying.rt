@@ -15,7 +15,7 @@ fn values_text(alloc: Global, change: &Change) -> Result<Txt, NoMemory>
     let was = value_text(alloc, change.kind, &change.was)?;
     let now = value_text(alloc, change.kind, &change.now)?;
     let text = format!(in alloc; "{} to {}", was.as_str(), now.as_str())?;
-    Txt::from_str(alloc, text.as_str())
+    Ok(Txt::from_string(text))
 }
 
 /// `DATE: OLD to NEW`.
@@ -25,7 +25,7 @@ fn dated_text(alloc: Global, change: &Change) -> Result<Txt, NoMemory>
     let day = date_text(alloc, change.day)?;
     let values = values_text(alloc, change)?;
     let text = format!(in alloc; "{}: {}", day.as_str(), values.as_str())?;
-    Txt::from_str(alloc, text.as_str())
+    Ok(Txt::from_string(text))
 }
 
 /// `POINT on DATE: OLD to NEW`.
@@ -35,7 +35,7 @@ fn change_text(alloc: Global, change: &Change) -> Result<Txt, NoMemory>
     let point = point_text(alloc, &change.phrase, &change.inst)?;
     let dated = dated_text(alloc, change)?;
     let text = format!(in alloc; "{} on {}", point.as_str(), dated.as_str())?;
-    Txt::from_str(alloc, text.as_str())
+    Ok(Txt::from_string(text))
 }
 
 /// A line for each change.
@@ -49,7 +49,7 @@ fn change_lines(alloc: Global, kept: &[Change]) -> Result<Txt, NoMemory>
         out.push_str("\n")?;
         rest = later;
     }
-    Txt::from_str(alloc, out.as_str())
+    Ok(Txt::from_string(out))
 }
 
 /// A line that says how many changes there are, and the last of them.
@@ -67,7 +67,7 @@ fn last_line(alloc: Global, count: usize, change: &Change) -> Result<Txt, NoMemo
 {
     let last = change_text(alloc, change)?;
     let text = format!(in alloc; "{count} changes, last: {}\n", last.as_str())?;
-    Txt::from_str(alloc, text.as_str())
+    Ok(Txt::from_string(text))
 }
 
 /// What is said of the changes that were kept: in style 0 each of them, in style 1 how many they are and the last, in

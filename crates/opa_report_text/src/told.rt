@@ -37,7 +37,7 @@ fn place_text(alloc: Global, file: &Txt, line: u32) -> Result<Txt, NoMemory>
     ensures { IfOk result (λ t. t ≡ meant.place_text file.now line) }
 {
     let text = format!(in alloc; "rule {}:{}", file.as_str(), line)?;
-    Txt::from_str(alloc, text.as_str())
+    Ok(Txt::from_string(text))
 }
 
 fn unruled(alloc: Global, value: &Value) -> Result<Txt, NoMemory>
@@ -85,14 +85,14 @@ fn with_number(alloc: Global, number: u64, told: &Txt) -> Result<Txt, NoMemory>
     ensures { IfOk result (λ t. t ≡ meant.with_number number told.now) }
 {
     let text = format!(in alloc; "{} {}\n", number, told.as_str())?;
-    Txt::from_str(alloc, text.as_str())
+    Ok(Txt::from_string(text))
 }
 
 fn placed_text(alloc: Global, point: &Txt, span: &Txt, told: &Txt) -> Result<Txt, NoMemory>
     ensures { IfOk result (λ t. t ≡ meant.placed_text point.now span.now told.now) }
 {
     let text = format!(in alloc; "{}, {}: {}", point.as_str(), span.as_str(), told.as_str())?;
-    Txt::from_str(alloc, text.as_str())
+    Ok(Txt::from_string(text))
 }
 
 fn span_text(alloc: Global, first: u32, last: u32) -> Result<Txt, NoMemory>
@@ -103,7 +103,7 @@ fn span_text(alloc: Global, first: u32, last: u32) -> Result<Txt, NoMemory>
     let from = date_text(alloc, first)?;
     let to = date_text(alloc, last)?;
     let text = format!(in alloc; "{} to {}", from.as_str(), to.as_str())?;
-    Txt::from_str(alloc, text.as_str())
+    Ok(Txt::from_string(text))
 }
 
 fn told_text(alloc: Global, kind: Kind, value: &Value, origin: &Txt) -> Result<Txt, NoMemory>
@@ -112,7 +112,7 @@ fn told_text(alloc: Global, kind: Kind, value: &Value, origin: &Txt) -> Result<T
 {
     let value = value_text(alloc, kind, value)?;
     let text = format!(in alloc; "{}, {}", value.as_str(), origin.as_str())?;
-    Txt::from_str(alloc, text.as_str())
+    Ok(Txt::from_string(text))
 }
 
 pub(crate) fn members_line(
@@ -127,7 +127,7 @@ pub(crate) fn members_line(
     let point = point_text(alloc, phrase, inst)?;
     let names = names_text(alloc, names.as_ref())?;
     let text = format!(in alloc; "{} list {}: {}\n", number, point.as_str(), names.as_str())?;
-    Txt::from_str(alloc, text.as_str())
+    Ok(Txt::from_string(text))
 }
 
 pub(crate) fn member_line(
@@ -142,7 +142,7 @@ pub(crate) fn member_line(
     let point = point_text(alloc, phrase, container)?;
     let name = quoted(alloc, inst.name.as_str())?;
     let text = format!(in alloc; "{} member {}: {}\n", number, point.as_str(), name.as_str())?;
-    Txt::from_str(alloc, text.as_str())
+    Ok(Txt::from_string(text))
 }
 
 pub(crate) fn first_line(
@@ -157,5 +157,5 @@ pub(crate) fn first_line(
     let point = point_text(alloc, phrase, inst)?;
     let date = date_text(alloc, day)?;
     let text = format!(in alloc; "report {} at {}\n", point.as_str(), date.as_str())?;
-    Txt::from_str(alloc, text.as_str())
+    Ok(Txt::from_string(text))
 }

@@ -74,7 +74,7 @@ pub fn report_text(alloc: Global, base: &Rulebase, report: &Report) -> Result<Tx
         text.push_str(line.as_str())?;
     }
     text.push_str("end\n")?;
-    Txt::from_str(alloc, text.as_str())
+    Ok(Txt::from_string(text))
 }
 
 /// The first line.

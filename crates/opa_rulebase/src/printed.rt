@@ -43,5 +43,5 @@ pub fn refusal_text(
         name.as_str(),
         circle.as_str()
     )?;
-    Txt::from_str(alloc, text.as_str())
+    Ok(Txt::from_string(text))
 }

@@ -20,7 +20,7 @@ fn joined(alloc: Global, front: &str, text: &str) -> Result<Txt, NoMemory>
     ensures { IfOk result (λ t. t ≡ front.now ++ text.now) }
 {
     let both = format!(in alloc; "{front}{text}")?;
-    Txt::from_str(alloc, both.as_str())
+    Ok(Txt::from_string(both))
 }
 
 /// A value as a text: `?`, `u`, `b:true`, `n:1.5`, `t:` and a text, `d:` and a date.

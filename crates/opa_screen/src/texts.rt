@@ -27,7 +27,7 @@ pub fn screen_text(
     let heading = heading(alloc, model, screen)?;
     let lines = question_lines(alloc, model, screen, questions.as_slice())?;
     let text = format!(in alloc; "{}{}", heading.as_str(), lines.as_str())?;
-    Txt::from_str(alloc, text.as_str())
+    Ok(Txt::from_string(text))
 }
 
 /// `[TITLE]`
@@ -40,7 +40,7 @@ fn heading(alloc: Global, model: &Model, screen: u32) -> Result<Txt, NoMemory>
     }
     let title = &model.screen(screen - 1).title;
     let text = format!(in alloc; "[{}]\n", title.as_str())?;
-    Txt::from_str(alloc, text.as_str())
+    Ok(Txt::from_string(text))
 }
 
 /// A line for each of the questions that lie on the screen.
@@ -61,7 +61,7 @@ fn question_lines(
         }
         rest = later;
     }
-    Txt::from_str(alloc, out.as_str())
+    Ok(Txt::from_string(out))
 }
 
 /// Adds two spaces and what is asked, as a line.

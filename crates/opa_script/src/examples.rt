@@ -43,7 +43,7 @@ fn input(alloc: Global, seed: u32, size: u32) -> Result<Txt, NoMemory>
     let list = list_line(alloc, size)?;
     let answers = answers(alloc, seed, size)?;
     let text = format!(in alloc; "{}{}goals\nstats\n", list.as_str(), answers.as_str())?;
-    Txt::from_str(alloc, text.as_str())
+    Ok(Txt::from_string(text))
 }
 
 fn list_line(alloc: Global, size: u32) -> Result<Txt, NoMemory>
@@ -52,7 +52,7 @@ fn list_line(alloc: Global, size: u32) -> Result<Txt, NoMemory>
 {
     let people = people(alloc, size)?;
     let text = format!(in alloc; "list the people = {}\n", people.as_str())?;
-    Txt::from_str(alloc, text.as_str())
+    Ok(Txt::from_string(text))
 }
 
 fn people(alloc: Global, size: u32) -> Result<String, NoMemory>
@@ -78,7 +78,7 @@ fn person(alloc: Global, k: u32) -> Result<Txt, NoMemory>
     ensures { IfOk result (λ t. t ≡ meant.person k) }
 {
     let text = format!(in alloc; "\"P{k}\"")?;
-    Txt::from_str(alloc, text.as_str())
+    Ok(Txt::from_string(text))
 }
 
 fn answers(alloc: Global, seed: u32, size: u32) -> Result<String, NoMemory>
@@ -101,7 +101,7 @@ fn answer_line(alloc: Global, seed: u32, k: u32) -> Result<Txt, NoMemory>
     let first = first_income(alloc, seed, k)?;
     let later = later_income(alloc, seed, k)?;
     let text = format!(in alloc; "{}{}", first.as_str(), later.as_str())?;
-    Txt::from_str(alloc, text.as_str())
+    Ok(Txt::from_string(text))
 }
 
 fn first_income(alloc: Global, seed: u32, k: u32) -> Result<Txt, NoMemory>
@@ -114,7 +114,7 @@ fn first_income(alloc: Global, seed: u32, k: u32) -> Result<Txt, NoMemory>
         "answer the person's income of {} = {amount}",
         name.as_str()
     )?;
-    Txt::from_str(alloc, text.as_str())
+    Ok(Txt::from_string(text))
 }
 
 fn later_income(alloc: Global, seed: u32, k: u32) -> Result<Txt, NoMemory>
@@ -124,7 +124,7 @@ fn later_income(alloc: Global, seed: u32, k: u32) -> Result<Txt, NoMemory>
     let month = two_digits(alloc, month(k))?;
     let amount = income(seed, k) + 5;
     let text = format!(in alloc; "; from 2024-{}-01 {amount}", month.as_str())?;
-    Txt::from_str(alloc, text.as_str())
+    Ok(Txt::from_string(text))
 }
 
 /// The first income of a person.
@@ -151,5 +151,5 @@ fn two_digits(alloc: Global, n: u32) -> Result<Txt, NoMemory>
     } else {
         format!(in alloc; "{n}")?
     };
-    Txt::from_str(alloc, text.as_str())
+    Ok(Txt::from_string(text))
 }

@@ -13,7 +13,7 @@ pub fn origin_text(alloc: Global, origin: &Origin) -> Result<Txt, NoMemory>
     match origin {
         Origin::Rule { file, line } => {
             let text = format!(in alloc; "rule {}:{}", file.as_str(), *line)?;
-            Txt::from_str(alloc, text.as_str())
+            Ok(Txt::from_string(text))
         }
         Origin::Answer => Txt::from_str(alloc, "answer"),
         Origin::Unanswered => Txt::from_str(alloc, "unanswered"),

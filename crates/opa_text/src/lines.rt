@@ -22,7 +22,7 @@ pub fn line_text(alloc: Global, kind: Kind, line: &Line<Value>) -> Result<Txt, N
             let start = value_text(alloc, kind, &first.1)?;
             let later = changes_text(alloc, kind, changes)?;
             let text = format!(in alloc; "{}{}", start.as_str(), later.as_str())?;
-            Txt::from_str(alloc, text.as_str())
+            Ok(Txt::from_string(text))
         }
     }
 }
@@ -38,7 +38,7 @@ fn changes_text(alloc: Global, kind: Kind, changes: &[(u32, Value)]) -> Result<T
         out.push_str(change_text(alloc, kind, change)?.as_str())?;
         rest = later;
     }
-    Txt::from_str(alloc, out.as_str())
+    Ok(Txt::from_string(out))
 }
 
 fn change_text(alloc: Global, kind: Kind, change: &(u32, Value)) -> Result<Txt, NoMemory>
@@ -49,5 +49,5 @@ fn change_text(alloc: Global, kind: Kind, change: &(u32, Value)) -> Result<Txt, 
     let day = date_text(alloc, change.0)?;
     let value = value_text(alloc, kind, &change.1)?;
     let text = format!(in alloc; "; from {} {}", day.as_str(), value.as_str())?;
-    Txt::from_str(alloc, text.as_str())
+    Ok(Txt::from_string(text))
 }

@@ -1,5 +1,6 @@
 // Names: their text, and the names that tokens say.
-ghost use Rattle.std.specs.Prelude.{◌≡◌, ◌∷◌, ℕ, List as Seq, IfOk, IfSome, MatchOption};
+ghost use Rattle.std.specs.Prelude.{◌≡◌, ◌∷◌, ◌++◌, ℕ, List as Seq, IfOk, OnOk, IfSome, MatchOption};
+ghost use Rattle.std.specs.String.{string_bytes};
 ghost use Rattle.std.specs.Option.{option_map};
 ghost use denote.Ref.{Bor};
 ghost use Rattle.opa_words.specs.Pieces.{Piece, seen, AreOfKind, text};
@@ -8,7 +9,7 @@ ghost use Rattle.opa_text.specs.Spelled.{SpellsNext, SpellsMore, SpellsNames};
 
 use crate::reading::{is_only, name_at, next_name};
 use opa_io::{List, NoMemory, Txt, front};
-use opa_words::{Pieces, quoted};
+use opa_words::{Pieces, push_quoted};
 use std::alloc::Global;
 
 /// The text of the names of a list, which may be unknown: `unknown`, `none`, `"Anna", "Ben"`.
@@ -27,25 +28,25 @@ fn known_names(alloc: Global, names: &[Txt]) -> Result<Txt, NoMemory>
     match names {
         [] => Txt::from_str(alloc, "none"),
         [first, later @ ..] => {
-            let first = quoted(alloc, first.as_str())?;
-            let later = more_names(alloc, later)?;
-            let text = format!(in alloc; "{}{}", first.as_str(), later.as_str())?;
-            Txt::from_str(alloc, text.as_str())
+            let mut out = String::new(alloc);
+            push_quoted(&mut out, first.as_str())?;
+            push_names(&mut out, later)?;
+            Ok(Txt::from_string(out))
         }
     }
 }
 
-fn more_names(alloc: Global, names: &[Txt]) -> Result<Txt, NoMemory>
-    ensures { IfOk result (λ t. t ≡ more_names_of names.now) }
+/// Puts names behind a text, each with a comma before it.
+fn push_names(out: &mut String, names: &[Txt]) -> Result<(), NoMemory>
+    ensures { OnOk result (string_bytes out.new ≡ string_bytes out.old ++ more_names_of names.now) }
 {
-    let mut out = String::new(alloc);
     let mut rest = names;
     while let Some((name, later)) = front(rest) {
         out.push_str(", ")?;
-        out.push_str(quoted(alloc, name.as_str())?.as_str())?;
+        push_quoted(out, name.as_str())?;
         rest = later;
     }
-    Txt::from_str(alloc, out.as_str())
+    Ok(())
 }
 
 /// The names that these tokens say, all of them: `none`, or names between quotes with commas between them.

@@ -13,7 +13,7 @@ pub fn point_text(alloc: Global, phrase: &Txt, inst: &InstanceId) -> Result<Txt,
 {
     let of = instance_part(alloc, inst)?;
     let text = format!(in alloc; "{}{}", phrase.as_str(), of.as_str())?;
-    Txt::from_str(alloc, text.as_str())
+    Ok(Txt::from_string(text))
 }
 
 /// ` of "NAME"`, and nothing for the global instance.
@@ -25,5 +25,5 @@ pub(crate) fn instance_part(alloc: Global, inst: &InstanceId) -> Result<Txt, NoM
     }
     let name = quoted(alloc, inst.name.as_str())?;
     let text = format!(in alloc; " of {}", name.as_str())?;
-    Txt::from_str(alloc, text.as_str())
+    Ok(Txt::from_string(text))
 }

@@ -20,7 +20,7 @@ pub fn question_text(alloc: Global, model: &Model, question: &Question) -> Resul
     let asked = asked(alloc, model, question)?;
     let of = instance_part(alloc, asked_at(question))?;
     let text = format!(in alloc; "{}{}?", asked.as_str(), of.as_str())?;
-    Txt::from_str(alloc, text.as_str())
+    Ok(Txt::from_string(text))
 }
 
 fn asked_at(question: &Question) -> &InstanceId
@@ -41,7 +41,7 @@ fn asked(alloc: Global, model: &Model, question: &Question) -> Result<Txt, NoMem
         Question::Attr(attr, _) => asked_attribute(alloc, model, declared(model, *attr)),
         Question::Members(rel, _) => {
             let text = format!(in alloc; "which are {}", model.relation(*rel).phrase.as_str())?;
-            Txt::from_str(alloc, text.as_str())
+            Ok(Txt::from_string(text))
         }
     }
 }
@@ -65,7 +65,7 @@ fn asked_attribute(alloc: Global, model: &Model, attribute: &Attribute) -> Resul
         Some(sentence) => say(alloc, model, sentence, Form::Question),
         None => {
             let text = format!(in alloc; "what is {}", attribute.phrase.as_str())?;
-            Txt::from_str(alloc, text.as_str())
+            Ok(Txt::from_string(text))
         }
     }
 }

@@ -133,6 +133,6 @@ impl Number {
             decimals_needed(self.count.unsigned_abs())
         };
         let text = number_text(alloc, self.count, decimals)?;
-        Txt::from_str(alloc, text.as_str())
+        Ok(Txt::from_string(text))
     }
 }

@@ -63,5 +63,5 @@ fn beside(alloc: Global, left: &str, right: &str) -> Result<Txt, NoMemory>
         return Txt::from_str(alloc, left);
     }
     let text = format!(in alloc; "{left} {right}")?;
-    Txt::from_str(alloc, text.as_str())
+    Ok(Txt::from_string(text))
 }

@@ -432,5 +432,5 @@ pub fn line_text(alloc: Global, model: &Model, expr: &Expr) -> Result<Txt, NoMem
 {
     let mut out = String::new(alloc);
     push_line(alloc, &mut out, model, false, expr)?;
-    Txt::from_str(alloc, out.as_str())
+    Ok(Txt::from_string(out))
 }
