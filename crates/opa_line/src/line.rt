@@ -55,6 +55,9 @@ impl<T> Line<T> {
         ensures { at self.now day ≡ Some result.now }
     {
         let pairs = self.segments();
+        if pairs.len() == 1 {
+            return &pairs[0].1;
+        }
         let reached = pairs.partition_point(|pair| pair.0 <= day);
         &pairs[reached - 1].1
     }
