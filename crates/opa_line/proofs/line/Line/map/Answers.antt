@@ -20,3 +20,11 @@ pub returns : goal.returns
 returns g c =
     let e = mapped_end g.F.Fn c.args.f DAYS c.args.self.now c.loop-rest.value _ _ c.until-2.new.self c.in_ok-last.last c.loop-rest.invariant c.in_default.len_below c.in_ok-last.ensures c.in_ok-until-2.ensures in
     λ d lt. let v = e.1 d lt in (v.0, v.1, ap (λ l. at l d) c.finish.ensures ∙ v.2)
+
+pub f-requires : goal.f-requires
+f-requires g c =
+    let r = mapped_now g.F.Fn c.args.f DAYS c.args.self.now _ _ _ c.loop-rest.invariant in
+    let h = c.requires c.loop-rest.out.0 in
+    let lt = r.0 in
+    let a = r.1 in
+    search rules
