@@ -1,8 +1,8 @@
 use Rattle.std.proofs.Common.{◌≡◌, ◌∙◌, rules}
 use Rattle.std.specs.String.{string_bytes}
+use Rattle.opa_io.proofs.Results.{if_ok_then}
 use Rattle.opa_words.specs.Kinds.{quoted}
 use Rattle.opa_words.proofs.QuoteLaws.{quote_goes, quote_ends}
-use Rattle.opa_words.proofs.ResultLaws.{on_ok}
 use Rattle.opa_words.proofs.quotes.quoted.Goals as goal
 
 pub loop-front-preserved : goal.loop-front-preserved
@@ -14,7 +14,7 @@ loop-front-preserved c = record {
 
 pub returns : goal.returns
 returns c =
-    on_ok (λ t. t ≡ c.as_str.result.now) (λ t. t ≡ quoted c.args.text.now) c.from_str-2.result
+    if_ok_then (λ t. t ≡ c.as_str.result.now) (λ t. t ≡ quoted c.args.text.now) c.from_str-2.result
     (λ t e. e ∙ c.as_str.ensures.value ∙ quote_ends (string_bytes c.loop-front.out) c.loop-front.rest.now (quoted c.args.text.now) (string_bytes c.push_str-2.new.self) (string_bytes c.push_str-3.new.self) c.loop-front.invariant.same c.in_default.ensures
     c.in_ok-push_str-3.ensures.bytes c.in_ok-push_str-4.ensures.bytes)
     c.from_str-2.ensures

@@ -1,7 +1,7 @@
 use Rattle.std.proofs.Common.{◌≡◌, ◌∙◌, rules}
 use Rattle.std.specs.Prelude.{false}
 use Rattle.std.specs.String.{string_bytes}
-use Rattle.opa_words.proofs.ResultLaws.{on_ok}
+use Rattle.opa_io.proofs.Results.{if_ok_then}
 use Rattle.opa_words.specs.Quoted.{inside}
 use Rattle.opa_words.proofs.QuotedLaws.{inside_goes, inside_again, inside_stops, inside_ends}
 use Rattle.opa_words.proofs.quotes.undoubled.Goals as goal
@@ -10,7 +10,7 @@ pub returns-in-None : goal.returns-in-None
 returns-in-None c =
     let all = inside false c.args.text.now in
     let goes = inside_goes (string_bytes c.loop-front.out) c.loop-front.rest.now c.in-Some.front.now c.in-Some.later.now all (string_bytes c.push_str.new.self) c.loop-front.invariant.same c.in-Some.ensures c.in_ok-push_str.ensures.bytes in
-    on_ok (λ t. t ≡ c.as_str.result.now) (λ t. t ≡ all) c.from_str.result (λ t e. e ∙ c.as_str.ensures.value ∙ inside_stops c.in-Some.later.now all (string_bytes c.push_str.new.self) goes c.in-None.ensures.none) c.from_str.ensures
+    if_ok_then (λ t. t ≡ c.as_str.result.now) (λ t. t ≡ all) c.from_str.result (λ t e. e ∙ c.as_str.ensures.value ∙ inside_stops c.in-Some.later.now all (string_bytes c.push_str.new.self) goes c.in-None.ensures.none) c.from_str.ensures
 
 pub loop-front-preserved : goal.loop-front-preserved
 loop-front-preserved c =
@@ -24,6 +24,6 @@ loop-front-preserved c =
 pub returns : goal.returns
 returns c =
     let all = inside false c.args.text.now in
-    on_ok (λ t. t ≡ c.as_str-2.result.now) (λ t. t ≡ all) c.from_str-2.result
+    if_ok_then (λ t. t ≡ c.as_str-2.result.now) (λ t. t ≡ all) c.from_str-2.result
     (λ t e. e ∙ c.as_str-2.ensures.value ∙ inside_ends (string_bytes c.loop-front.out) c.loop-front.rest.now all (string_bytes c.push_str-2.new.self) c.loop-front.invariant.same c.in_default.ensures c.in_ok-push_str-2.ensures.bytes)
     c.from_str-2.ensures
