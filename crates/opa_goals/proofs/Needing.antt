@@ -1,10 +1,10 @@
 -- What a tree needs is declared, where all of the tree is reached from the enclosing entities.
-use Rattle.std.proofs.Common.{◌≡◌, ◌⊎◌, inl, inr, ℕ, ◌+◌, ◌-◌, ◌<◌, Bool, true, false, cond, ◌&&◌, List, [], ◌∷◌, ◌++◌, length, map, Option, None, Some, Contains, refl, sym, subst}
+use Rattle.std.proofs.Common.{◌≡◌, ◌⊎◌, inl, inr, ℕ, ◌+◌, ◌-◌, ◌<◌, Bool, true, false, cond, ◌&&◌, List, [], ◌∷◌, ◌++◌, length, map, Option, None, Some, Contains, sym, subst}
 use Rattle.std.specs.Prelude.{flat_map, nat_lt, IsTrue}
-use Rattle.std.specs.Option.{option_map_or}
 use Rattle.std.proofs.lemmas.Bool.{and_parts}
 use Rattle.std.proofs.lemmas.List.Elements.{Contains-append_cases}
 use Rattle.std.proofs.lemmas.Option.{slice_get_within}
+use Rattle.opa_io.proofs.Options.{there_is}
 use Rattle.opa_date.specs.declared.TheConstants.{DAYS}
 use Rattle.opa_value.specs.declared.value.Value.{Value}
 use Rattle.opa_value.specs.declared.value.Value.TheVariants.{Unknown, Uncertain, Bool as Truth, Num, Words, Day}
@@ -80,11 +80,6 @@ cond_in Uncertain own us rest u h = absurd (none_in u h)
 cond_in (Num n) own us rest u h = absurd (none_in u h)
 cond_in (Words t) own us rest u h = absurd (none_in u h)
 cond_in (Day k) own us rest u h = absurd (none_in u h)
-
--- what is asked of a thing holds only where there is one
-pub there_is : {X : Type 0} (o : Option X) (f : X → Bool) → IsTrue (option_map_or f o false) → (x : X) × ((o ≡ Some x) × IsTrue (f x))
-there_is None f h = absurd (cc h)
-there_is (Some x) f h = (x, (refl, h))
 
 module _ (m : Lists) (s : Shape) (l : Look) (list_need : RelId → InstanceId → Use) (at_point : AttrId → InstanceId → ℕ → List Use)
     (of_list : (r : RelId) (i : InstanceId) → r.0 < length m.relations → IsAsked m (list_need r i))

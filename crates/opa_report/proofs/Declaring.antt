@@ -2,10 +2,10 @@
 use Rattle.std.proofs.Common.{◌≡◌, ◌⊎◌, inl, inr, ℕ, ◌+◌, ◌-◌, ◌<◌, Bool, true, false, cond, ◌&&◌, List, [], ◌∷◌, ◌++◌, length, map, Option, None, Some, Contains, refl, sym, ◌∙◌, ap, subst}
 use Rattle.std.specs.Prelude.{find, flat_map, nat_lt, IsTrue}
 use Rattle.std.specs.List.{list_all}
-use Rattle.std.specs.Option.{option_map_or}
 use Rattle.std.proofs.lemmas.Bool.{and_parts}
 use Rattle.std.proofs.lemmas.List.Elements.{Contains-append_cases}
 use Rattle.std.proofs.lemmas.Option.{slice_get_within}
+use Rattle.opa_io.proofs.Options.{there_is}
 use Rattle.opa_date.specs.declared.TheConstants.{DAYS}
 use Rattle.opa_value.specs.declared.value.Value.{Value}
 use Rattle.opa_value.specs.declared.value.Value.TheVariants.{Unknown, Uncertain, Bool as Truth, Num, Words, Day}
@@ -84,11 +84,6 @@ after_in Uncertain us rest u h = absurd (none_in u h)
 after_in (Num n) us rest u h = absurd (none_in u h)
 after_in (Words t) us rest u h = absurd (none_in u h)
 after_in (Day k) us rest u h = absurd (none_in u h)
-
--- what is asked of a thing holds only where there is one
-pub there_is : {X : Type 0} (o : Option X) (f : X → Bool) → IsTrue (option_map_or f o false) → (x : X) × ((o ≡ Some x) × IsTrue (f x))
-there_is None f h = absurd (cc h)
-there_is (Some x) f h = (x, (refl, h))
 
 module _ (m : Lists) (s : Shape) (l : Look) where
   scope-roll : (x : Expr-F Expr Row) → is_reached m (roll-Expr x) ≡ scope_step m (map-Expr Expr Row Scope Scope (is_reached m) (row_is_reached m) x)

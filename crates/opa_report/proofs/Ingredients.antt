@@ -1,9 +1,8 @@
 -- The slots, keys and instances that a report is made from, over the lists of live instances.
-use Rattle.std.proofs.Common.{◌≡◌, ℕ, ◌<◌, Bool, List, [], ◌∷◌, map, filter, flat_map, length, Option, None, Some, IsSome, is_some, Contains, refl, sym, ◌∙◌, ap, subst}
-use Rattle.std.specs.Prelude.{All, slice_get, slice_index_or, unwrap_or, true, ◌&&◌, nat_lt}
+use Rattle.std.proofs.Common.{◌≡◌, ℕ, ◌<◌, Bool, List, [], ◌∷◌, map, filter, flat_map, length, Option, None, Some, IsSome, is_some, Contains, refl, sym, ◌∙◌, ap}
+use Rattle.std.specs.Prelude.{slice_get, slice_index_or, unwrap_or, true, ◌&&◌, nat_lt}
 use Rattle.std.proofs.lemmas.Bool.{and_parts, eqb-true, ltb-true}
-use Rattle.std.proofs.lemmas.List.Elements.{All-get_or}
-use Rattle.std.proofs.lemmas.Option.{slice_get_within, get_or_from_slice_get}
+use Rattle.opa_io.proofs.Places.{All_at}
 use Rattle.opa_date.specs.declared.TheConstants.{DAYS}
 use Rattle.opa_model.specs.declared.ids.AttrId.{AttrId}
 use Rattle.opa_model.specs.declared.ids.RelId.{RelId}
@@ -36,22 +35,19 @@ use Rattle.opa_report.proofs.Living.{all_live}
 use Rattle.opa_report.proofs.Ordering.{are_slots}
 use Rattle.opa_report.proofs.Placing.{placed}
 
-of_all : {X : Type 0} (P : X → Type 0) (xs : List X) (n : ℕ) (x : X) → slice_get xs n ≡ Some x → All P xs → P x
-of_all P xs n x at all = subst P (get_or_from_slice_get xs n x x at) (All-get_or P xs n x (slice_get_within xs n x at) all)
-
 owner_within : (m : Lists) → IsModel m → (a : AttrId) → owner_of (shape_of m) a < length m.entities
 owner_within m is a = go (slice_get m.attributes a.0) refl
   where
     go : (o : Option Attribute) → slice_get m.attributes a.0 ≡ o → (unwrap_or o no_attribute).entity.0 < length m.entities
     go None e = is.has_global
-    go (Some x) e = of_all (λ (y : Attribute). HasEntity m y.entity) m.attributes a.0 x e is.in_range.owners
+    go (Some x) e = All_at (λ (y : Attribute). HasEntity m y.entity) m.attributes a.0 x e is.in_range.owners
 
 source_within : (m : Lists) → IsModel m → (q : RelId) → (shape_of m).source q < length m.entities
 source_within m is q = go (slice_get m.relations q.0) refl
   where
     go : (o : Option Relation) → slice_get m.relations q.0 ≡ o → (unwrap_or o no_relation).source.0 < length m.entities
     go None e = is.has_global
-    go (Some x) e = of_all (λ (y : Relation). HasEntity m y.source) m.relations q.0 x e is.in_range.sources
+    go (Some x) e = All_at (λ (y : Relation). HasEntity m y.source) m.relations q.0 x e is.in_range.sources
 
 module _ (r : Rulebase) (c : CaseView) (is : IsOf r c) (live : List (List InstanceId)) (are : AreInstances (length r.model.entities) c live) where
   -- the list of an entity has its live instances

@@ -1,5 +1,5 @@
 -- The days that a line has as values.
-use Rattle.std.proofs.Common.{◌≡◌, ◌∙◌, ◌<◌, ℕ, true, List, Some, sym, subst, arith}
+use Rattle.std.proofs.Common.{◌≡◌, ◌∙◌, ℕ, true, List, Some, sym, subst, ltb-true}
 use Rattle.std.specs.Prelude.{nat_lt}
 use Rattle.std.proofs.lemmas.Bool.{and_parts}
 use Rattle.opa_date.specs.declared.TheConstants.{DAYS}
@@ -16,9 +16,6 @@ use Rattle.opa_kinds.specs.Laws.{ValuesHaveKinds, kind_of}
 use Rattle.opa_text.specs.Texts.{HasDays, IsOfCalendar}
 use Rattle.opa_tree.specs.declared.rulebase.Rulebase.{Rulebase}
 
-below : (m n : ℕ) → nat_lt m n ≡ true → m < n
-below m n h = grind (arith, h)
-
 -- a value that has a kind is of the calendar where it is a day
 of_kind : (k : Kind) (v : Value) → has_kind k v ≡ true → IsOfCalendar v
 of_kind k value.Unknown h = tt
@@ -26,7 +23,7 @@ of_kind k value.Uncertain h = tt
 of_kind k (value.Bool b) h = tt
 of_kind k (value.Num n) h = tt
 of_kind k (value.Words t) h = tt
-of_kind k (value.Day d) h = below d DAYS (and_parts (is_date k) (nat_lt d DAYS) h).1
+of_kind k (value.Day d) h = ltb-true d DAYS (and_parts (is_date k) (nat_lt d DAYS) h).1
 
 pub value_is : ValuesHaveKinds → (r : Rulebase) (c : CaseView) → IsOf r c → (a : AttrId) (i : InstanceId) (d : ℕ) → IsOfCalendar (value_at r c a i d)
 value_is kinds r c is a i d = of_kind (kind_of r a) (value_at r c a i d) (kinds r c is a i d)
