@@ -1,5 +1,5 @@
 -- Goals that are known on every day, by their lines.
-use Rattle.std.proofs.Common.{◌≡◌, ◌≢◌, ◌↔◌, ◌⊎◌, inl, inr, ℕ, zero, suc, ◌+◌, ◌<◌, ◌≤◌, Bool, true, false, cond, not, ◌&&◌, ◌||◌, ◌==◌, List, [], ◌∷◌, length, drop, Option, None, Some, is_some, refl, sym, ◌∙◌, ap, subst, arith, add-one}
+use Rattle.std.proofs.Common.{◌≡◌, ◌≢◌, ◌↔◌, ◌⊎◌, inl, inr, ℕ, zero, suc, ◌+◌, ◌<◌, ◌≤◌, Bool, true, false, cond, not, ◌&&◌, ◌||◌, ◌==◌, List, [], ◌∷◌, length, drop, Option, None, Some, is_some, refl, sym, ◌∙◌, ap, subst, arith}
 use Rattle.std.specs.Prelude.{find, nat_le, is_none, slice_get}
 use Rattle.std.specs.FinMap.{get}
 use Rattle.std.specs.List.{list_any, list_all, AllByRecursion}
@@ -7,6 +7,7 @@ use Rattle.std.proofs.lemmas.Bool.{le-leb, lt-leb, eq-eqb, and_parts}
 use Rattle.std.proofs.lemmas.Option.{slice_get_past}
 use Rattle.opa_io.proofs.Bools.{same_truth}
 use Rattle.opa_io.proofs.Numbers.{found_passes}
+use Rattle.opa_io.proofs.Places.{drop_at}
 use Rattle.opa_date.specs.declared.TheConstants.{DAYS}
 use Rattle.opa_value.specs.declared.value.Value.{Value}
 use Rattle.opa_value.specs.declared.value.Value.TheVariants.{Unknown}
@@ -227,15 +228,6 @@ module _ (r : Rulebase) (c : CaseView) where
       stays v w (inr same) known = sym same
 
 -- ---- the loop over goals
-
-drop_at : (goals : List AttrId) (n : ℕ) (a : AttrId) → slice_get goals n ≡ Some a → drop n goals ≡ a ∷ drop (n + 1) goals
-drop_at [] n a e = absurd (none_there n a e)
-  where
-    none_there : (n : ℕ) (a : AttrId) → slice_get [] n ≡ Some a → ⊥
-    none_there zero a e = cc e
-    none_there (suc n) a e = cc e
-drop_at (b ∷ goals) zero a e = let same : b ≡ a = cc e in ap (λ x. x ∷ goals) same
-drop_at (b ∷ goals) (suc n) a e = drop_at goals n a e ∙ ap (λ m. a ∷ drop m goals) (add-one n) ∙ sym (ap (λ m. a ∷ drop m (b ∷ goals)) (add-one (suc n)))
 
 none_behind : (goals : List AttrId) (n : ℕ) → length goals ≤ n → drop n goals ≡ []
 none_behind [] zero over = refl

@@ -9,8 +9,6 @@ use Rattle.serde_json.specs.Read.{max_depth}
 use Rattle.serde_json.specs.View.{items_of}
 use Rattle.serde_json.specs.Written.{compact_text, has_float, items_have_float}
 use Rattle.opa_value.specs.declared.value.Value.{Value}
-use Rattle.opa_value.specs.declared.value.Value.TheVariants as value
-use Rattle.opa_date.specs.declared.TheConstants.{DAYS}
 use Rattle.opa_model.specs.declared.lists.Lists.{Lists}
 use Rattle.opa_model.specs.declared.things.Kind.{Kind}
 use Rattle.opa_model.specs.Models.{IsModel}
@@ -18,27 +16,19 @@ use Rattle.opa_cells.specs.declared.instance.InstanceId.{InstanceId}
 use Rattle.opa_case.specs.Live.{members, live_of}
 use Rattle.opa_case.specs.Cases.{CaseView, Answer, stored, list_of}
 use Rattle.opa_case.specs.Shapes.{Shape, IsShape, shape_of, attribute_or, relation_or}
-use Rattle.opa_case.specs.Steps.{has_kind, is_date}
+use Rattle.opa_case.specs.Steps.{has_kind}
 use Rattle.opa_case.proofs.Losing.{is_every}
 use Rattle.opa_case.proofs.Lively.{same_live}
 use Rattle.opa_case.proofs.Shaped.{shape_is}
-use Rattle.opa_text.specs.Texts.{IsOfCalendar}
-use Rattle.std.proofs.lemmas.Bool.{ltb-true, and_parts}
+use Rattle.std.proofs.lemmas.Bool.{and_parts}
 use Rattle.opa_io.proofs.Options.{none_by}
 use Rattle.opa_io.proofs.Lists.{flat_map_same}
+use Rattle.opa_text.proofs.ValueDays.{value_days}
 use Rattle.opa_saved.specs.Digests.{digest}
 use Rattle.opa_saved.specs.Saved.{pair_data, list_data, answer_entry, list_entry, entry_of, rel, attr, lists_of, lists_upto, answers_of, answers_upto, whole_data, saved_data, saved_text}
 use Rattle.opa_saved.specs.Told.{AreOfCalendar, HasDays, FitsModel, lists_told, told_upto}
 
 -- ---- the days of answers
-
-value_days : (k : Kind) (v : Value) → has_kind k v ≡ true → IsOfCalendar v
-value_days k value.Unknown h = tt
-value_days k value.Uncertain h = tt
-value_days k (value.Bool b) h = tt
-value_days k (value.Num n) h = tt
-value_days k (value.Words t) h = tt
-value_days k (value.Day d) h = ltb-true d DAYS (and_parts (is_date k) _ h).1
 
 line_days : (k : Kind) (l : Answer) → list_all (λ (p : ℕ × Value). has_kind k p.1) l ≡ true → AreOfCalendar l
 line_days k [] h = tt
