@@ -1,0 +1,4 @@
+pub mod AlikeLaws
+pub mod PlainLaws
+pub mod RangeLaws
+pub mod UptoLaws

@@ -1,0 +1,4 @@
+pub mod Alike
+pub mod Description
+pub mod Parts
+pub mod Ranges
