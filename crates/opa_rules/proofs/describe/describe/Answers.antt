@@ -1,0 +1,25 @@
+use Rattle.std.proofs.Common.{◌∙◌}
+use Rattle.opa_io.proofs.Appended.{Appends-none}
+use Rattle.opa_rules.specs.Promises.{Outside, outside}
+use Rattle.opa_rules.proofs.DescribeLaws.{tells_description, tells_refusal, not_taken}
+use Rattle.opa_rules.proofs.describe.describe.Goals as goal
+
+pub returns-in-Ok-text-clause-describes : goal.returns-in-Ok-text-clause-describes
+returns-in-Ok-text-clause-describes g c =
+    let F = g.F.Shelf in let K = g.K.Sink in
+    let old : Outside = outside F.files F.take_faults K.written K.faults c.args.shelf.now c.args.out.now in
+    let new : Outside = outside F.files F.take_faults K.written K.faults c.load_rulebase.new.shelf c.tell.new.out in
+    tells_description c.args.name.now old new c.in-Ok.base _ c.tell.result c.in-Ok.ensures.accepted (c.as_slice.ensures.value ∙ c.in-Ok-text.ensures.text) c.tell.ensures
+
+pub returns-in-Ok-clause-describes : goal.returns-in-Ok-clause-describes
+returns-in-Ok-clause-describes g c = Appends-none (g.K.Sink.written c.args.out.now)
+
+pub returns-in-Refused-clause-describes : goal.returns-in-Refused-clause-describes
+returns-in-Refused-clause-describes g c =
+    let F = g.F.Shelf in let K = g.K.Sink in
+    let old : Outside = outside F.files F.take_faults K.written K.faults c.args.shelf.now c.args.out.now in
+    let new : Outside = outside F.files F.take_faults K.written K.faults c.load_rulebase.new.shelf c.tell-in-Refused.new.out in
+    tells_refusal c.args.name.now old new c.in-Err.error c.in-Refused.fault c.in-Refused.text _ c.tell-in-Refused.result c.in-Refused.is c.in-Err.ensures.refused (c.as_bytes.ensures.value ∙ c.as_str.ensures) c.tell-in-Refused.ensures
+
+pub returns-in-ReadFault-clause-describes : goal.returns-in-ReadFault-clause-describes
+returns-in-ReadFault-clause-describes g c = not_taken (g.F.Shelf.files c.args.shelf.now) c.args.name.now (g.K.Sink.written c.args.out.now) _ _ c.in-Err.error c.in-ReadFault.is c.in-Err.ensures.refused

@@ -1,0 +1,73 @@
+-- What the program promises, whatever words, files and outside it is given.
+use Rattle.std.specs.Prelude.{String, map, ℕ, ◌≡◌, List, [], Option, None, Some, IfSome, Result, Ok, Err}
+use Rattle.std.specs.String.{string_bytes}
+use Rattle.std.specs.declared.alloc.Global.{Global}
+use Rattle.std.specs.Io.KnownBytes.{Appends}
+use Rattle.opa_io.specs.declared.fault.Status.{Status}
+use Rattle.opa_io.specs.declared.fault.Status.TheVariants as status
+use Rattle.opa_io.specs.Outside.{Files, Rose, AppendsFront}
+use Rattle.opa_outside.specs.Telling.{IsTold}
+use Rattle.opa_tree.specs.declared.rulebase.Rulebase.{Rulebase}
+use Rattle.opa_rulebase.specs.Loading.{Opens}
+use Rattle.opa_describe.specs.Description.{described}
+use Rattle.opa_rules.specs.declared.reading.Mode.{Mode}
+use Rattle.opa_rules.specs.declared.reading.Mode.TheVariants as mode
+use Rattle.opa_rules.specs.Asked.{asked_of, usage}
+
+-- the description of an accepted rulebase, or the printed refusal
+abbrev pub answer : Result Rulebase (List ℕ) → List ℕ
+answer (Ok base) = described base
+answer (Err text) = text
+
+-- What is told of the outside: the files of the shelf, the bytes that were written, and the counts of faults of taking files and of
+-- writing.
+pub record Outside : Type 0 where
+  pub files : Option Files
+  pub written : Option (List ℕ)
+  pub takes : ℕ
+  pub writes : ℕ
+
+abbrev pub outside : {F K : Type 0} → (F → Option Files) → (F → ℕ) → (K → Option (List ℕ)) → (K → ℕ) → F → K → Outside
+outside files takes written writes shelf out = record { files = files shelf; written = written out; takes = takes shelf; writes = writes out }
+
+module _ (name : List ℕ) (old new : Outside) where
+  -- what the files open under the name is of this sort
+  abbrev pub Opening : (Result Rulebase (List ℕ) → Type 0) → Type 0
+  Opening Is = IfSome old.files (λ files. (opened : Result Rulebase (List ℕ)) × Opens files name opened × Is opened)
+
+  -- a rulebase, whose description was written
+  abbrev pub WroteDescription : Result Rulebase (List ℕ) → Type 0
+  WroteDescription (Ok base) = Appends old.written new.written (described base)
+  WroteDescription (Err text) = ⊥
+
+  -- a refusal, which was written
+  abbrev pub WroteRefusal : Result Rulebase (List ℕ) → Type 0
+  WroteRefusal (Ok base) = ⊥
+  WroteRefusal (Err text) = Appends old.written new.written text
+
+  -- How a description ends: with Done the files open a rulebase, and its description was written; with Refused they open a refusal,
+  -- which was written. With WriteFault the sink failed, and a front of that was written. Else nothing was written: taking a file
+  -- failed, or there was no memory.
+  abbrev pub Describes : Status → Type 0
+  Describes status.Done = Opening WroteDescription
+  Describes status.Refused = Opening WroteRefusal
+  Describes status.Usage = ⊥
+  Describes status.ReadFault = Rose old.takes new.takes × Appends old.written new.written []
+  Describes status.WriteFault = Rose old.writes new.writes × Opening (λ opened. AppendsFront old.written new.written (answer opened))
+  Describes status.NoMemory = Appends old.written new.written []
+  Describes status.InputLimit = ⊥
+
+abbrev pub words_of : List (String Global) → List (List ℕ)
+words_of words = map (λ w. string_bytes w) words
+
+-- the words of the command line ask for the mode over the name
+abbrev pub Asks : List (String Global) → Mode → List ℕ → Type 0
+Asks words m name = asked_of (words_of words) ≡ Some (m, name)
+
+pub record Promises (words : List (String Global)) (old new : Outside) (result : Status) : Type 0 where
+  -- Where the words are of no mode, the usage line is written.
+  pub usage : asked_of (words_of words) ≡ None → IsTold status.Usage usage old.written new.written old.writes new.writes result
+  -- The mode `describe` describes what the files open under the name.
+  pub describe : (name : List ℕ) → Asks words mode.Describe name → Describes name old new result
+  -- The files stay as they are.
+  pub files : new.files ≡ old.files
