@@ -2,6 +2,7 @@
 from __future__ import annotations
 
 import json
+import os
 import pathlib
 import re
 import subprocess
@@ -18,9 +19,11 @@ FORMAT = {"name": "sennabasket description", "version": 1}
 
 @dataclass(frozen=True)
 class Rule:
+    """Where a rule stands, and what it mentions. Where no last line is told, it goes to the end of its block."""
+
     file: str
     line: int
-    last_line: int
+    last_line: int | None
     attributes: tuple[str, ...]
     lists: tuple[str, ...]
 
@@ -78,7 +81,7 @@ class Question:
 def rule(said: Mapping[str, Any] | None) -> Rule | None:
     if said is None:
         return None
-    return Rule(said["file"], said["line"], said["last_line"], tuple(said["mentions"]["attributes"]), tuple(said["mentions"]["lists"]))
+    return Rule(said["file"], said["line"], said.get("last_line"), tuple(said["mentions"]["attributes"]), tuple(said["mentions"]["lists"]))
 
 
 @dataclass
@@ -116,9 +119,15 @@ class Rulebase:
 
     @classmethod
     def describe(cls, rulebase: pathlib.Path | str, describe: pathlib.Path | str, opa: str | None = None) -> Rulebase:
-        """Runs the program that describes rulebases, and takes what it prints."""
-        words = [sys.executable, str(describe), str(rulebase)] + (["--opa", opa] if opa else [])
-        done = subprocess.run(words, capture_output=True, text=True, timeout=120)
+        """Runs the program that describes rulebases, and takes what it prints: `rules`, where the environment names one as RULES."""
+        path, rules = pathlib.Path(rulebase), os.environ.get("RULES")
+        if rules:
+            rules = str(pathlib.Path(rules).resolve()) if "/" in rules else rules
+        words = [rules, "describe", path.name] if rules else [sys.executable, str(describe), str(path)] + (["--opa", opa] if opa else [])
+        try:
+            done = subprocess.run(words, cwd=path.parent if rules else None, capture_output=True, text=True, timeout=120)
+        except OSError as error:
+            raise Fault(f"the rulebase can't be described: {error}") from error
         if done.returncode == 1:
             raise RulebaseRefused(done.stdout.strip())
         if done.returncode:
@@ -142,8 +151,12 @@ class Rulebase:
         return next(r for r in self.lists.values() if r.sort == "contains" and r.to == entity)
 
     def text_of(self, file: str, line: int, last: int | None = None) -> list[str]:
-        """The lines of a rule file from one to another one."""
+        """The lines of a rule file from one to another one, and where none is named to the end of the block."""
         if file not in self.files:
             raise Fault(f"this is no file of the rulebase: {file[:100]}")
         lines = (self.folder / file).read_text(encoding="utf-8-sig").split("\n")
-        return [text.rstrip() for text in lines[line - 1 : last or line]]
+        if last is None:
+            last = next((place for place in range(line, len(lines)) if re.match(r"[^\s#]", lines[place])), len(lines))
+            while last > line and re.match(r"\s*(#|$)", lines[last - 1]):
+                last -= 1
+        return [text.rstrip() for text in lines[line - 1 : last]]
