@@ -1,5 +1,5 @@
 -- What rows have at a key.
-use Rattle.std.specs.Prelude.{◌≡◌, ℕ, Bool, true, false, cond, ◌==◌, ◌&&◌, not, List, [], ◌∷◌, Option, None, Some, Result, Ok, Err, OnOk, OnErr, IsSome, IsNone, refl}
+use Rattle.std.specs.Prelude.{◌≡◌, ℕ, Bool, true, false, cond, ◌==◌, ◌&&◌, not, List, [], ◌∷◌, Option, None, Some, Result, Ok, Err, IfOk, OnOk, OnErr, IsSome, IsNone, refl}
 use Rattle.std.specs.Option.{option_and_then, option_or}
 use Rattle.std.specs.Map.{lookup}
 use Rattle.std.specs.Ordering.{nat_cmp, is_eq, eq_by_cmp, ordering_then}
@@ -129,6 +129,10 @@ no_cell (Some r) j n = absurd (cc n)
 
 pub fresh : {V : Type 0} (rs : List (ℕ × BTreeMap InstanceId V)) (n : ℕ) (j : InstanceId) (es : List (InstanceId × V)) → IsNone (lookup (is_at (nat_cmp n)) rs) → es ≡ [] → cell es j ≡ in_rows rs n j
 fresh rs n j es none empty = ap (λ x. cell x j) empty ∙ no_cell (lookup (is_at (nat_cmp n)) rs) j none
+
+pub if_ok : {X E : Type 0} {P Q : X → Type 0} → (r : Result X E) → ((x : X) → P x → Q x) → IfOk r P → IfOk r Q
+if_ok (Ok x) f h = f x h
+if_ok (Err e) f h = h
 
 pub on_ok : {X E : Type 0} {P Q : Type 0} → (r : Result X E) → (P → Q) → OnOk r P → OnOk r Q
 on_ok (Ok x) f h = f h

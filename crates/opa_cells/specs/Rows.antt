@@ -1,7 +1,7 @@
 -- A map that is kept as a row for each number, and in it a cell for each instance.
-use Rattle.std.specs.Prelude.{◌≡◌, ◌+◌, is_some, ℕ, Bool, cond, ◌==◌, not, List, [], ◌∷◌, ◌++◌, length, Option, None, Some}
+use Rattle.std.specs.Prelude.{◌≡◌, ◌+◌, ℕ, Bool, cond, ◌==◌, not, List, [], ◌∷◌, ◌++◌, length, Option, None, Some}
 use denote.Ref.{Bor}
-use Rattle.std.specs.FinMap.{FinMap, empty, get, insert, len, retain_keys}
+use Rattle.std.specs.FinMap.{FinMap, empty, insert, len, retain_keys}
 use Rattle.std.specs.BTreeMap.{BTreeMap, is_at}
 use Rattle.std.specs.Map.{lookup, keys_of}
 use Rattle.std.specs.List.Sorted.{IsStrictlySortedBy}
@@ -54,10 +54,6 @@ AreInOrder (r ∷ rs) = IsStrictlySortedBy instance_cmp (keys_of r.1.entries) ×
 -- how many cells a map has at a number
 abbrev pub cells_at : {V : Type 0} → FinMap cell_cmp V → ℕ → ℕ
 cells_at m n = len (retain_keys m (λ k. k.0 == n))
-
--- how many cells a map has with one at the key
-abbrev pub counted_with : {V : Type 0} → FinMap cell_cmp V → ℕ × InstanceId → ℕ
-counted_with m k = cond (is_some (get m k)) (len m) (len m + 1)
 
 -- a cell that is lent, as an entry
 abbrev pub seen : {V : Type 0} → ℕ × Bor InstanceId × Bor V → (ℕ × InstanceId) × V

@@ -27,10 +27,10 @@ impl<V> Cells<V> {
         ensures* writes_back { sem 𝓛 (lends_cell V.row self.entry number inst.now result) }
         ensures value { option_copied_mut result ≡ map.get self.old (number, inst.now) }
     {
-        if !self.rows.has(number, inst) {
-            return None;
+        match self.rows.get_mut(number, inst) {
+            Some(value) => Some(value),
+            None => None,
         }
-        self.rows.get_mut(number, inst)
     }
 
     /// Puts a value in the place of the one at a key, and gives that one back. The value comes back where the key isn't there.

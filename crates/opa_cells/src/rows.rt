@@ -1,4 +1,4 @@
-ghost use Rattle.std.specs.Prelude.{map as items, ◌≡◌, ◌<◌, ◌^◌, ◌++◌, length, IfOk, OnOk, OnErr, is_some, IsNone, Some, ℕ, Bool};
+ghost use Rattle.std.specs.Prelude.{map as items, ◌≡◌, ◌<◌, ◌^◌, ◌++◌, length, IfOk, OnOk, OnErr, is_some, IsNone, Some, None, not, true, ℕ, Bool};
 ghost use Rattle.std.specs.Option.{option_copied};
 ghost use Rattle.std.specs.FinMap as map;
 ghost use Rattle.std.specs.BTreeMap as tree;
@@ -53,7 +53,14 @@ impl<V> Rows<V> {
 }
 
 impl<V: Drop> Rows<V> {
-    pub(crate) fn insert(&mut self, number: u32, inst: InstanceId, value: V) -> Result<(), NoMemory>
+    /// Whether the cell is new.
+    pub(crate) fn insert(
+        &mut self,
+        number: u32,
+        inst: InstanceId,
+        value: V,
+    ) -> Result<bool, NoMemory>
+        ensures new { IfOk result (λ new. new ≡ not (is_some (map.get self.old (number, inst)))) }
         ensures ok { OnOk result (self.new ≡ map.insert self.old (number, inst) value) }
         ensures err { OnErr result (self.new ≡ self.old) }
     {
@@ -64,11 +71,14 @@ impl<V: Drop> Rows<V> {
         }
     }
 
-    pub(crate) fn remove(&mut self, number: u32, inst: &InstanceId)
-        ensures { self.new ≡ map.remove self.old (number, inst.now) }
+    /// Whether there was a cell.
+    pub(crate) fn remove(&mut self, number: u32, inst: &InstanceId) -> bool
+        ensures was { result ≡ is_some (map.get self.old (number, inst.now)) }
+        ensures removed { self.new ≡ map.remove self.old (number, inst.now) }
     {
-        if let Some(row) = self.rows.get_mut(&number) {
-            row.remove(inst);
+        match self.rows.get_mut(&number) {
+            Some(row) => take_out(row, inst),
+            None => false,
         }
     }
 }
@@ -77,14 +87,23 @@ fn put<V: Drop>(
     row: &mut BTreeMap<InstanceId, V>,
     inst: InstanceId,
     value: V,
-) -> Result<(), NoMemory>
+) -> Result<bool, NoMemory>
+    ensures new { IfOk result (λ new. new ≡ not (is_some (cell row.old.entries inst))) }
     ensures ok { OnOk result (SetsCell row.old.entries row.new.entries inst (Some value)) }
     ensures err { OnErr result (row.new.entries ≡ row.old.entries) }
 {
     match row.insert(inst, value) {
-        Ok(_) => Ok(()),
+        Ok(old) => Ok(old.is_none()),
         Err(_) => Err(NoMemory),
     }
+}
+
+/// Whether there was a cell.
+fn take_out<V: Drop>(row: &mut BTreeMap<InstanceId, V>, inst: &InstanceId) -> bool
+    ensures was { result ≡ is_some (cell row.old.entries inst.now) }
+    ensures removed { SetsCell row.old.entries row.new.entries inst.now None }
+{
+    row.remove(inst).is_some()
 }
 
 /// Inserts a row with one cell, at a number that has none.
@@ -94,15 +113,16 @@ fn put_row<V: Drop>(
     number: u32,
     inst: InstanceId,
     value: V,
-) -> Result<(), NoMemory>
+) -> Result<bool, NoMemory>
     requires { IsNone (tree.get nat_cmp rows.old number) }
+    ensures new { IfOk result (λ new. new ≡ true) }
     ensures ok { OnOk result (with_rows rows.new.entries ≡ map.insert (with_rows rows.old.entries) (number, inst) value) }
     ensures err { OnErr result (rows.new.entries ≡ rows.old.entries) }
 {
     let mut row = BTreeMap::new(alloc);
     put(&mut row, inst, value)?;
     match rows.insert(number, row) {
-        Ok(_) => Ok(()),
+        Ok(_) => Ok(true),
         Err(_) => Err(NoMemory),
     }
 }
@@ -134,12 +154,6 @@ fn retain_row<V: Drop, K: Keeps<V>>(row: &mut BTreeMap<InstanceId, V>, number: u
 }
 
 impl<V> Rows<V> {
-    pub(crate) fn has(&self, number: u32, inst: &InstanceId) -> bool
-        ensures { result ≡ is_some (map.get self.now (number, inst.now)) }
-    {
-        self.get(number, inst).is_some()
-    }
-
     /// How many cells there are.
     pub(crate) fn counted(&self) -> u64
         ensures { map.len self.now < 2 ^ 64 → result ≡ map.len self.now }

@@ -1,7 +1,7 @@
-use Rattle.std.proofs.Common.{sym, ap, ◌∙◌, Some}
+use Rattle.std.proofs.Common.{sym, ap, ◌∙◌, Some, not, is_some}
 use Rattle.std.specs.Option.{option_copied_mut}
 use Rattle.std.specs.FinMap as map
-use Rattle.opa_cells.proofs.Rowed.{row_set, row_kept, inserted, on_ok, on_err}
+use Rattle.opa_cells.proofs.Rowed.{at_row, row_set, row_kept, inserted, if_ok, on_ok, on_err}
 use Rattle.opa_cells.proofs.rows.Rows.insert.Goals as goal
 
 pub returns-in-Some-clause-ok : goal.returns-in-Some-clause-ok
@@ -20,3 +20,15 @@ returns-in-Some-clause-err g c =
     let at = sym c.get_mut.ensures.value ∙ ap option_copied_mut c.in-Some.is in
     on_err c.put.result (λ same.
     row_kept rs rs' c.args.number c.in-Some.row.now c.put.new.row at (λ some. ((c.get_mut.follows.holds c.put.new.row).3 some).0) same ∙ c.self.view_is) c.put.ensures.err
+
+pub returns-in-Some-clause-new : goal.returns-in-Some-clause-new
+returns-in-Some-clause-new g c =
+    let rs = c.self.inside.rows.entries in
+    let at = sym c.get_mut.ensures.value ∙ ap option_copied_mut c.in-Some.is in
+    if_ok c.put.result (λ new told. told ∙ ap (λ o. not (is_some o)) (at_row rs c.args.number c.args.inst _ (sym at) ∙ ap (λ m. map.get m (c.args.number, c.args.inst)) c.self.view_is)) c.put.ensures.new
+
+pub returns-in-None-clause-new : goal.returns-in-None-clause-new
+returns-in-None-clause-new g c =
+    let rs = c.self.inside.rows.entries in
+    let none = sym c.get_mut.ensures.value ∙ ap option_copied_mut c.in-None.is in
+    if_ok c.put_row.result (λ new told. told ∙ ap (λ o. not (is_some o)) (at_row rs c.args.number c.args.inst _ (sym none) ∙ ap (λ m. map.get m (c.args.number, c.args.inst)) c.self.view_is)) c.put_row.ensures.new
