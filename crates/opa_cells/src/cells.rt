@@ -6,7 +6,8 @@ ghost use Rattle.opa_cells.specs.Rows.{kept_if, cells_at, insert_all, seen};
 ghost use Rattle.opa_cells.specs.declared.instance.InstanceId.{InstanceId as InstanceView};
 
 use crate::instance::InstanceId;
-use crate::rows::{Keeps, Rows};
+use crate::keeps::Keeps;
+use crate::rows::Rows;
 use opa_io::NoMemory;
 use std::alloc::Global;
 use std::marker::Model;

@@ -3,11 +3,21 @@ ghost use Rattle.std.specs.Prelude.{◌≡◌, Some, None, IfOk, IfErr, IsOk, On
 ghost use Rattle.std.specs.Borrow.{sem};
 ghost use Rattle.std.specs.Option.{option_copied_mut};
 ghost use Rattle.std.specs.FinMap as map;
-ghost use Rattle.opa_cells.specs.Lending.{lends_cell, lends_row_cell};
+ghost use Rattle.opa_cells.specs.Lending.{lends_cell, lends_row_cell, lends_in_row};
 
 use crate::cells::Cells;
 use crate::instance::InstanceId;
+use crate::row::Row;
 use crate::rows::Rows;
+
+impl<V> Row<V> {
+    pub(crate) fn get_mut(&mut self, inst: &InstanceId) -> Option<&mut V>
+        ensures* writes_back { sem 𝓛 (lends_in_row V.row self.entry inst.now result) }
+        ensures value { option_copied_mut result ≡ map.get self.old inst.now }
+    {
+        self.cells.get_mut(inst)
+    }
+}
 
 impl<V> Rows<V> {
     pub(crate) fn get_mut(&mut self, number: u32, inst: &InstanceId) -> Option<&mut V>
