@@ -1,5 +1,5 @@
 -- The cells of a record, one after another.
-use Rattle.std.proofs.Common.{Bor, ◌≡◌, ◌≢◌, ◌==◌, ◌<◌, ◌+◌, ℕ, suc, Bool, true, false, List, [], ◌∷◌, length, drop, get_or, is_some, inl, inr, refl, sym, ap, ◌∙◌, subst, add-one, drop-cons}
+use Rattle.std.proofs.Common.{Bor, ◌≡◌, ◌≢◌, ◌==◌, ◌+◌, ℕ, Bool, true, false, List, [], ◌∷◌, length, drop, is_some, inl, inr, refl, sym, ap, ◌∙◌, subst}
 use Rattle.std.specs.Prelude.{Option, None, Some, Result, Ok, Err}
 use Rattle.std.specs.Option.{option_map}
 use Rattle.csv.specs.Records.{field_at}
@@ -82,9 +82,6 @@ module _ (r : Rulebase) (heads : List Head) (cells : List (List ℕ)) (first : C
       pub way_goes_on : (d : CaseView) (o : Option (List ℕ)) → is_some o ≡ false → IsCell r (place + 1) c h cell (left_by o d) → IsOnTheWay r heads cells first (place + 1) d
       way_goes_on d None e is = record { leads = λ x k. under x (inr (d, is, k)) }
       way_goes_on d (Some text) e is = absurd (cc e)
-
-pub item_at : {A : Type 0} (items : List A) (place : ℕ) (x : A) → place < length items → x ≡ get_or items place x → drop place items ≡ x ∷ drop (place + 1) items
-item_at items place x lt is = drop-cons items place x lt ∙ ap (λ y. y ∷ drop (suc place) items) (sym is) ∙ ap (λ n. x ∷ drop n items) (sym (add-one place))
 
 -- ---- a record
 

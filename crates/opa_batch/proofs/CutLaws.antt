@@ -1,7 +1,6 @@
 -- What is left of an input while its records are cut.
 use Rattle.std.proofs.Common.{Bor, ◌≡◌, ◌≤◌, ◌<◌, ◌+◌, ◌⊎◌, ℕ, zero, suc, Bool, true, false, List, [], ◌∷◌, ◌++◌, length, inl, inr, refl, sym, ap, ◌∙◌, subst, arith, if◌then◌else◌}
-use Rattle.std.specs.Prelude.{Option, None, Some, take, drop}
-use Rattle.std.specs.Str.{bytes_eq}
+use Rattle.std.specs.Prelude.{Option, None, Some, drop}
 use Rattle.std.proofs.lemmas.List.{drop_all, length-drop}
 use Rattle.csv.specs.Machine.{Read, ends_at_end, is_end, next_record, step, fields_after, field_after}
 use Rattle.csv.specs.Reading.{AreRecords, Reached, ReadRecord, Ready, default_config, is_bom, reader_config, reader_state, reader_trim, source_of, strip_bom, took_first}
@@ -12,8 +11,9 @@ use Rattle.csv.specs.declared.reader.Reader.{Reader}
 use Rattle.csv.specs.declared.reader.Trim.TheVariants as trim
 use Rattle.csv.proofs.ReadFacts.{rows-end, rows-more}
 use Rattle.opa_layout.specs.Lines.{without_mark}
+use Rattle.opa_layout.proofs.ShortLaws.{without_mark-shorter}
 use Rattle.opa_table.specs.Records.{csv_records, table_records}
-use Rattle.opa_table.proofs.RecordLaws.{records-reached}
+use Rattle.opa_table.proofs.RecordLaws.{records-reached, same}
 use Rattle.opa_batch.specs.Cutting.{CutsOne, HasLeft, IsAt, below}
 
 abbrev pub Cells : Type 0
@@ -23,9 +23,6 @@ Cells = List (List ℕ)
 
 abbrev Takes : ℕ → Read → Type 0
 Takes n p = (length p.2 < n) ⊎ ((p.1 ≡ st.StartRecord) × (p.2 ≡ []))
-
-same : (x p : Read) → Some x ≡ Some p → x ≡ p
-same x p e = cc e
 
 takes : (cfg : Config) (s : State) (fields : List (List ℕ)) (field xs : List ℕ) (p : Read) → next_record cfg s fields field xs ≡ Some p → Takes (length xs) p
 unfolding next_record
@@ -158,13 +155,6 @@ short_text (a ∷ b ∷ c ∷ rest) = by (is_bom a b c)
     by true = omega arith
     by false = omega arith
 
-short_mark : (xs : List ℕ) → length (without_mark xs) ≤ length xs
-short_mark xs = by (bytes_eq (take 3 xs) (239 ∷ 187 ∷ 191 ∷ []))
-  where
-    by : (t : Bool) → length (if t then drop 3 xs else xs) ≤ length xs
-    by true = omega (arith, length-drop 3 xs)
-    by false = omega arith
-
 few_records : (bytes : List ℕ) → length (csv_records bytes) ≤ length bytes + 1
 few_records bytes =
     let text = strip_bom bytes in
@@ -173,7 +163,7 @@ few_records bytes =
     omega (arith, few, short_text bytes, ap length (records-reached bytes all.0 all.1))
 
 pub few_below : (bytes : List ℕ) → length (below bytes) ≤ length bytes
-few_below bytes = omega (arith, length-drop 1 (table_records bytes), few_records (without_mark bytes), short_mark bytes)
+few_below bytes = omega (arith, length-drop 1 (table_records bytes), few_records (without_mark bytes), without_mark-shorter bytes)
 
 -- ---- where a reader stands
 

@@ -6,6 +6,7 @@ pub mod WriterLaws
 pub mod EmptyLaws
 pub mod SameLaws
 pub mod MakingLaws
+pub mod PartLaws
 pub mod KeptLaws
 pub mod CountLaws
 pub mod ServeLaws

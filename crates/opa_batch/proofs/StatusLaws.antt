@@ -1,17 +1,17 @@
 -- What each status of a batch says, from how it ended.
-use Rattle.std.proofs.Common.{◌≡◌, ◌≢◌, ◌≤◌, ◌⊎◌, inl, inr, ℕ, List, [], ◌∷◌, length, append-nil, refl, sym, subst, arith}
+use Rattle.std.proofs.Common.{◌≡◌, ◌≢◌, ◌≤◌, ◌⊎◌, inl, inr, ℕ, List, [], ◌∷◌, length, refl, sym, subst, arith}
 use Rattle.std.specs.Prelude.{Option, None, Some, IfSome, Result, Ok, Err}
 use Rattle.std.specs.Io.KnownBytes.{Appends, Consumes, IsAtEnd}
 use Rattle.opa_io.specs.Outside.{Files, AppendsFront}
 use Rattle.opa_io.proofs.Appended.{Consumes-none}
 use Rattle.opa_io.specs.declared.fault.Status.{Status}
 use Rattle.opa_io.specs.declared.fault.Status.TheVariants as status
+use Rattle.opa_io.proofs.Outsides.{read_whole, read_within}
 use Rattle.opa_rulebase.specs.Loading.{Opens}
 use Rattle.opa_table.specs.Records.{table_records}
 use Rattle.opa_tree.specs.declared.rulebase.Rulebase.{Rulebase}
 use Rattle.opa_outside.specs.Outside.{MOST, Outside, IsUnused, ReadAtMost, Calm}
 use Rattle.opa_outside.specs.Telling.{IsTold}
-use Rattle.opa_outside.proofs.OutsideLaws.{read_whole, read_within}
 use Rattle.opa_batch.specs.Batches.{Gives, GivesOf}
 use Rattle.opa_batch.specs.Serving.{IsOpened, Works, Decides, Serves}
 use Rattle.opa_batch.specs.Statuses.{WroteOver, WroteRefusal, WroteFront, Wrote, OpensBase, HasCause, IsAnswered, Completes}
@@ -20,9 +20,6 @@ use Rattle.opa_batch.specs.Promises.{Promises}
 told_with : (P Q : Files → Type 0) (o : Option Files) → IfSome o P → ((files : Files) → P files → Q files) → IfSome o Q
 told_with P Q None h f = tt
 told_with P Q (Some files) h f = f files h
-
-front_all : (a b : Option (List ℕ)) (text : List ℕ) → Appends a b text → AppendsFront a b text
-front_all a b text h = (text, [], append-nil text, h)
 
 -- what is given ends with Done or with Refused
 given_good : (base : Rulebase) (records : List (List (List ℕ))) (good : Status) (text : List ℕ) (P : Status → Type 0) → P status.Done → P status.Refused → GivesOf base records good text → P good

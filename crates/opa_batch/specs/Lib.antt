@@ -1,6 +1,7 @@
 pub mod Heads
 pub mod Columns
 pub mod Numbered
+pub mod Parts
 pub mod Cutting
 pub mod Gathered
 pub mod Known

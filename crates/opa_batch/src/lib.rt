@@ -10,6 +10,7 @@ mod faults;
 mod head;
 mod heading;
 mod kept;
+mod laws;
 mod lines;
 mod making;
 mod records;
@@ -19,3 +20,4 @@ mod serving;
 
 pub use calling::batch;
 pub use head::{Head, HeadFault, Sort};
+pub use laws::parts_are_the_whole;

@@ -4,13 +4,15 @@ use Rattle.std.specs.List.{AllByRecursion}
 use Rattle.std.specs.Map.{lookup}
 use Rattle.std.proofs.Common.{arith, ap, sym, subst, ◌∙◌, ◌⊎◌, inl, inr}
 use Rattle.std.proofs.lemmas.Map.Views.{exact_unsigned_eq}
+use Rattle.std.proofs.lemmas.Option.{same_Some}
+use Rattle.opa_io.proofs.Lists.{each_weaker}
 use Rattle.opa_cells.specs.declared.instance.InstanceId.{InstanceId}
 use Rattle.opa_cells.specs.Instances.{is_same, global, named}
 use Rattle.opa_case.specs.Shapes.{Shape}
 use Rattle.opa_case.specs.Live.{Names, Lists, Population, members, held, live_upto, live_of, is_live, container_of}
 use Rattle.opa_case.specs.Laws.{LiveByLists}
-use Rattle.opa_case.proofs.Lively.{all_weaker, all_live, members_live, live_later, same_live, AllLive}
-use Rattle.opa_case.proofs.Stands.{lookup_append, either_has, in_upto, has_live, container_found, some_is, Has, in_containers, earlier_in, is_in}
+use Rattle.opa_case.proofs.Lively.{all_live, members_live, live_later, same_live, AllLive}
+use Rattle.opa_case.proofs.Stands.{lookup_append, either_has, in_upto, has_live, container_found, Has, in_containers, earlier_in, is_in}
 
 -- what is of an entity among the members
 of_entity : (e : ℕ) (xs : Population) → AllByRecursion (λ c. c.entity.0 ≡ e) (map (λ p. p.0) (filter (λ p. p.0.entity.0 == e) xs))
@@ -20,7 +22,7 @@ of_entity e (x ∷ xs) = elim (x.0.entity.0 == e) as (λ b. (x.0.entity.0 == e) 
   | false ↦ λ _. of_entity e xs
 ] refl
 
-members_of : (e : ℕ) (xs : Population) → AllByRecursion (λ c. c.entity.0 ≡ e) (members e xs)
+pub members_of : (e : ℕ) (xs : Population) → AllByRecursion (λ c. c.entity.0 ≡ e) (members e xs)
 members_of e xs = elim (e == 0) as (λ b. (e == 0) ≡ b → AllByRecursion (λ c. c.entity.0 ≡ e) (cond b (global ∷ []) (map (λ p. p.0) (filter (λ p. p.0.entity.0 == e) xs)))) [
   | true ↦ λ h. (sym (exact_unsigned_eq e 0 h), tt)
   | false ↦ λ _. of_entity e xs
@@ -32,7 +34,7 @@ module _ (s : Shape) (l : Lists) where
   found_in e i c d [] h = absurd (cc h)
   found_in e i c d (n ∷ ns) h =
       elim (is_same i (named e n)) as (λ b. cond b (Some c) (lookup (is_same i) (map (λ m. (named e m, c)) ns)) ≡ Some d → d ≡ c) [
-        | true ↦ λ g. sym (some_is c d g)
+        | true ↦ λ g. sym (same_Some c d g)
         | false ↦ λ g. found_in e i c d ns g
       ] h
 
@@ -62,7 +64,7 @@ module _ (s : Shape) (l : Lists) where
       go (inl g) before at = before g
       go (inr g) before at =
           let cs = members (s.parent (suc n)) (live_upto s l n) in
-          let lives : AllLive (live_upto s l whole) (live_upto s l n) = all_weaker _ _ (λ (p : InstanceId × InstanceId) t. live_later s l (suc k) n whole (omega (arith, e)) p.0 t) (live_upto s l n) (all_live (live_upto s l n)) in
+          let lives : AllLive (live_upto s l whole) (live_upto s l n) = each_weaker _ _ (λ (p : InstanceId × InstanceId) t. live_later s l (suc k) n whole (omega (arith, e)) p.0 t) (live_upto s l n) (all_live (live_upto s l n)) in
           let f = found_among (λ c. (is_live (live_upto s l whole) c ≡ true) × (c.entity.0 ≡ s.parent (suc n))) (suc n) i d cs (both cs (members_live (live_upto s l whole) (s.parent (suc n)) (live_upto s l n) lives) (members_of (s.parent (suc n)) (live_upto s l n))) g in
           let own : i.entity.0 ≡ suc n = (in_containers s l (suc n) i d cs g).0 in
           (f.0, f.1 ∙ ap s.parent (sym own))

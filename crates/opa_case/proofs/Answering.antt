@@ -4,9 +4,10 @@ use Rattle.std.specs.Int.RustNames.{unsigned_abs}
 use Rattle.std.specs.List.{list_all}
 use Rattle.std.specs.FinMap.{FinMap, get, insert, remove, get-insert, get-remove}
 use Rattle.std.specs.Ordering.{eq_by_cmp}
-use Rattle.std.proofs.Common.{arith, ap, sym, subst, ◌∙◌, ◌⊎◌, inl, inr}
+use Rattle.std.proofs.Common.{arith, ap, sym, subst, ◌∙◌, ◌⊎◌, inl, inr, eq-eqb}
 use Rattle.std.proofs.lemmas.Map.Views.{tells_apart, exact_unsigned_eq}
-use Rattle.std.proofs.lemmas.Bool.{or_parts, and_parts}
+use Rattle.std.proofs.lemmas.Bool.{or_parts, and_parts, not-false}
+use Rattle.std.proofs.lemmas.Option.{same_Some}
 use Rattle.opa_value.specs.declared.value.Value.{Value}
 use Rattle.opa_value.specs.declared.value.Value.TheVariants as value
 use Rattle.opa_model.specs.declared.ids.AttrId.{AttrId}
@@ -20,8 +21,7 @@ use Rattle.opa_case.specs.Live.{is_live}
 use Rattle.opa_case.specs.Cases.{CaseView, Answer}
 use Rattle.opa_case.specs.Steps.{has_kind, in_bounds, is_unknown_answer, is_unanswerable, without_answer, with_answer, answer_fault}
 use Rattle.opa_case.specs.Fits.{has_two_decimals, IsAnswer, Fits}
-use Rattle.opa_case.proofs.Stands.{some_is, same_number}
-use Rattle.opa_case.proofs.Kept.{fault_none, not_false}
+use Rattle.opa_case.proofs.Kept.{fault_none}
 
 pub answer_removed : (m : FinMap cell_cmp Answer) (k q : ℕ × InstanceId) (v : Answer) → get (remove m k) q ≡ Some v → get m q ≡ Some v
 answer_removed m k q v h =
@@ -31,7 +31,7 @@ answer_removed m k q v h =
 pub answer_inserted : (m : FinMap cell_cmp Answer) (a : AttrId) (i : InstanceId) (v : Answer) (b : AttrId) (j : InstanceId) (w : Answer) → get (insert m (a.0, i) v) (b.0, j) ≡ Some w → ((b ≡ a) × (j ≡ i) × (v ≡ w)) ⊎ (get m (b.0, j) ≡ Some w)
 answer_inserted m a i v b j w h =
     elim (eq_by_cmp cell_cmp (b.0, j) (a.0, i)) as (λ t. eq_by_cmp cell_cmp (b.0, j) (a.0, i) ≡ t → cond t (Some v) (get m (b.0, j)) ≡ Some w → ((b ≡ a) × (j ≡ i) × (v ≡ w)) ⊎ (get m (b.0, j) ≡ Some w)) [
-      | true ↦ λ e g. let k = tells_apart cell_exact (b.0, j) (a.0, i) e in inl (ap (λ (x : ℕ × InstanceId). let c : AttrId = record { 0 = x.0 } in c) k, ap (λ (x : ℕ × InstanceId). x.1) k, some_is v w g)
+      | true ↦ λ e g. let k = tells_apart cell_exact (b.0, j) (a.0, i) e in inl (ap (λ (x : ℕ × InstanceId). let c : AttrId = record { 0 = x.0 } in c) k, ap (λ (x : ℕ × InstanceId). x.1) k, same_Some v w g)
       | false ↦ λ _ g. inr g
     ] refl (sym (get-insert cell_total m (a.0, i) v (b.0, j)) ∙ h)
 
@@ -57,7 +57,7 @@ two d n le h = go (exact_unsigned_eq (n % 10 ^ (4 - d)) 0 h) (below d le)
     below (suc (suc (suc k))) l = absurd (omega (arith, l))
 
     last : n % 100 ≡ 0 → (n % 10 ^ 2 == 0) ≡ true
-    last e = same_number (n % 100) 0 e
+    last e = eq-eqb (n % 100) 0 e
 
     go : n % 10 ^ (4 - d) ≡ 0 → (d ≡ 0) ⊎ ((d ≡ 1) ⊎ (d ≡ 2)) → (n % 10 ^ 2 == 0) ≡ true
     go e (inl k) = let f : n % 10000 ≡ 0 = ap (λ x. n % 10 ^ (4 - x)) (sym k) ∙ e in last (omega (arith, f))
@@ -88,14 +88,14 @@ is_answer s ruled shape c a i line there known h =
     let r = fault_none (not (list_all (λ x. in_bounds (s.attribute a) x.1) line)) Range _ q.1 in
     let outer = or_parts _ _ p.0 in
     let inner = or_parts _ _ outer.0 in (
-      not_false _ inner.1,
+      not-false _ inner.1,
       record {
         declared = there;
         no_rule = inner.0;
-        owner = exact_unsigned_eq i.entity.0 (s.attribute a).entity.0 (not_false _ outer.1);
+        owner = exact_unsigned_eq i.entity.0 (s.attribute a).entity.0 (not-false _ outer.1);
         known = known;
-        kind = not_false _ q.0;
-        currency = λ money. all_stronger (λ x. in_bounds (s.attribute a) x.1) (λ x. has_two_decimals x.1) (λ x e. decimals_two (s.attribute a) x.1 (shape.currency a money) e) line (not_false _ r.0);
+        kind = not-false _ q.0;
+        currency = λ money. all_stronger (λ x. in_bounds (s.attribute a) x.1) (λ x. has_two_decimals x.1) (λ x e. decimals_two (s.attribute a) x.1 (shape.currency a money) e) line (not-false _ r.0);
       },
     )
 

@@ -1,8 +1,8 @@
 -- A change of one containment list, summed up over the entities.
-use Rattle.std.specs.Prelude.{◌≡◌, ◌≤◌, ◌<◌, ◌+◌, ◌==◌, ℕ, zero, suc, Bool, true, false, cond, List, [], ◌∷◌, None, map, filter, flat_map, unwrap_or, refl}
+use Rattle.std.specs.Prelude.{◌≡◌, ◌≤◌, ◌<◌, ◌+◌, ◌==◌, ℕ, zero, suc, true, false, cond, List, [], ◌∷◌, None, map, filter, flat_map, unwrap_or, refl}
 use Rattle.std.specs.List.{AllByRecursion}
-use Rattle.std.proofs.Common.{arith, ap, sym, subst, ◌∙◌}
-use Rattle.std.proofs.lemmas.Map.Views.{exact_unsigned_eq}
+use Rattle.std.proofs.Common.{arith, ap, sym, subst, ◌∙◌, ne_eqb, eq-eqb}
+use Rattle.opa_io.proofs.Lists.{each_weaker}
 use Rattle.opa_model.specs.declared.ids.RelId.{RelId}
 use Rattle.opa_cells.specs.declared.instance.InstanceId.{InstanceId}
 use Rattle.opa_cells.specs.Instances.{is_same, global, named}
@@ -10,17 +10,9 @@ use Rattle.opa_case.specs.Shapes.{Shape}
 use Rattle.opa_case.specs.Live.{Names, Lists, Population, members, in_container, held, live_upto}
 use Rattle.opa_case.specs.Cases.{are_names}
 use Rattle.opa_case.specs.Turns.{names_without, gone_at, gone_upto}
-use Rattle.opa_case.proofs.Lively.{same_live, all_weaker}
-use Rattle.opa_case.proofs.Stands.{same_number}
+use Rattle.opa_case.proofs.Lively.{same_live}
 use Rattle.opa_case.proofs.Weighing.{weigh, weigh-append, weigh-flat, weigh-map, weigh_same, weigh_nothing, weigh_once, weigh_at_least, weigh_of, exchanged, without_less, of_parent, times}
 use Rattle.opa_case.proofs.Distinct.{live_weight}
-
-other_number : (a b : ℕ) → (a ≡ b → ⊥) → (a == b) ≡ false
-other_number a b apart = go (a == b) refl
-  where
-    go : (t : Bool) → (a == b) ≡ t → t ≡ false
-    go true e = absurd (apart (exact_unsigned_eq a b e))
-    go false e = refl
 
 -- What members of an entity contain, over populations whose sums agree.
 module _ (g : InstanceId → Population) (w : InstanceId × InstanceId → ℕ) (p : ℕ) where
@@ -64,7 +56,7 @@ module _ (s : Shape) (l l' : Lists) (n : ℕ) (i : InstanceId) (old new : Names)
 
   none_at : (k : ℕ) (w : InstanceId × InstanceId → ℕ) (before : Population) → before ≡ [] → (suc k ≡ suc n → ⊥) → weigh w (gone_at s l (suc n) seeds (suc k) before) ≡ 0
   none_at k w before none apart =
-      ap (λ b. weigh w (cond b seeds (cond (s.parent (suc k) == 0) [] (flat_map (held s l (suc k)) (members (s.parent (suc k)) before))))) (other_number (suc k) (suc n) apart)
+      ap (λ b. weigh w (cond b seeds (cond (s.parent (suc k) == 0) [] (flat_map (held s l (suc k)) (members (s.parent (suc k)) before))))) (ne_eqb (suc k) (suc n) apart)
       ∙ ap (λ xs. weigh w (cond (s.parent (suc k) == 0) [] (flat_map (held s l (suc k)) (members (s.parent (suc k)) xs)))) none
       ∙ elim (s.parent (suc k) == 0) as (λ b. weigh w (cond b [] (flat_map (held s l (suc k)) (cond b (global ∷ []) []))) ≡ 0) [ true ↦ refl | false ↦ refl ]
 
@@ -84,12 +76,12 @@ module _ (s : Shape) (l l' : Lists) (n : ℕ) (i : InstanceId) (old new : Names)
   first_gone : (w : InstanceId × InstanceId → ℕ) → weigh w (gone (suc n)) ≡ weigh w seeds
   first_gone w =
       let none : weigh w (gone n) ≡ 0 = ap (weigh w) (none_gone n (omega arith)) in
-      let here : weigh w (gone_at s l (suc n) seeds (suc n) (gone n)) ≡ weigh w seeds = ap (λ b. weigh w (cond b seeds (cond (s.parent (suc n) == 0) [] (flat_map (held s l (suc n)) (members (s.parent (suc n)) (gone n)))))) (same_number (suc n) (suc n) refl) in
+      let here : weigh w (gone_at s l (suc n) seeds (suc n) (gone n)) ≡ weigh w seeds = ap (λ b. weigh w (cond b seeds (cond (s.parent (suc n) == 0) [] (flat_map (held s l (suc n)) (members (s.parent (suc n)) (gone n)))))) (eq-eqb (suc n) (suc n) refl) in
       omega (arith, gone_weight n w, none, here)
 
   -- and then what they contain
   later_gone : (k : ℕ) (w : InstanceId × InstanceId → ℕ) → (suc k ≡ suc n → ⊥) → weigh w (gone (suc k)) ≡ weigh w (gone k) + weigh w (cond (s.parent (suc k) == 0) [] (flat_map (held s l (suc k)) (members (s.parent (suc k)) (gone k))))
-  later_gone k w apart = gone_weight k w ∙ ap (λ b. weigh w (gone k) + weigh w (cond b seeds (cond (s.parent (suc k) == 0) [] (flat_map (held s l (suc k)) (members (s.parent (suc k)) (gone k)))))) (other_number (suc k) (suc n) apart)
+  later_gone k w apart = gone_weight k w ∙ ap (λ b. weigh w (gone k) + weigh w (cond b seeds (cond (s.parent (suc k) == 0) [] (flat_map (held s l (suc k)) (members (s.parent (suc k)) (gone k)))))) (ne_eqb (suc k) (suc n) apart)
 
   -- the names that go are some of the old ones
   seeds_less : (w : InstanceId × InstanceId → ℕ) → weigh w seeds ≤ weigh w (in_container (suc n) i old)
@@ -136,7 +128,7 @@ module _ (s : Shape) (l l' : Lists) (n : ℕ) (i : InstanceId) (old new : Names)
           omega (arith, first_gone w, live_weight s l n w, live_weight s l' n w, early, parents, block)
 
       fresh_empty : (e p : ℕ) (w : InstanceId × InstanceId → ℕ) → weigh (of_parent p (λ c. weigh w (held s l e c))) fresh ≡ 0
-      fresh_empty e p w = weigh_nothing (of_parent p (λ c. weigh w (held s l e c))) fresh (all_weaker (λ (x : InstanceId × InstanceId). (q : RelId) → l q x.0 ≡ None) (λ (x : InstanceId × InstanceId). of_parent p (λ c. weigh w (held s l e c)) x ≡ 0) nothing fresh unknown)
+      fresh_empty e p w = weigh_nothing (of_parent p (λ c. weigh w (held s l e c))) fresh (each_weaker (λ (x : InstanceId × InstanceId). (q : RelId) → l q x.0 ≡ None) (λ (x : InstanceId × InstanceId). of_parent p (λ c. weigh w (held s l e c)) x ≡ 0) nothing fresh unknown)
         where
           nothing : (x : InstanceId × InstanceId) → ((q : RelId) → l q x.0 ≡ None) → cond (x.0.entity.0 == p) (weigh w (held s l e x.0)) 0 ≡ 0
           nothing x none =

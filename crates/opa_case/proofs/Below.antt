@@ -3,7 +3,7 @@ use Rattle.std.specs.Prelude.{◌≡◌, ◌<◌, ◌≤◌, ◌==◌, ℕ, zero
 use Rattle.std.specs.Option.{option_map, option_and_then, option_map_or}
 use Rattle.std.specs.FinMap.{FinMap, get, insert}
 use Rattle.std.specs.Ordering.{eq_by_cmp}
-use Rattle.std.proofs.Common.{arith, ap, sym, ◌∙◌}
+use Rattle.std.proofs.Common.{arith, ap, sym, ◌∙◌, eq-eqb}
 use mathlib.Core.Bool.{true≢false}
 use Rattle.std.proofs.lemmas.Bool.{or_parts, and_parts, lt-ltb}
 use Rattle.std.proofs.lemmas.Map.Views.{tells_apart}
@@ -18,15 +18,11 @@ use Rattle.opa_case.specs.Live.{Names, Lists, gathered, walk}
 use Rattle.opa_case.specs.Steps.{rel, with_every, every_upto, every_of, changed}
 use Rattle.opa_case.specs.Below.{is_under, hangs_on, StaysUnknown}
 use Rattle.opa_case.proofs.Losing.{every_at, get-every}
-use Rattle.opa_case.proofs.Stands.{same_number}
-
-positive : (e : ℕ) → (e == 0) ≡ false → 0 < e
-positive zero h = absurd (true≢false h)
-positive (suc e) h = omega arith
+use Rattle.opa_case.proofs.Walks.{positive}
 
 module _ (s : Shape) (shape : IsShape s) (t : ℕ) (l l' : Lists) (agree : (e : ℕ) (c : InstanceId) → 0 < e → e < s.count → (e ≡ t → ⊥) → l (s.contained e) c ≡ l' (s.contained e) c) where
   other : (e : ℕ) → (e == t) ≡ false → e ≡ t → ⊥
-  other e apart same = true≢false (sym (same_number e t same) ∙ apart)
+  other e apart same = true≢false (sym (eq-eqb e t same) ∙ apart)
 
   next : (e : ℕ) → e < s.count → (e == 0) ≡ false → (e == t) ≡ false → (a b : Option (List InstanceId)) → a ≡ b
       → option_and_then (λ cs. option_map (map (named e)) (gathered (map (l (s.contained e)) cs))) a ≡ option_and_then (λ cs. option_map (map (named e)) (gathered (map (l' (s.contained e)) cs))) b

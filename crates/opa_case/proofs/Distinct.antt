@@ -2,7 +2,7 @@
 use Rattle.std.specs.Prelude.{◌≡◌, ◌≤◌, ◌<◌, ◌+◌, ◌==◌, ℕ, zero, suc, Bool, true, false, cond, List, [], ◌∷◌, Option, Some, None, map, filter, flat_map, unwrap_or, refl}
 use Rattle.std.specs.List.{list_any}
 use Rattle.std.specs.FinMap.{FinMap}
-use Rattle.std.proofs.Common.{arith, ap, sym, subst, ◌∙◌}
+use Rattle.std.proofs.Common.{arith, ap, sym, subst, ◌∙◌, eq-eqb}
 use Rattle.std.proofs.lemmas.Map.Views.{exact_unsigned_eq}
 use mathlib.Core.Bool.{true≢false}
 use Rattle.opa_cells.specs.declared.instance.InstanceId.{InstanceId}
@@ -14,7 +14,7 @@ use Rattle.opa_case.specs.Live.{Names, Lists, Population, members, in_container,
 use Rattle.opa_case.specs.Cases.{are_names, stored}
 use Rattle.opa_case.specs.Fits.{AreSound}
 use Rattle.opa_case.proofs.Lively.{live_none}
-use Rattle.opa_case.proofs.Stands.{lookup_found, in_upto, same_number, text_itself}
+use Rattle.opa_case.proofs.Stands.{lookup_found, in_upto, text_itself}
 use Rattle.opa_case.proofs.Weighing.{weigh, unit, weigh-append, weigh-flat, weigh-map, weigh_same, weigh_less, weigh_one, weigh_of, some_counted, once_listed, occurs, of_parent, times}
 
 -- what becomes live with one more entity
@@ -42,7 +42,7 @@ occurs_named x e c ns distinct =
 
     apart : (x.entity.0 == e) ≡ false → (n : List ℕ) → unit (is_same x (named e n)) ≡ 0
     apart other n = elim (is_same x (named e n)) as (λ b. is_same x (named e n) ≡ b → unit b ≡ 0) [
-      | true ↦ λ p. absurd (true≢false (sym (same_number x.entity.0 e (ap (λ (j : InstanceId). j.entity.0) (same_is x (named e n) p))) ∙ other))
+      | true ↦ λ p. absurd (true≢false (sym (eq-eqb x.entity.0 e (ap (λ (j : InstanceId). j.entity.0) (same_is x (named e n) p))) ∙ other))
       | false ↦ λ _. refl
     ] refl
 

@@ -2,7 +2,7 @@
 use Rattle.std.specs.Prelude.{◌≡◌, ◌≤◌, ◌<◌, ◌==◌, ℕ, zero, suc, Bool, true, false, cond, List, [], ◌∷◌, ◌++◌, Option, None, Some, map, flat_map, unwrap_or, ◌-◌, refl}
 use Rattle.std.specs.Option.{option_map, option_map_or, option_and_then}
 use Rattle.std.specs.FinMap.{get, insert, empty, get-empty}
-use Rattle.std.proofs.Common.{arith, ap, sym, ◌∙◌}
+use Rattle.std.proofs.Common.{arith, ap, sym, ◌∙◌, eq-eqb}
 use Rattle.std.proofs.lemmas.Map.Views.{exact_unsigned_eq}
 use mathlib.Core.Bool.{true≢false}
 use Rattle.opa_model.specs.declared.ids.RelId.{RelId}
@@ -16,7 +16,6 @@ use Rattle.opa_case.specs.Steps.{rel, every_upto}
 use Rattle.opa_case.specs.Fits.{Fits}
 use Rattle.opa_case.specs.Laws.{EmptyFits}
 use Rattle.opa_case.proofs.Shaped.{shape_is}
-use Rattle.opa_case.proofs.Stands.{same_number}
 
 module _ (s : Shape) (l : Lists) (none : (r : RelId) (i : InstanceId) → l r i ≡ None) where
   nobody : (e p : ℕ) → [] ≡ flat_map (held s l e) (members p [])
@@ -33,7 +32,7 @@ module _ (s : Shape) (l : Lists) (none : (r : RelId) (i : InstanceId) → l r i 
   is_root : (n e : ℕ) → e ≡ 0 → walk s l n e ≡ Some (global ∷ [])
   unfolding walk
   is_root zero e h = refl
-  is_root (suc n) e h = ap (λ b. cond b (Some (global ∷ [])) (option_and_then (λ cs. option_map (map (named e)) (gathered (map (l (s.contained e)) cs))) (walk s l n (s.parent e)))) (same_number e 0 h)
+  is_root (suc n) e h = ap (λ b. cond b (Some (global ∷ [])) (option_and_then (λ cs. option_map (map (named e)) (gathered (map (l (s.contained e)) cs))) (walk s l n (s.parent e)))) (eq-eqb e 0 h)
 
   -- no Walk but that of the global entity is known
   pub unknown_walk : IsShape s → (n e : ℕ) → 0 < e → e < s.count → e ≤ n → walk s l n e ≡ None

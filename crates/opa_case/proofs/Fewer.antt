@@ -3,7 +3,7 @@ use Rattle.std.specs.Prelude.{◌≡◌, ◌≤◌, ◌<◌, ◌+◌, ◌-◌, �
 use Rattle.std.specs.Option.{option_map, option_and_then}
 use Rattle.std.specs.List.{AllByRecursion, IsDistinct}
 use Rattle.std.specs.FinMap.{FinMap, get, insert, remove, retain_keys}
-use Rattle.std.proofs.Common.{arith, ap, sym, subst, ◌∙◌}
+use Rattle.std.proofs.Common.{arith, ap, sym, subst, ◌∙◌, eq-eqb}
 use Rattle.std.proofs.lemmas.Bool.{ltb-true}
 use Rattle.std.proofs.lemmas.Map.Views.{exact_unsigned_eq}
 use mathlib.Core.Bool.{true≢false}
@@ -23,7 +23,6 @@ use Rattle.opa_case.specs.Fewer.{AreFewer}
 use Rattle.opa_case.specs.Steps.{changed}
 use Rattle.opa_case.proofs.Commit.{set_changed, forgotten}
 use Rattle.opa_case.proofs.Distinct.{once_upto, once_member}
-use Rattle.opa_case.proofs.Stands.{same_number}
 use Rattle.opa_case.proofs.Walked.{walk_members}
 use Rattle.opa_case.proofs.Walks.{onward}
 use Rattle.opa_case.proofs.Weighing.{times}
@@ -77,7 +76,7 @@ module _ (m : FinMap cell_cmp Names) (r : RelId) (i : InstanceId) where
       less = subst (λ j. j - cond before 1 0 + cond (is_some w) 1 0 < n) is (subst (λ t. k - cond before 1 0 + cond t 1 0 < n) now (ltb-true (k - cond before 1 0 + cond then 1 0) n h))
 
       some : before ≡ true → 1 ≤ cells_at m r.0
-      some e = some_counted (retain_keys m (λ k. k.0 == r.0)) (r.0, i) (ap is_some (get_kept cell_exact m (λ k. k.0 == r.0) (r.0, i) ∙ ap (λ t. cond t (get m (r.0, i)) None) (same_number r.0 r.0 refl)) ∙ sym was ∙ e)
+      some e = some_counted (retain_keys m (λ k. k.0 == r.0)) (r.0, i) (ap is_some (get_kept cell_exact m (λ k. k.0 == r.0) (r.0, i) ∙ ap (λ t. cond t (get m (r.0, i)) None) (eq-eqb r.0 r.0 refl)) ∙ sym was ∙ e)
 
       go : (w : Option Names) → cond (is_some w) (cond before (cells_at m r.0) (cells_at m r.0 + 1)) (cond before (cells_at m r.0 - 1) (cells_at m r.0)) < n → AreFewer (changed m r i w) r n
       go None less =

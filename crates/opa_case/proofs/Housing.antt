@@ -1,9 +1,10 @@
 -- Homes that are set and taken away, and what is live by them.
-use Rattle.std.specs.Prelude.{◌≡◌, ℕ, zero, suc, Bool, true, false, cond, ◌||◌, List, [], ◌∷◌, ◌++◌, take, Option, None, Some, Result, Ok, Err, OnErr, is_some, refl}
+use Rattle.std.specs.Prelude.{◌≡◌, ℕ, zero, suc, Bool, true, false, cond, ◌||◌, List, [], ◌∷◌, ◌++◌, take, Option, None, Some, is_some, refl}
 use Rattle.std.specs.List.{list_any}
 use Rattle.std.specs.FinMap.{FinMap, insert, remove, empty, get-empty, get-insert, get-remove}
 use Rattle.std.proofs.Common.{ap, sym, ◌∙◌}
 use Rattle.std.proofs.lemmas.List.Folds.{list_any-append}
+use Rattle.std.proofs.lemmas.Bool.{or_parts}
 use mathlib.Core.Bool.{true≢false}
 use Rattle.opa_cells.specs.declared.instance.InstanceId.{InstanceId}
 use Rattle.opa_cells.specs.Instances.{is_same, global}
@@ -51,15 +52,11 @@ module _ (start : Option InstanceId) (xs : Population) (x : InstanceId × Instan
       home_taken homes x.0 i ∙ ap (cond (is_same i x.0) None) h ∙ twice (is_among xs i) (is_same i x.0) None start
       ∙ ap (λ b. cond b None start) (sym (among_more xs x i))
 
-or_false : (a b : Bool) → (a || b) ≡ false → (a ≡ false) × (b ≡ false)
-or_false true b h = absurd (true≢false h)
-or_false false b h = (refl, h)
-
 -- what isn't among all isn't among the first
 pub not_among : {A : Type 0} (p : A → Bool) (k : ℕ) (xs : List A) → list_any p xs ≡ false → list_any p (take k xs) ≡ false
 not_among p zero xs h = refl
 not_among p (suc k) [] h = refl
-not_among p (suc k) (x ∷ xs) h = let b = or_false (p x) (list_any p xs) h in ap (λ t. t || list_any p (take k xs)) b.0 ∙ not_among p k xs b.1
+not_among p (suc k) (x ∷ xs) h = let b = or_parts (p x) (list_any p xs) h in ap (λ t. t || list_any p (take k xs)) b.0 ∙ not_among p k xs b.1
 
 pub untouched : {X : Type 0} (b : Bool) (w o o' : X) → o' ≡ cond b w o → b ≡ false → o' ≡ o
 untouched true w o o' h f = absurd (true≢false f)
@@ -69,10 +66,6 @@ untouched false w o o' h f = h
 pub taken_back : (b : Bool) (old after end : Option InstanceId) → end ≡ cond b None after → (b ≡ true → old ≡ None) → (b ≡ false → after ≡ old) → end ≡ old
 taken_back true old after end is none same = is ∙ sym (none refl)
 taken_back false old after end is none same = is ∙ same refl
-
-pub on_err : {X E Q : Type 0} → (r : Result X E) → Q → OnErr r Q
-on_err (Ok x) q = tt
-on_err (Err e) q = q
 
 -- homes that others than these keep
 abbrev pub Leaves : Population → FinMap cell_cmp InstanceId → FinMap cell_cmp InstanceId → Type 0

@@ -7,7 +7,8 @@ use Rattle.std.specs.Ordering.{eq_by_cmp}
 use Rattle.std.proofs.Common.{arith, ap, sym, subst, ◌∙◌, ◌⊎◌, inl, inr}
 use mathlib.Core.Bool.{true≢false}
 use Rattle.std.proofs.lemmas.Map.Views.{tells_apart, exact_unsigned_eq}
-use Rattle.std.proofs.lemmas.Bool.{or_parts, ltb-false}
+use Rattle.std.proofs.lemmas.Bool.{or_parts, ltb-false, not-false}
+use Rattle.std.proofs.lemmas.Option.{same_Some}
 use Rattle.opa_model.specs.declared.ids.RelId.{RelId}
 use Rattle.opa_cells.specs.declared.instance.InstanceId.{InstanceId}
 use Rattle.opa_case.specs.declared.change.Refusal.{Refusal}
@@ -20,7 +21,7 @@ use Rattle.opa_case.specs.Cases.{CaseView, stored, are_names}
 use Rattle.opa_case.specs.Steps.{stands_elsewhere, is_misplaced, cant_name, within, is_full, rel, with_list, list_fault, unless, without_list}
 use Rattle.opa_case.specs.Fits.{Known, AreSound, Fits}
 use Rattle.opa_cells.proofs.Orders.{cell_exact, cell_total, same_is}
-use Rattle.opa_case.proofs.Stands.{has_live, container_found, text_is, some_is}
+use Rattle.opa_case.proofs.Stands.{has_live, container_found, text_is}
 use Rattle.opa_case.proofs.Settled.{settled_fits}
 
 -- A containment list names its container's instances.
@@ -56,7 +57,7 @@ not_elsewhere live i j n at here = sym (same_is j i (double (is_same j i) (ap (�
 pub inserted : (m : FinMap cell_cmp Names) (r : RelId) (i : InstanceId) (v : Names) (q : RelId) (j : InstanceId) (ns : Names) → Known (insert m (r.0, i) v) q j ns → ((q ≡ r) × (j ≡ i) × (v ≡ ns)) ⊎ Known m q j ns
 inserted m r i v q j ns h =
     elim (eq_by_cmp cell_cmp (q.0, j) (r.0, i)) as (λ b. eq_by_cmp cell_cmp (q.0, j) (r.0, i) ≡ b → cond b (Some v) (get m (q.0, j)) ≡ Some ns → ((q ≡ r) × (j ≡ i) × (v ≡ ns)) ⊎ Known m q j ns) [
-      | true ↦ λ e g. let k = tells_apart cell_exact (q.0, j) (r.0, i) e in inl (ap (λ (x : ℕ × InstanceId). rel x.0) k, ap (λ (x : ℕ × InstanceId). x.1) k, some_is v ns g)
+      | true ↦ λ e g. let k = tells_apart cell_exact (q.0, j) (r.0, i) e in inl (ap (λ (x : ℕ × InstanceId). rel x.0) k, ap (λ (x : ℕ × InstanceId). x.1) k, same_Some v ns g)
       | false ↦ λ _ g. inr g
     ] refl (sym (get-insert cell_total m (r.0, i) v (q.0, j)) ∙ h)
 
@@ -78,10 +79,6 @@ pub guard : {X : Type 0} (b : Bool) (e : Refusal) (x : Result X Refusal) (y : X)
 guard true e x y h = absurd (cc h)
 guard false e x y h = (refl, h)
 
-pub not_false : (b : Bool) → not b ≡ false → b ≡ true
-not_false true e = refl
-not_false false e = absurd (true≢false e)
-
 few : (one : Bool) (n : ℕ) → (one && nat_lt 1 n) ≡ false → one ≡ true → n ≤ 1
 few true n e o = omega (arith, ltb-false 1 n e)
 few false n e o = absurd (true≢false (sym o))
@@ -102,7 +99,7 @@ module _ (s : Shape) (shape : IsShape s) (c : CaseView) (ruled : List Bool) (fit
   inserted_sound there placed names free short =
       let outer = or_parts _ _ placed in
       let inner = or_parts _ _ outer.0 in
-      let owner : i.entity.0 ≡ s.source r = exact_unsigned_eq i.entity.0 (s.source r) (not_false _ outer.1) in
+      let owner : i.entity.0 ≡ s.source r = exact_unsigned_eq i.entity.0 (s.source r) (not-false _ outer.1) in
       record {
         declared = λ q j ns h. go (q.0 < s.relations) (inserted c.lists r i v q j ns h) (λ x. subst (λ (y : RelId). y.0 < s.relations) (sym x.0) there) (λ k. fits.sound.declared q j ns k);
         source = λ q j ns h. go (j.entity.0 ≡ s.source q) (inserted c.lists r i v q j ns h) (λ x. ap (λ (y : InstanceId). y.entity.0) x.1 ∙ owner ∙ ap s.source (sym x.0)) (λ k. fits.sound.source q j ns k);
@@ -145,7 +142,7 @@ tests_passed s c r i v h =
     let b = fault_none (not (are_names v)) Name _ a.1 in
     let d = fault_none (list_any (cant_name s c r i) v) Name _ b.1 in
     let e = fault_none (s.one r && nat_lt 1 (length v)) Range _ d.1 in
-    record { placed = a.0; names = not_false (are_names v) b.0; free = d.0; few = e.0 }
+    record { placed = a.0; names = not-false (are_names v) b.0; free = d.0; few = e.0 }
 
 pub list_kept : (s : Shape) (ruled : List Bool) → IsShape s → (c : CaseView) (r : RelId) (i : InstanceId) (v : Names) → r.0 < s.relations → Fits s ruled c → list_fault s c r i v ≡ None → Fits s ruled (with_list s c r i v)
 list_kept s ruled shape c r i v there fits h =

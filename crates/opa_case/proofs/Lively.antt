@@ -4,25 +4,15 @@ use denote.Ref.{Bor}
 use Rattle.std.specs.List.{list_any, AllByRecursion}
 use Rattle.std.specs.Option.{option_copied}
 use Rattle.std.proofs.Common.{arith, ap, sym, subst, ◌∙◌}
-use mathlib.Core.Bool.{true≢false}
 use Rattle.std.proofs.lemmas.List.Folds.{list_any-append}
+use Rattle.std.proofs.lemmas.Bool.{or_right, or_left}
+use Rattle.opa_io.proofs.Lists.{each_weaker}
+use Rattle.opa_io.proofs.Bools.{or_more}
 use Rattle.opa_cells.specs.declared.instance.InstanceId.{InstanceId}
 use Rattle.opa_cells.specs.Instances.{is_same, global, named}
 use Rattle.opa_case.specs.Shapes.{Shape}
 use Rattle.opa_case.specs.Live.{Lists, Population, members, held, live_upto, is_live, container_of}
 use Rattle.opa_cells.proofs.Orders.{same_itself}
-
-pub or_left : (a b : Bool) → a ≡ true → (a || b) ≡ true
-or_left true b e = refl
-or_left false b e = absurd (true≢false (sym e))
-
-pub or_right : (a b : Bool) → b ≡ true → (a || b) ≡ true
-or_right true b e = refl
-or_right false b e = e
-
-or_more : (g a b : Bool) → (g || a) ≡ true → (g || (a || b)) ≡ true
-or_more true a b e = refl
-or_more false a b e = or_left a b e
 
 or_later : (g a b : Bool) → (g || b) ≡ true → (g || (a || b)) ≡ true
 or_later true a b e = refl
@@ -37,13 +27,9 @@ live_push x xs i h = or_later (is_same i global) (is_same i x.0) (list_any (λ p
 abbrev pub AllLive : Population → Population → Type 0
 AllLive whole xs = AllByRecursion (λ (p : InstanceId × InstanceId). is_live whole p.0 ≡ true) xs
 
-pub all_weaker : {A : Type 0} (P Q : A → Type 0) → ((x : A) → P x → Q x) → (xs : List A) → AllByRecursion P xs → AllByRecursion Q xs
-all_weaker P Q f [] h = tt
-all_weaker P Q f (x ∷ xs) h = (f x h.0, all_weaker P Q f xs h.1)
-
 pub all_live : (xs : Population) → AllLive xs xs
 all_live [] = tt
-all_live (x ∷ xs) = (or_right (is_same x.0 global) _ (or_left (is_same x.0 x.0) _ (same_itself x.0)), all_weaker _ _ (λ p h. live_push x xs p.0 h) xs (all_live xs))
+all_live (x ∷ xs) = (or_right (is_same x.0 global) _ (or_left (is_same x.0 x.0) _ (same_itself x.0)), each_weaker _ _ (λ p h. live_push x xs p.0 h) xs (all_live xs))
 
 named_live : (whole : Population) (e : ℕ) (xs : Population) → AllLive whole xs → AllByRecursion (λ c. is_live whole c ≡ true) (map (λ p. p.0) (filter (λ p. p.0.entity.0 == e) xs))
 named_live whole e [] h = tt
@@ -79,7 +65,7 @@ module _ (s : Shape) (l : Lists) where
   same_live l' m h k zero e = refl
   same_live l' m h k (suc n) e =
       let before = same_live l' m h (suc k) n (omega (arith, e)) in
-      let lives : AllLive (live_upto s l m) (live_upto s l n) = all_weaker _ _ (λ p g. live_later (suc k) n m (omega (arith, e)) p.0 g) (live_upto s l n) (all_live (live_upto s l n)) in
+      let lives : AllLive (live_upto s l m) (live_upto s l n) = each_weaker _ _ (λ p g. live_later (suc k) n m (omega (arith, e)) p.0 g) (live_upto s l n) (all_live (live_upto s l n)) in
       ap (λ x. live_upto s l n ++ x) (flat_same (held s l (suc n)) (held s l' (suc n)) _ (λ c g. ap (λ o. map (λ x. (named (suc n) x, c)) (unwrap_or o [])) (h n c (omega (arith, e)) g)) (members (s.parent (suc n)) (live_upto s l n)) (members_live (live_upto s l m) (s.parent (suc n)) (live_upto s l n) lives))
       ∙ ap (λ x. x ++ flat_map (held s l' (suc n)) (members (s.parent (suc n)) x)) before
 

@@ -6,22 +6,10 @@ use Rattle.std.specs.Cmp.{eq_by_cmp_equiv}
 use Rattle.std.specs.Cmp.Lexicographic.{slice_cmp, nat_list_cmp_total}
 use Rattle.std.proofs.Common.{arith, ap, sym, ◌∙◌}
 use Rattle.std.proofs.lemmas.List.{drop_more}
-use mathlib.Core.Bool.{true≢false}
+use Rattle.std.proofs.lemmas.Bool.{and_from, and_right, and_left}
 use Rattle.opa_cells.specs.Instances.{is_text}
 use Rattle.opa_case.specs.Live.{Names}
 use Rattle.opa_case.specs.Cases.{are_names, is_empty}
-
-and_false : (a b : Bool) → b ≡ false → (a && b) ≡ false
-and_false true b e = e
-and_false false b e = refl
-
-both_false : (a b : Bool) → a ≡ false → (a && b) ≡ false
-both_false true b e = absurd (true≢false e)
-both_false false b e = refl
-
-both_true : (a b : Bool) → a ≡ true → b ≡ true → (a && b) ≡ true
-both_true true b e h = h
-both_true false b e h = e
 
 pub added : {X : Type 0} (name q : List ℕ) (x : X) (o : Option X) → is_some (cond (is_eq (slice_cmp nat_cmp name q)) (Some x) o) ≡ (is_text q name || is_some o)
 added name q x o = ap (λ b. is_some (cond b (Some x) o)) ((eq_by_cmp_equiv nat_list_cmp_total).symm name q) ∙ either (is_text q name) o
@@ -40,11 +28,11 @@ from_place names at x pos lt is =
 pub fails : (k : ℕ) (names : Names) → are_names (drop k names) ≡ false → are_names names ≡ false
 fails zero names h = h
 fails (suc k) [] h = h
-fails (suc k) (n ∷ ns) h = and_false (not (is_empty n) && not (list_any (is_text n) ns)) (are_names ns) (fails k ns h)
+fails (suc k) (n ∷ ns) h = and_right (not (is_empty n) && not (list_any (is_text n) ns)) (are_names ns) (fails k ns h)
 
 pub bad_at : (names : Names) (at : ℕ) (x : List ℕ) (has : Bool) → drop (at - 1) names ≡ x ∷ drop at names → has ≡ list_any (is_text x) (drop at names) → (not (is_empty x) && not has) ≡ false → false ≡ are_names names
 bad_at names at x has split is test =
-    sym (fails (at - 1) names (ap are_names split ∙ both_false _ (are_names (drop at names)) (ap (λ b. not (is_empty x) && not b) (sym is) ∙ test)))
+    sym (fails (at - 1) names (ap are_names split ∙ and_left _ (are_names (drop at names)) (ap (λ b. not (is_empty x) && not b) (sym is) ∙ test)))
 
 pub good_at : (names : Names) (at : ℕ) (x : List ℕ) (has : Bool) → drop (at - 1) names ≡ x ∷ drop at names → has ≡ list_any (is_text x) (drop at names) → (not (is_empty x) && not has) ≡ true → are_names (drop at names) ≡ true → are_names (drop (at - 1) names) ≡ true
-good_at names at x has split is test rest = ap are_names split ∙ both_true _ (are_names (drop at names)) (ap (λ b. not (is_empty x) && not b) (sym is) ∙ test) rest
+good_at names at x has split is test rest = ap are_names split ∙ and_from _ (are_names (drop at names)) (ap (λ b. not (is_empty x) && not b) (sym is) ∙ test) rest

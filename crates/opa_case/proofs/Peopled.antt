@@ -70,7 +70,7 @@ got_before [] x k lt = absurd (omega (arith, lt))
 got_before (y ∷ xs) x zero lt = refl
 got_before (y ∷ xs) x (suc k) lt = got_before xs x k (omega (arith, lt))
 
-more_length : (xs : List (List InstanceId)) (x : List InstanceId) → length (xs ++ x ∷ []) ≡ length xs + 1
+pub more_length : (xs : List (List InstanceId)) (x : List InstanceId) → length (xs ++ x ∷ []) ≡ length xs + 1
 more_length [] x = refl
 more_length (y ∷ xs) x = let rest = more_length xs x in omega (arith, rest)
 

@@ -1,5 +1,5 @@
 -- The live instances of an entity are those that the live instances of its parent entity list.
-use Rattle.std.proofs.Common.{◌≡◌, ℕ, zero, suc, ◌+◌, ◌-◌, ◌<◌, ◌≤◌, List, [], ◌∷◌, ◌++◌, Bool, true, false, cond, refl, sym, ◌∙◌, ap, arith}
+use Rattle.std.proofs.Common.{◌≡◌, ℕ, zero, suc, ◌+◌, ◌-◌, ◌<◌, ◌≤◌, List, [], ◌∷◌, ◌++◌, Bool, true, false, cond, refl, sym, ◌∙◌, ap, arith, eq-eqb}
 use Rattle.std.specs.Prelude.{map, filter, flat_map, unwrap_or, ◌==◌}
 use Rattle.std.proofs.lemmas.Bool.{ne_eqb}
 use Rattle.std.proofs.lemmas.List.{append-nil}
@@ -7,7 +7,6 @@ use Rattle.opa_cells.specs.declared.instance.InstanceId.{InstanceId}
 use Rattle.opa_cells.specs.Instances.{global, named}
 use Rattle.opa_case.specs.Live.{Names, Lists, Population, members, in_container, held, live_upto, live_of}
 use Rattle.opa_case.specs.Shapes.{Shape, IsShape}
-use Rattle.opa_case.proofs.Stands.{same_number}
 use Rattle.opa_case.specs.Instances.{listed_by}
 
 -- those of an entity other than the global one
@@ -29,7 +28,7 @@ picking e xs x b = map (λ (p : InstanceId × InstanceId). p.0) (cond b (x ∷ f
 picked_own : (t : ℕ) (c : InstanceId) (ns : Names) → picked t (in_container t c ns) ≡ map (named t) ns
 unfolding picking
 picked_own t c [] = refl
-picked_own t c (n ∷ ns) = ap (picking t (in_container t c ns) (named t n, c)) (same_number t t refl) ∙ ap (λ is. named t n ∷ is) (picked_own t c ns)
+picked_own t c (n ∷ ns) = ap (picking t (in_container t c ns) (named t n, c)) (eq-eqb t t refl) ∙ ap (λ is. named t n ∷ is) (picked_own t c ns)
 
 picked_other : (e t : ℕ) → (t == e) ≡ false → (c : InstanceId) (ns : Names) → picked e (in_container t c ns) ≡ []
 unfolding picking

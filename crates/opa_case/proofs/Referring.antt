@@ -6,7 +6,7 @@ use Rattle.std.specs.FinMap.{FinMap, get, insert, remove, retain_keys, same_map,
 use Rattle.std.specs.Ordering.{eq_by_cmp}
 use Rattle.std.proofs.Common.{arith, ap, sym, ◌∙◌, ◌⊎◌, inl, inr}
 use mathlib.Core.Bool.{true≢false}
-use Rattle.std.proofs.lemmas.Bool.{or_parts}
+use Rattle.std.proofs.lemmas.Bool.{or_parts, and_from, not-false}
 use Rattle.std.proofs.lemmas.Map.Views.{tells_apart}
 use Rattle.opa_model.specs.declared.ids.RelId.{RelId}
 use Rattle.opa_cells.specs.declared.instance.InstanceId.{InstanceId}
@@ -21,8 +21,7 @@ use Rattle.opa_case.specs.Steps.{rel, stays, settle, every_of, cant_name, stands
 use Rattle.opa_case.specs.Fits.{Known, Fits}
 use Rattle.opa_case.proofs.Lively.{same_live}
 use Rattle.opa_case.proofs.Walks.{same_every}
-use Rattle.opa_case.proofs.Settled.{both_hold}
-use Rattle.opa_case.proofs.Kept.{inserted, removed, tests_passed, not_false}
+use Rattle.opa_case.proofs.Kept.{inserted, removed, tests_passed}
 
 all_stay : {X : Type 0} (b : Bool) (o : Option X) → ((x : X) → o ≡ Some x → b ≡ true) → o ≡ cond b o None
 all_stay {X} b None h = elim b as (λ t. ◌≡◌ {A = Option X} None (cond t None None)) [ true ↦ refl | false ↦ refl ]
@@ -45,7 +44,7 @@ module _ (s : Shape) (ruled : List Bool) (shape : IsShape s) (c : CaseView) (fit
     list_stays : (q : ℕ × InstanceId) (ns : Names) → get m q ≡ Some ns → stays s c.live m q ≡ true
     list_stays q ns at =
         let t = stand (rel q.0) q.1 ns at in
-        both_hold (is_live c.live q.1) _ t.0
+        and_from (is_live c.live q.1) _ t.0
         (ap (λ o. s.contains (rel q.0) || option_map_or (list_all (λ k. is_live c.live (named (s.target (rel q.0)) k))) o true) at ∙ named_live q.0 ns t.1)
 
     pub same_settled : ◌≡◌ {A = CaseView} (record c { lists = m }) (settle s m c.answers)
@@ -70,8 +69,8 @@ module _ (s : Shape) (ruled : List Bool) (shape : IsShape s) (c : CaseView) (fit
     names_live [] h = refl
     names_live (n ∷ ns) h =
         let p = or_parts (cant_name s c r i n) _ h in
-        both_hold (is_live c.live (named (s.target r) n)) _
-        (not_false _ (ap (λ b. cond b (stands_elsewhere c.live i (named (s.target r) n)) (not (is_live c.live (named (s.target r) n)))) (sym refers) ∙ p.0))
+        and_from (is_live c.live (named (s.target r) n)) _
+        (not-false _ (ap (λ b. cond b (stands_elsewhere c.live i (named (s.target r) n)) (not (is_live c.live (named (s.target r) n)))) (sym refers) ∙ p.0))
         (names_live ns p.1)
 
     pub reference_set : (v : Names) → list_fault s c r i v ≡ None → listed c r i v ≡ with_list s c r i v
@@ -83,7 +82,7 @@ module _ (s : Shape) (ruled : List Bool) (shape : IsShape s) (c : CaseView) (fit
       where
         go : (q : RelId) (j : InstanceId) (ns : Names) → list_any (cant_name s c r i) v ≡ false → not (is_live c.live i) ≡ false → ((q ≡ r) × (j ≡ i) × (v ≡ ns)) ⊎ Known c.lists q j ns → (is_live c.live j ≡ true) × (s.contains q ≡ false → list_all (λ n. is_live c.live (named (s.target q) n)) ns ≡ true)
         go q j ns free alive (inl x) = (
-          ap (is_live c.live) x.1 ∙ not_false _ alive,
+          ap (is_live c.live) x.1 ∙ not-false _ alive,
           λ _. ap (λ (p : RelId). list_all (λ n. is_live c.live (named (s.target p) n)) ns) x.0 ∙ ap (list_all (λ n. is_live c.live (named (s.target r) n))) (sym x.2) ∙ names_live v free,
         )
         go q j ns free alive (inr k) = standing q j ns k

@@ -1,5 +1,5 @@
 -- What a list that is set keeps, and what it takes.
-use Rattle.std.specs.Prelude.{◌≡◌, ◌<◌, ◌-◌, ℕ, Bool, true, false, cond, not, ◌||◌, ◌&&◌, List, Option, None, Some, refl}
+use Rattle.std.specs.Prelude.{◌≡◌, ◌<◌, ◌-◌, ℕ, Bool, true, false, cond, not, ◌||◌, ◌&&◌, List, None, Some, refl}
 use Rattle.std.specs.List.{list_all, list_any}
 use Rattle.std.specs.Option.{option_map_or}
 use Rattle.std.specs.FinMap.{FinMap, get, insert, get-insert}
@@ -7,8 +7,10 @@ use Rattle.std.specs.Ordering.{eq_by_cmp}
 use Rattle.std.specs.Cmp.{eq_by_cmp_equiv}
 use Rattle.std.proofs.Common.{arith, ap, sym, subst, ◌∙◌, ◌⊎◌, inl, inr}
 use Rattle.std.proofs.lemmas.Map.Views.{tells_apart, exact_unsigned_eq}
-use Rattle.std.proofs.lemmas.Bool.{or_parts}
+use Rattle.std.proofs.lemmas.Bool.{or_parts, and_from, not-false, false_from_ne_true, or_right, or_left}
+use Rattle.std.proofs.lemmas.Option.{same_Some}
 use mathlib.Core.Bool.{true≢false}
+use Rattle.opa_io.proofs.Options.{none_by}
 use Rattle.opa_model.specs.declared.ids.RelId.{RelId}
 use Rattle.opa_cells.specs.declared.instance.InstanceId.{InstanceId}
 use Rattle.opa_cells.specs.Instances.{is_text, named}
@@ -20,22 +22,12 @@ use Rattle.opa_case.specs.Cases.{CaseView, stored}
 use Rattle.opa_case.specs.Steps.{rel, stays, cant_name, stands_elsewhere, list_fault, within, with_list, listed}
 use Rattle.opa_case.specs.Fits.{Known, Fits}
 use Rattle.opa_case.specs.Laws.{all_live_of, Replaces, SetReplaces}
-use Rattle.opa_case.proofs.Lively.{or_left, or_right}
-use Rattle.opa_case.proofs.Stands.{some_is, container_found, in_upto}
-use Rattle.opa_case.proofs.Settled.{both_hold}
+use Rattle.opa_case.proofs.Stands.{container_found, in_upto}
 use Rattle.opa_case.proofs.Among.{container_live, early_stays}
-use Rattle.opa_case.proofs.Kept.{stands, inserted, passes, not_elsewhere, not_false, passed, within_is, list_kept, tests_passed, Passes}
+use Rattle.opa_case.proofs.Kept.{stands, inserted, passes, not_elsewhere, passed, within_is, list_kept, tests_passed, Passes}
 use Rattle.opa_case.proofs.Referring.{reference_set, names_live}
 use Rattle.opa_case.proofs.Stepping.{settled_list, settled_answer}
 use Rattle.opa_case.proofs.Stands.{text_is}
-
-pub false_by : (b : Bool) → (b ≡ true → ⊥) → b ≡ false
-false_by true never = absurd (never refl)
-false_by false never = refl
-
-pub none_by : {A : Type 0} (o : Option A) → ((x : A) → o ≡ Some x → ⊥) → o ≡ None
-none_by None never = refl
-none_by (Some x) never = absurd (never x refl)
 
 module _ (s : Shape) (ruled : List Bool) (shape : IsShape s) (c : CaseView) (r : RelId) (i : InstanceId) (names : Names) (there : r.0 < s.relations) (fits : Fits s ruled c) (fine : list_fault s c r i names ≡ None) where
   abbrev m : FinMap cell_cmp Names
@@ -61,10 +53,10 @@ module _ (s : Shape) (ruled : List Bool) (shape : IsShape s) (c : CaseView) (r :
   ] refl
 
   was_live : is_live c.live i ≡ true
-  was_live = not_false _ (or_parts _ _ (or_parts _ _ tests.placed).0).1
+  was_live = not-false _ (or_parts _ _ (or_parts _ _ tests.placed).0).1
 
   owner : i.entity.0 ≡ s.source r
-  owner = exact_unsigned_eq i.entity.0 (s.source r) (not_false _ (or_parts _ _ tests.placed).1)
+  owner = exact_unsigned_eq i.entity.0 (s.source r) (not-false _ (or_parts _ _ tests.placed).1)
 
   -- the instance of the list lives on
   is_still : is_live new.live i ≡ true
@@ -88,10 +80,10 @@ module _ (s : Shape) (ruled : List Bool) (shape : IsShape s) (c : CaseView) (r :
   lost_at k h = get_kept cell_exact m (stays s new.live m) k ∙ ap (λ b. cond b (get m k) None) h
 
   container_stays : (q : RelId) (j : InstanceId) → is_live new.live j ≡ true → s.contains q ≡ true → stays s new.live m (q.0, j) ≡ true
-  container_stays q j alive con = both_hold (is_live new.live j) _ alive (or_left (s.contains q) _ con)
+  container_stays q j alive con = and_from (is_live new.live j) _ alive (or_left (s.contains q) _ con)
 
   reference_stays : (q : RelId) (j : InstanceId) (ns : Names) → is_live new.live j ≡ true → get m (q.0, j) ≡ Some ns → all_live_of s new q ns ≡ true → stays s new.live m (q.0, j) ≡ true
-  reference_stays q j ns alive at all = both_hold (is_live new.live j) _ alive (or_right (s.contains q) _ (ap (λ o. option_map_or (list_all (λ n. is_live new.live (named (s.target q) n))) o true) at ∙ all))
+  reference_stays q j ns alive at all = and_from (is_live new.live j) _ alive (or_right (s.contains q) _ (ap (λ o. option_map_or (list_all (λ n. is_live new.live (named (s.target q) n))) o true) at ∙ all))
 
   fails : (a b d : Bool) → b ≡ false → d ≡ false → (a && (b || d)) ≡ false
   fails true b d e f = ap (λ x. x || d) e ∙ f
@@ -127,7 +119,7 @@ module _ (s : Shape) (ruled : List Bool) (shape : IsShape s) (c : CaseView) (r :
       go d ns listed lt (inr old) known =
           inr (
             ap (λ n. container_of c.live (named n j.name)) (sym (shape.target j.entity.0 pos lt)) ∙ stands s ruled shape c fits (s.contained j.entity.0) d ns j.name (shape.contains j.entity.0 pos lt) old listed,
-            λ same. ap (list_any (is_text j.name)) (some_is names ns (sym set_at ∙ ap (λ (x : ℕ × InstanceId). get m x) (key (sym same.0) (sym same.1)) ∙ known)) ∙ listed,
+            λ same. ap (list_any (is_text j.name)) (same_Some names ns (sym set_at ∙ ap (λ (x : ℕ × InstanceId). get m x) (key (sym same.0) (sym same.1)) ∙ known)) ∙ listed,
           )
         where
           key : {p q : RelId} {a b : InstanceId} → p ≡ q → a ≡ b → ◌≡◌ {A = ℕ × InstanceId} (p.0, a) (q.0, b)
@@ -152,14 +144,14 @@ module _ (s : Shape) (ruled : List Bool) (shape : IsShape s) (c : CaseView) (r :
       go (x, is, inl t) =
           let held : i ≡ d = not_elsewhere c.live i d (named (s.target r) j.name) (ap (container_of c.live) (sym t.1) ∙ at) (free_name j.name t.2 t.3) in
           apart x (t.0 ∙ held) is
-      go (x, is, inr t) = apart x (some_is x d (sym t.0 ∙ at)) is
+      go (x, is, inr t) = apart x (same_Some x d (sym t.0 ∙ at)) is
 
   gone_name : (n : List ℕ) → s.contains r ≡ true → container_of c.live (named (s.target r) n) ≡ Some i → list_any (is_text n) names ≡ false → is_live new.live (named (s.target r) n) ≡ true → ⊥
   gone_name n con at not_listed alive = go (stood (named (s.target r) n) (shape.target_in r con).0 alive)
     where
       go : (x : InstanceId) × (is_live new.live x ≡ true) × (((x ≡ i) × (named (s.target r) n ≡ named (s.target r) n) × (s.contains r ≡ true) × (list_any (is_text n) names ≡ true)) ⊎ ((container_of c.live (named (s.target r) n) ≡ Some x) × ((s.contained (s.target r) ≡ r) × (x ≡ i) → list_any (is_text n) names ≡ true))) → ⊥
       go (x, is, inl t) = true≢false (sym t.3 ∙ not_listed)
-      go (x, is, inr t) = true≢false (sym (t.1 (sym (shape.no_other r con), some_is x i (sym t.0 ∙ at))) ∙ not_listed)
+      go (x, is, inr t) = true≢false (sym (t.1 (sym (shape.no_other r con), same_Some x i (sym t.0 ∙ at))) ∙ not_listed)
 
   pub replaces : Replaces s c new r i names
   replaces = record {
@@ -170,9 +162,9 @@ module _ (s : Shape) (ruled : List Bool) (shape : IsShape s) (c : CaseView) (r :
     loses_references = λ j q ns ref apart at some. lost_at (q.0, j) (reference_goes q j ns ref (other_at q j apart ∙ at) some);
     takes_answers = λ j a gone. get_kept cell_exact c.answers (λ k. is_live new.live k.1) (a.0, j) ∙ ap (λ b. cond b (get c.answers (a.0, j)) None) gone;
     takes_lists = λ j q gone. none_by (get new.lists (q.0, j)) (λ ns at. true≢false (sym (fits_new.listed q j ns at) ∙ gone));
-    takes_contained = λ j d at gone. false_by (is_live new.live j) (λ alive. goes_with j d at gone alive);
+    takes_contained = λ j d at gone. false_from_ne_true (is_live new.live j) (λ alive. goes_with j d at gone alive);
     contains = λ n con is. stands s ruled shape new fits_new r i names n con set_is is;
-    goes = λ n con at not_listed. false_by (is_live new.live (named (s.target r) n)) (λ alive. gone_name n con at not_listed alive);
+    goes = λ n con at not_listed. false_from_ne_true (is_live new.live (named (s.target r) n)) (λ alive. gone_name n con at not_listed alive);
     new_answers = λ j a fresh. none_by (get new.answers (a.0, j)) (λ v at. true≢false (sym (fits.answered a j v (settled_answer s m c.answers a j v at).1) ∙ fresh));
     new_lists = λ j q fresh. none_by (get new.lists (q.0, j)) (λ ns at. fresh_list j q ns fresh (inserted c.lists r i names q j ns (settled_list s m c.answers q j ns at)));
   }

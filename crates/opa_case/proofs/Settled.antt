@@ -1,10 +1,11 @@
 -- A case that is settled fits, where its lists are sound.
-use Rattle.std.specs.Prelude.{◌≡◌, ◌<◌, ◌-◌, ℕ, suc, Bool, true, false, cond, ◌||◌, ◌&&◌, List, Option, None, Some, refl}
+use Rattle.std.specs.Prelude.{◌≡◌, ◌<◌, ◌-◌, ℕ, suc, Bool, true, false, cond, ◌||◌, List, None, Some}
 use Rattle.std.specs.List.{list_all}
 use Rattle.std.specs.Option.{option_map_or}
 use Rattle.std.specs.FinMap.{FinMap, get, retain_keys}
 use Rattle.std.proofs.Common.{arith, ap, sym, ◌∙◌}
-use Rattle.std.proofs.lemmas.Bool.{and_parts}
+use Rattle.std.proofs.lemmas.Bool.{and_parts, and_from, or_left}
+use Rattle.opa_io.proofs.Options.{cond_none_parts}
 use Rattle.opa_model.specs.declared.ids.AttrId.{AttrId}
 use Rattle.opa_model.specs.declared.ids.RelId.{RelId}
 use Rattle.opa_cells.specs.declared.instance.InstanceId.{InstanceId}
@@ -17,15 +18,7 @@ use Rattle.opa_case.specs.Steps.{stays, settle}
 use Rattle.opa_case.specs.Fits.{Known, Answered, AreSound, IsAnswer, Fits}
 use Rattle.opa_cells.proofs.Orders.{cell_exact, get_kept}
 use Rattle.opa_case.proofs.Walks.{same_every}
-use Rattle.opa_case.proofs.Lively.{same_live, or_left}
-
-pub cond_is : {X : Type 0} (b : Bool) (x : Option X) (y : X) → cond b x None ≡ Some y → (b ≡ true) × (x ≡ Some y)
-cond_is true x y e = (refl, e)
-cond_is false x y e = absurd (cc e)
-
-pub both_hold : (a b : Bool) → a ≡ true → b ≡ true → (a && b) ≡ true
-both_hold true b p q = q
-both_hold false b p q = p
+use Rattle.opa_case.proofs.Lively.{same_live}
 
 other_holds : (a b : Bool) → (a || b) ≡ true → a ≡ false → b ≡ true
 other_holds true b p q = absurd (cc q)
@@ -39,12 +32,12 @@ module _ (s : Shape) (shape : IsShape s) (m : FinMap cell_cmp Names) (answers : 
   kept = retain_keys m (stays s live m)
 
   pub kept_from : (r : RelId) (i : InstanceId) (names : Names) → Known kept r i names → (stays s live m (r.0, i) ≡ true) × Known m r i names
-  kept_from r i names h = cond_is (stays s live m (r.0, i)) (get m (r.0, i)) names (sym (get_kept cell_exact m (stays s live m) (r.0, i)) ∙ h)
+  kept_from r i names h = cond_none_parts (stays s live m (r.0, i)) (get m (r.0, i)) names (sym (get_kept cell_exact m (stays s live m) (r.0, i)) ∙ h)
 
   -- the containment lists of live instances stay
   pub agrees : (e : ℕ) (c : InstanceId) → 0 < e → e < s.count → is_live live c ≡ true → stored m (s.contained e) c ≡ stored kept (s.contained e) c
   agrees e c pos up is =
-      let keeps : stays s live m ((s.contained e).0, c) ≡ true = both_hold _ _ is (or_left (s.contains (s.contained e)) _ (shape.contains e pos up)) in
+      let keeps : stays s live m ((s.contained e).0, c) ≡ true = and_from _ _ is (or_left (s.contains (s.contained e)) _ (shape.contains e pos up)) in
       sym (get_kept cell_exact m (stays s live m) ((s.contained e).0, c) ∙ ap (λ b. cond b (get m ((s.contained e).0, c)) None) keeps)
 
   -- what goes contains nothing that is live
@@ -52,7 +45,7 @@ module _ (s : Shape) (shape : IsShape s) (m : FinMap cell_cmp Names) (answers : 
   settled_live = same_live s (stored m) (stored kept) (s.count - 1) (λ e c lt is. agrees (suc e) c (omega arith) (omega (arith, lt)) is) 0 (s.count - 1) (omega arith)
 
   pub answer_from : (t : AttrId) (i : InstanceId) (v : Answer) → get (retain_keys answers (λ k. is_live live k.1)) (t.0, i) ≡ Some v → (is_live live i ≡ true) × (get answers (t.0, i) ≡ Some v)
-  answer_from t i v h = cond_is (is_live live i) (get answers (t.0, i)) v (sym (get_kept cell_exact answers (λ k. is_live live k.1) (t.0, i)) ∙ h)
+  answer_from t i v h = cond_none_parts (is_live live i) (get answers (t.0, i)) v (sym (get_kept cell_exact answers (λ k. is_live live k.1) (t.0, i)) ∙ h)
 
   settled_sound : AreSound s m → AreSound s kept
   settled_sound a = record {

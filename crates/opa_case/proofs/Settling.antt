@@ -5,9 +5,11 @@ use Rattle.std.specs.Option.{option_map_or}
 use Rattle.std.specs.Ordering.{nat_cmp}
 use Rattle.std.specs.Cmp.Lexicographic.{slice_cmp}
 use Rattle.std.specs.FinMap.{FinMap, get, insert, remove, retain_keys, same_map}
-use Rattle.std.proofs.Common.{ap, sym, subst, ◌∙◌, ◌⊎◌, inl, inr}
-use Rattle.std.proofs.lemmas.Bool.{or_parts, and_parts, lt-ltb}
+use Rattle.std.proofs.Common.{ap, sym, subst, ◌∙◌, ◌⊎◌, inl, inr, eq-eqb}
+use Rattle.std.proofs.lemmas.Bool.{or_parts, and_parts, lt-ltb, not-false}
 use Rattle.std.proofs.lemmas.Map.Views.{exact_unsigned_eq}
+use Rattle.opa_io.proofs.Bools.{same_truth, or_false, and_true}
+use Rattle.opa_io.proofs.Lists.{any_both}
 use Rattle.opa_model.specs.declared.ids.AttrId.{AttrId}
 use Rattle.opa_model.specs.declared.ids.RelId.{RelId}
 use Rattle.opa_cells.specs.declared.instance.InstanceId.{InstanceId}
@@ -22,10 +24,10 @@ use Rattle.opa_case.specs.Steps.{rel, stays, list_fault, with_list, without_list
 use Rattle.opa_case.specs.Fits.{Known, Answered, Fits}
 use Rattle.opa_case.specs.Turns.{Turns, is_among}
 use Rattle.opa_case.specs.Lost.{stands_at, goes_with, answers_of}
-use Rattle.opa_case.proofs.Stands.{same_number, text_is, text_itself}
-use Rattle.opa_case.proofs.Kept.{inserted, removed, tests_passed, not_false}
+use Rattle.opa_case.proofs.Stands.{text_is, text_itself}
+use Rattle.opa_case.proofs.Kept.{inserted, removed, tests_passed}
 use Rattle.opa_case.proofs.Referring.{names_live}
-use Rattle.opa_case.proofs.Taken.{same_truth, one_number}
+use Rattle.opa_case.proofs.Taken.{one_number}
 
 -- what isn't taken stays
 stays_is : {X : Type 0} (o : Option X) (taken keeps : Bool) → ((x : X) → o ≡ Some x → not taken ≡ keeps) → cond taken None o ≡ cond keeps o None
@@ -61,10 +63,6 @@ any_swapped : {A B : Type 0} (p : A → B → Bool) (xs : List A) (ys : List B) 
 any_swapped p [] ys = any_never ys
 any_swapped p (x ∷ xs) ys = ap (λ b. list_any (p x) ys || b) (any_swapped p xs ys) ∙ sym (any_either (p x) (λ y. list_any (λ z. p z y) xs) ys)
 
-any_both : {A : Type 0} (a : Bool) (p : A → Bool) (xs : List A) → list_any (λ x. a && p x) xs ≡ (a && list_any p xs)
-any_both true p xs = refl
-any_both false p xs = sym (any_never xs)
-
 not_either : (a b : Bool) → not (a || b) ≡ (not a && not b)
 not_either true b = refl
 not_either false b = refl
@@ -90,21 +88,13 @@ named_is e n g = parts (nat_cmp e g.entity.0) (slice_cmp nat_cmp n g.name) ∙ a
 -- an instance of an entity is one with another of that entity
 of_entity : (e : ℕ) (j g : InstanceId) → j.entity.0 ≡ e → ((e == g.entity.0) && is_same j g) ≡ is_same j g
 of_entity e j g at = elim (is_same j g) as (λ b. is_same j g ≡ b → ((e == g.entity.0) && b) ≡ b) [
-  | true ↦ λ h. ap (λ b. b && true) (same_number e g.entity.0 (sym at ∙ ap (λ (x : InstanceId). x.entity.0) (same_is j g h)))
+  | true ↦ λ h. ap (λ b. b && true) (eq-eqb e g.entity.0 (sym at ∙ ap (λ (x : InstanceId). x.entity.0) (same_is j g h)))
   | false ↦ λ _. nothing (e == g.entity.0)
 ] refl
   where
     nothing : (b : Bool) → (b && false) ≡ false
     nothing true = refl
     nothing false = refl
-
-or_nothing : (a : Bool) → (a || false) ≡ a
-or_nothing true = refl
-or_nothing false = refl
-
-and_all : (a : Bool) → (a && true) ≡ a
-and_all true = refl
-and_all false = refl
 
 module _ (s : Shape) (c : CaseView) (m : FinMap cell_cmp Names) (next gone come : Population) (i : InstanceId) (turns : Turns c.live next gone come i) where
   -- where all that a list names was live
@@ -129,8 +119,8 @@ module _ (s : Shape) (c : CaseView) (m : FinMap cell_cmp Names) (next gone come 
       → not (list_any (λ g. stands_at s g.0 n j || ((not b && (s.target (rel n) == g.0.entity.0)) && list_any (is_text g.0.name) ns)) gone)
       ≡ (is_live next j && (b || list_all (λ k. is_live next (named (s.target (rel n)) k)) ns))) [
         | true ↦ λ _.
-            ap not (any_same (λ (g : InstanceId × InstanceId). stands_at s g.0 n j || false) (λ g. stands_at s g.0 n j) (λ g. or_nothing (stands_at s g.0 n j)) gone)
-            ∙ own_stay (s.source (rel n)) j own alive ∙ sym (and_all (is_live next j))
+            ap not (any_same (λ (g : InstanceId × InstanceId). stands_at s g.0 n j || false) (λ g. stands_at s g.0 n j) (λ g. or_false (stands_at s g.0 n j)) gone)
+            ∙ own_stay (s.source (rel n)) j own alive ∙ sym (and_true (is_live next j))
         | false ↦ λ h.
             ap not (any_either (λ (g : InstanceId × InstanceId). stands_at s g.0 n j) (λ g. (s.target (rel n) == g.0.entity.0) && list_any (is_text g.0.name) ns) gone)
             ∙ not_either (list_any (λ g. stands_at s g.0 n j) gone) (list_any (λ g. (s.target (rel n) == g.0.entity.0) && list_any (is_text g.0.name) ns) gone)
@@ -171,7 +161,7 @@ module _ (s : Shape) (c : CaseView) (m : FinMap cell_cmp Names) (next gone come 
       (λ line at. answer_stays q.0 q.1 (declared (record { 0 = q.0 }) q.1 line at) (own (record { 0 = q.0 }) q.1 line at) (alive (record { 0 = q.0 }) q.1 line at))
       ∙ sym (get_kept cell_exact c.answers (λ k. is_live next k.1) q))
 
-either : {A B : Type 0} (Q : Type 0) → A ⊎ B → (A → Q) → (B → Q) → Q
+pub either : {A B : Type 0} (Q : Type 0) → A ⊎ B → (A → Q) → (B → Q) → Q
 either Q (inl a) f g = f a
 either Q (inr b) f g = g b
 
@@ -181,7 +171,7 @@ module _ (s : Shape) (ruled : List Bool) (shape : IsShape s) (c : CaseView) (r :
   here : (is_live c.live i ≡ true) × (i.entity.0 ≡ s.source r)
   here =
       let outer = or_parts _ _ (tests_passed s c r i names fine).placed in
-      (not_false (is_live c.live i) (or_parts _ _ outer.0).1, exact_unsigned_eq i.entity.0 (s.source r) (not_false (i.entity.0 == s.source r) outer.1))
+      (not-false (is_live c.live i) (or_parts _ _ outer.0).1, exact_unsigned_eq i.entity.0 (s.source r) (not-false (i.entity.0 == s.source r) outer.1))
 
   pub set_settled : (lists : FinMap cell_cmp Names)
       → ((q : ℕ) (j : InstanceId) → get lists (q, j) ≡ cond (nat_lt q s.relations && list_any (λ g. goes_with s g.0 q j (get (insert c.lists (r.0, i) names) (q, j))) gone) None (get (insert c.lists (r.0, i) names) (q, j)))

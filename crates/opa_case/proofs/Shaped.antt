@@ -1,9 +1,9 @@
 -- What a model declares has the form of a shape.
-use Rattle.std.specs.Prelude.{◌≡◌, ◌<◌, ◌≤◌, ◌≢◌, ℕ, zero, suc, true, false, List, Option, None, Some, All, IsTrue, length, slice_get, slice_index_or, unwrap_or, refl}
+use Rattle.std.specs.Prelude.{◌≡◌, ◌<◌, ◌≤◌, ◌≢◌, ℕ, zero, suc, true, false, Option, None, Some, IsTrue, length, slice_get, slice_index_or, unwrap_or, refl}
 use Rattle.std.proofs.Common.{arith, ap, sym, subst, ◌∙◌, ◌⊎◌, inl, inr}
-use Rattle.std.proofs.lemmas.Option.{slice_get-get_or, slice_get_within, get_or_from_slice_get}
-use Rattle.std.proofs.lemmas.List.Elements.{All-get_or}
+use Rattle.std.proofs.lemmas.Option.{slice_get-get_or}
 use mathlib.Core.Bool.{true≢false}
+use Rattle.opa_io.proofs.Places.{All_at}
 use Rattle.opa_model.specs.declared.ids.AttrId.{AttrId}
 use Rattle.opa_model.specs.declared.ids.RelId.{RelId}
 use Rattle.opa_model.specs.declared.lists.Lists.{Lists}
@@ -14,9 +14,6 @@ use Rattle.opa_model.specs.declared.things.Relation.{Relation}
 use Rattle.opa_model.specs.Lookups.{entity_at, relation_at, attribute_at}
 use Rattle.opa_model.specs.Models.{IsModel, IsContained, IsContainment, IsOverAll, HasDecimals}
 use Rattle.opa_case.specs.Shapes.{IsShape, shape_of, entity_or, relation_or, attribute_or, no_entity, no_relation, no_attribute}
-
-each : {X : Type 0} (P : X → Type 0) (xs : List X) (n : ℕ) (x : X) → slice_get xs n ≡ Some x → All P xs → P x
-each P xs n x at all = subst P (get_or_from_slice_get xs n x x at) (All-get_or P xs n x (slice_get_within xs n x at) all)
 
 found : {X : Type 0} (o : Option X) (d x : X) → o ≡ Some x → unwrap_or o d ≡ x
 found o d x e = ap (λ p. unwrap_or p d) e
@@ -51,7 +48,7 @@ module _ (m : Lists) (is : IsModel m) where
   target_inside r = go (relation_in r)
     where
       go : ((x : Relation) × (slice_get m.relations r.0 ≡ Some x) × (relation_or m r ≡ x)) ⊎ (relation_or m r ≡ no_relation) → (relation_or m r).target.0 < length m.entities
-      go (inl f) = subst (λ (y : Relation). y.target.0 < length m.entities) (sym f.2) (each (λ (y : Relation). y.target.0 < length m.entities) m.relations r.0 f.0 f.1 is.in_range.targets)
+      go (inl f) = subst (λ (y : Relation). y.target.0 < length m.entities) (sym f.2) (All_at (λ (y : Relation). y.target.0 < length m.entities) m.relations r.0 f.0 f.1 is.in_range.targets)
       go (inr e) = subst (λ (y : Relation). y.target.0 < length m.entities) (sym e) is.has_global
 
   by_contained : (r : RelId) → (relation_or m r).contains ≡ true → r ≡ (entity_or m (relation_or m r).target.0).contained
@@ -82,7 +79,7 @@ module _ (m : Lists) (is : IsModel m) where
   }
     where
       everywhere : (r : RelId) → (relation_or m r).every ≡ true → ((x : Relation) × (slice_get m.relations r.0 ≡ Some x) × (relation_or m r ≡ x)) ⊎ (relation_or m r ≡ no_relation) → (relation_or m r).contains ≡ false
-      everywhere r h (inl f) = ap (λ (y : Relation). y.contains) f.2 ∙ (each (λ (q : Relation). IsTrue q.every → IsOverAll q) m.relations r.0 f.0 f.1 is.over_all (ap (λ (y : Relation). y.every) (sym f.2) ∙ h)).contains_none
+      everywhere r h (inl f) = ap (λ (y : Relation). y.contains) f.2 ∙ (All_at (λ (q : Relation). IsTrue q.every → IsOverAll q) m.relations r.0 f.0 f.1 is.over_all (ap (λ (y : Relation). y.every) (sym f.2) ∙ h)).contains_none
       everywhere r h (inr e) = ap (λ (y : Relation). y.contains) e
 
       above : (n : ℕ) → n ≢ 0 → 0 < n
@@ -90,11 +87,11 @@ module _ (m : Lists) (is : IsModel m) where
       above (suc n) other = omega arith
 
       another : (r : RelId) → (relation_or m r).every ≡ true → ((x : Relation) × (slice_get m.relations r.0 ≡ Some x) × (relation_or m r ≡ x)) ⊎ (relation_or m r ≡ no_relation) → 0 < (relation_or m r).target.0
-      another r h (inl f) = subst (λ (y : Relation). 0 < y.target.0) (sym f.2) (above f.0.target.0 (each (λ (q : Relation). IsTrue q.every → IsOverAll q) m.relations r.0 f.0 f.1 is.over_all (ap (λ (y : Relation). y.every) (sym f.2) ∙ h)).to_another)
+      another r h (inl f) = subst (λ (y : Relation). 0 < y.target.0) (sym f.2) (above f.0.target.0 (All_at (λ (q : Relation). IsTrue q.every → IsOverAll q) m.relations r.0 f.0 f.1 is.over_all (ap (λ (y : Relation). y.every) (sym f.2) ∙ h)).to_another)
       another r h (inr e) = absurd (true≢false (sym h ∙ ap (λ (y : Relation). y.every) e))
 
       money : (a : AttrId) → (attribute_or m a).kind ≡ kinds.Currency → (o : Option Attribute) → attribute_at m a ≡ o → (attribute_or m a).decimals ≤ 2
       money a h None e = let none : attribute_or m a ≡ no_attribute = ap (λ p. unwrap_or p no_attribute) e in absurd (cc (ap (λ (y : Attribute). y.kind) (sym none) ∙ h))
       money a h (Some x) e =
           let at : attribute_or m a ≡ x = ap (λ p. unwrap_or p no_attribute) e in
-          subst (λ (y : Attribute). y.decimals ≤ 2) (sym at) ((each HasDecimals m.attributes a.0 x e is.decimals).of_currency (ap (λ (y : Attribute). y.kind) (sym at) ∙ h))
+          subst (λ (y : Attribute). y.decimals ≤ 2) (sym at) ((All_at HasDecimals m.attributes a.0 x e is.decimals).of_currency (ap (λ (y : Attribute). y.kind) (sym at) ∙ h))

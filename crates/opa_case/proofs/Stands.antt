@@ -3,14 +3,16 @@ use Rattle.std.specs.Prelude.{◌≡◌, ◌≤◌, ◌<◌, ◌+◌, ◌-◌, �
 use Rattle.std.specs.List.{list_any}
 use Rattle.std.specs.Map.{lookup}
 use Rattle.std.specs.Option.{option_or}
-use Rattle.std.proofs.Common.{arith, ap, sym, subst, ◌∙◌, ◌⊎◌, inl, inr}
+use Rattle.std.proofs.Common.{arith, ap, sym, subst, ◌∙◌, ◌⊎◌, inl, inr, eq-eqb}
 use mathlib.Core.Bool.{true≢false}
-use Rattle.std.specs.Cmp.{eq_by_cmp_equiv, nat_eq_equiv}
+use Rattle.std.specs.Cmp.{eq_by_cmp_equiv}
 use Rattle.std.specs.Cmp.Lexicographic.{nat_list_cmp_total}
 use Rattle.std.proofs.lemmas.Map.Lookups.{exact_bytes}
 use Rattle.std.proofs.lemmas.Map.Views.{tells_apart, exact_unsigned_eq}
 use Rattle.std.proofs.lemmas.List.Folds.{list_any-append}
-use Rattle.opa_case.proofs.Lively.{or_left, or_right, live_later}
+use Rattle.std.proofs.lemmas.Option.{same_Some}
+use Rattle.std.proofs.lemmas.Bool.{or_right, or_left}
+use Rattle.opa_case.proofs.Lively.{live_later}
 use Rattle.opa_cells.specs.declared.instance.InstanceId.{InstanceId}
 use Rattle.opa_cells.specs.Instances.{is_same, is_text, global, named}
 use Rattle.opa_case.specs.Shapes.{Shape, IsShape}
@@ -31,17 +33,11 @@ pub record Has (s : Shape) (l : Lists) (i c : InstanceId) : Type 0 where
   pub known : l (s.contained i.entity.0) c ≡ Some names
   pub listed : list_any (is_text i.name) names ≡ true
 
-pub same_number : (a b : ℕ) → a ≡ b → (a == b) ≡ true
-same_number a b e = subst (λ x. (a == x) ≡ true) e (nat_eq_equiv.refl a)
-
 pub text_itself : (n : List ℕ) → is_text n n ≡ true
 text_itself n = (eq_by_cmp_equiv nat_list_cmp_total).refl n
 
 pub text_is : (n m : List ℕ) → is_text n m ≡ true → n ≡ m
 text_is n m h = tells_apart exact_bytes n m h
-
-pub some_is : {A : Type 0} (x y : A) → Some x ≡ Some y → x ≡ y
-some_is x y e = cc e
 
 pub any_weaker : {A : Type 0} (p q : A → Bool) → ((x : A) → p x ≡ true → q x ≡ true) → (xs : List A) → list_any p xs ≡ true → list_any q xs ≡ true
 any_weaker p q f [] h = h
@@ -65,7 +61,7 @@ module _ (s : Shape) (l : Lists) where
   in_names e i c d [] h = absurd (cc h)
   in_names e i c d (n ∷ ns) h =
       elim (is_same i (named e n)) as (λ b. is_same i (named e n) ≡ b → cond b (Some c) (lookup (is_same i) (map (λ m. (named e m, c)) ns)) ≡ Some d → (d ≡ c) × (i.entity.0 ≡ e) × ((is_text i.name n || list_any (is_text i.name) ns) ≡ true)) [
-        | true ↦ λ p g. let q = same_is i (named e n) p in (sym (some_is c d g), ap (λ (j : InstanceId). j.entity.0) q, or_left (is_text i.name n) _ (subst (λ m. is_text i.name m ≡ true) (ap (λ (j : InstanceId). j.name) q) (text_itself i.name)))
+        | true ↦ λ p g. let q = same_is i (named e n) p in (sym (same_Some c d g), ap (λ (j : InstanceId). j.entity.0) q, or_left (is_text i.name n) _ (subst (λ m. is_text i.name m ≡ true) (ap (λ (j : InstanceId). j.name) q) (text_itself i.name)))
         | false ↦ λ p g. let r = in_names e i c d ns g in (r.0, r.1, or_right (is_text i.name n) _ r.2)
       ] refl h
 
@@ -138,7 +134,7 @@ module _ (s : Shape) (l : Lists) where
       elim (x.0.entity.0 == c.entity.0) as (λ t. (x.0.entity.0 == c.entity.0) ≡ t → list_any (is_same c) (map (λ p. p.0) (cond t (x ∷ filter (λ p. p.0.entity.0 == c.entity.0) xs) (filter (λ p. p.0.entity.0 == c.entity.0) xs))) ≡ true) [
         | true ↦ λ _. elim (is_same c x.0) as (λ b. (b || is_in xs c) ≡ true → (b || list_any (is_same c) (map (λ p. p.0) (filter (λ p. p.0.entity.0 == c.entity.0) xs))) ≡ true) [ true ↦ λ _. refl | false ↦ λ g. among c xs g ] h
         | false ↦ λ no. elim (is_same c x.0) as (λ b. is_same c x.0 ≡ b → (b || is_in xs c) ≡ true → list_any (is_same c) (map (λ p. p.0) (filter (λ p. p.0.entity.0 == c.entity.0) xs)) ≡ true) [
-          | true ↦ λ p _. absurd (true≢false (sym (same_number (x.0.entity.0) (c.entity.0) (sym (ap (λ (j : InstanceId). j.entity.0) (same_is c x.0 p)))) ∙ no))
+          | true ↦ λ p _. absurd (true≢false (sym (eq-eqb (x.0.entity.0) (c.entity.0) (sym (ap (λ (j : InstanceId). j.entity.0) (same_is c x.0 p)))) ∙ no))
           | false ↦ λ _ g. among c xs g
         ] refl h
       ] refl
@@ -151,7 +147,7 @@ module _ (s : Shape) (l : Lists) where
           | false ↦ λ g. absurd (omega (arith, (bounds m c g).0, exact_unsigned_eq c.entity.0 0 e))
         ] is
         | false ↦ λ no. elim (is_same c global) as (λ b. is_same c global ≡ b → (b || is_in (live_upto s l m) c) ≡ true → list_any (is_same c) (map (λ p. p.0) (filter (λ p. p.0.entity.0 == c.entity.0) (live_upto s l k))) ≡ true) [
-          | true ↦ λ e _. absurd (true≢false (sym (same_number c.entity.0 0 (ap (λ (j : InstanceId). j.entity.0) (same_is c global e))) ∙ no))
+          | true ↦ λ e _. absurd (true≢false (sym (eq-eqb c.entity.0 0 (ap (λ (j : InstanceId). j.entity.0) (same_is c global e))) ∙ no))
           | false ↦ λ _ g. among c (live_upto s l k) (earlier_in (m - k) k m c (omega (arith, le)) early g)
         ] refl is
       ] refl

@@ -2,7 +2,8 @@
 use Rattle.std.specs.Prelude.{◌≡◌, ℕ, Bool, true, false, cond, List, None, Some, Result, Ok, Err, refl}
 use Rattle.std.specs.FinMap.{FinMap, get, insert, remove, same_map, get-insert, get-remove}
 use Rattle.std.specs.Ordering.{eq_by_cmp}
-use Rattle.std.proofs.Common.{ap, sym, subst, ◌∙◌, ◌⊎◌, inl, inr}
+use Rattle.std.proofs.Common.{ap, sym, subst, ◌∙◌}
+use Rattle.opa_io.proofs.Options.{cond_none_parts}
 use Rattle.opa_model.specs.declared.ids.AttrId.{AttrId}
 use Rattle.opa_model.specs.declared.ids.RelId.{RelId}
 use Rattle.opa_cells.specs.declared.instance.InstanceId.{InstanceId}
@@ -18,9 +19,9 @@ use Rattle.opa_case.specs.Steps.{stays, settle, is_misplaced, is_unanswerable, i
 use Rattle.opa_case.specs.Fits.{Known, Answered, Fits}
 use Rattle.opa_case.specs.Clean.{IsClean, are_clean_names, is_clean_answer}
 use Rattle.opa_case.specs.Laws.{StepFits, StepIsClean, WithdrawUndoes}
-use Rattle.opa_case.proofs.Settled.{cond_is}
 use Rattle.opa_case.proofs.Kept.{inserted, removed, guard, ok_is, passed, within_is, list_kept, forgotten_kept, fault_none}
 use Rattle.opa_case.proofs.Answering.{answer_inserted, answer_removed, answered_kept, withdrawn_kept}
+use Rattle.opa_case.proofs.Settling.{either}
 
 pub step_fits : StepFits
 step_fits s ruled shape c c' (SetAnswer a i line) declared fits h =
@@ -34,16 +35,12 @@ step_fits s ruled shape c c' (SetList r i names) declared fits h =
 step_fits s ruled shape c c' (Forget r i) declared fits h =
     subst (Fits s ruled) (ok_is (without_list s c r i) c' (guard (is_misplaced s c r i) Name (Ok (without_list s c r i)) c' h).1) (forgotten_kept s ruled shape c r i fits)
 
-either : {A B : Type 0} (Q : Type 0) → A ⊎ B → (A → Q) → (B → Q) → Q
-either Q (inl a) f g = f a
-either Q (inr b) f g = g b
-
 -- what a settled case has, the lists and answers had
 pub settled_list : (s : Shape) (m : FinMap cell_cmp Names) (answers : FinMap cell_cmp Answer) (r : RelId) (i : InstanceId) (names : Names) → Known (settle s m answers).lists r i names → Known m r i names
-settled_list s m answers r i names h = (cond_is (stays s (live_of s (stored m)) m (r.0, i)) (get m (r.0, i)) names (sym (get_kept cell_exact m (stays s (live_of s (stored m)) m) (r.0, i)) ∙ h)).1
+settled_list s m answers r i names h = (cond_none_parts (stays s (live_of s (stored m)) m (r.0, i)) (get m (r.0, i)) names (sym (get_kept cell_exact m (stays s (live_of s (stored m)) m) (r.0, i)) ∙ h)).1
 
 pub settled_answer : (s : Shape) (m : FinMap cell_cmp Names) (answers : FinMap cell_cmp Answer) (a : AttrId) (i : InstanceId) (line : Answer) → Answered (settle s m answers).answers a i line → (is_live (live_of s (stored m)) i ≡ true) × Answered answers a i line
-settled_answer s m answers a i line h = cond_is (is_live (live_of s (stored m)) i) (get answers (a.0, i)) line (sym (get_kept cell_exact answers (λ k. is_live (live_of s (stored m)) k.1) (a.0, i)) ∙ h)
+settled_answer s m answers a i line h = cond_none_parts (is_live (live_of s (stored m)) i) (get answers (a.0, i)) line (sym (get_kept cell_exact answers (λ k. is_live (live_of s (stored m)) k.1) (a.0, i)) ∙ h)
 
 withdrawn_clean : (c : CaseView) (a : AttrId) (i : InstanceId) → IsClean c → IsClean (without_answer c a i)
 withdrawn_clean c a i clean = record { names = clean.names; texts = λ b j line h. clean.texts b j line (answer_removed c.answers (a.0, i) (b.0, j) line h) }

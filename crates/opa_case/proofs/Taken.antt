@@ -4,27 +4,22 @@ use Rattle.std.specs.List.{list_any}
 use Rattle.std.specs.Ordering.{nat_cmp, is_eq}
 use Rattle.std.specs.Cmp.{eq_by_cmp_equiv, nat_cmp_total}
 use Rattle.std.specs.FinMap.{FinMap, get, remove, get-remove}
-use Rattle.std.proofs.Common.{ap, sym, subst, ◌∙◌}
+use Rattle.std.proofs.Common.{ap, sym, subst, ◌∙◌, eq-eqb}
 use Rattle.std.proofs.lemmas.List.{take_more}
 use Rattle.std.proofs.lemmas.List.Folds.{list_any-append}
 use Rattle.std.proofs.lemmas.Map.Lookups.{exact_unsigned}
 use Rattle.std.proofs.lemmas.Map.Views.{tells_apart, exact_unsigned_eq}
+use Rattle.opa_io.proofs.Bools.{same_truth}
 use Rattle.opa_cells.specs.declared.instance.InstanceId.{InstanceId}
 use Rattle.opa_cells.specs.Instances.{instance_cmp, is_same}
 use Rattle.opa_cells.specs.Keys.{cell_cmp}
 use Rattle.opa_cells.proofs.Orders.{cell_total}
 use Rattle.opa_cells.proofs.Rowed.{parts}
-use Rattle.opa_case.proofs.Stands.{same_number}
-
-pub same_truth : (a b : Bool) → (a ≡ true → b ≡ true) → (b ≡ true → a ≡ true) → a ≡ b
-same_truth true b f g = sym (f refl)
-same_truth false true f g = g refl
-same_truth false false f g = refl
 
 -- the order of numbers, and whether they are one
 pub one_number : (q n : ℕ) → is_eq (nat_cmp q n) ≡ (q == n)
 one_number q n = same_truth (is_eq (nat_cmp q n)) (q == n)
-    (λ h. same_number q n (tells_apart exact_unsigned q n h))
+    (λ h. eq-eqb q n (tells_apart exact_unsigned q n h))
     (λ h. subst (λ m. is_eq (nat_cmp q m) ≡ true) (exact_unsigned_eq q n h) ((eq_by_cmp_equiv nat_cmp_total).refl q))
 
 -- Two are taken out, one after the other: the second test sees what the first one left.

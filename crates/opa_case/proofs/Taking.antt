@@ -3,7 +3,10 @@ use Rattle.std.specs.Prelude.{◌≡◌, ◌-◌, ℕ, Bool, true, cond, List, N
 use Rattle.std.specs.FinMap.{get, remove, get-remove}
 use Rattle.std.specs.Cmp.{eq_by_cmp_equiv}
 use Rattle.std.proofs.Common.{ap, sym, subst, ◌∙◌}
+use Rattle.std.proofs.lemmas.Option.{same_Some}
+use Rattle.std.proofs.lemmas.Bool.{false_from_ne_true}
 use mathlib.Core.Bool.{true≢false}
+use Rattle.opa_io.proofs.Options.{none_by}
 use Rattle.opa_model.specs.declared.ids.RelId.{RelId}
 use Rattle.opa_cells.specs.declared.instance.InstanceId.{InstanceId}
 use Rattle.opa_cells.specs.Instances.{named}
@@ -15,11 +18,10 @@ use Rattle.opa_case.specs.Cases.{CaseView, stored}
 use Rattle.opa_case.specs.Steps.{is_misplaced, without_list}
 use Rattle.opa_case.specs.Fits.{Fits}
 use Rattle.opa_case.specs.Laws.{Takes, ForgetTakes}
-use Rattle.opa_case.proofs.Stands.{in_upto, container_found, some_is, Has}
+use Rattle.opa_case.proofs.Stands.{in_upto, container_found, Has}
 use Rattle.opa_case.proofs.Among.{container_live}
 use Rattle.opa_case.proofs.Kept.{guard, ok_is, forgotten_kept}
 use Rattle.opa_case.proofs.Losing.{forgotten_home}
-use Rattle.opa_case.proofs.Replacing.{false_by, none_by}
 
 module _ (s : Shape) (ruled : List Bool) (shape : IsShape s) (c : CaseView) (r : RelId) (i : InstanceId) (fits : Fits s ruled c) where
   abbrev new : CaseView
@@ -36,7 +38,7 @@ module _ (s : Shape) (ruled : List Bool) (shape : IsShape s) (c : CaseView) (r :
   stood j d at alive =
       let pos = (in_upto s (stored c.lists) (s.count - 1) j d (ap (λ (p : Population). container_of p j) (sym fits.live) ∙ at)).0 in
       let found = container_found s after j pos alive in
-      let same : found.0 ≡ d = some_is found.0 d (sym (forgotten_home s ruled shape c fits r i j found.0 found.1) ∙ at) in
+      let same : found.0 ≡ d = same_Some found.0 d (sym (forgotten_home s ruled shape c fits r i j found.0 found.1) ∙ at) in
       subst (λ (x : InstanceId). (is_live new.live x ≡ true) × Has s after j x) same ((container_live s after j found.0 found.1).0, found.2)
 
   stays_not : (n : List ℕ) → s.contains r ≡ true → container_of c.live (named (s.target r) n) ≡ Some i → is_live new.live (named (s.target r) n) ≡ true → ⊥
@@ -46,8 +48,8 @@ module _ (s : Shape) (ruled : List Bool) (shape : IsShape s) (c : CaseView) (r :
 
   pub taken : Takes s c new r i
   taken = record {
-    goes = λ n con at. false_by (is_live new.live (named (s.target r) n)) (λ alive. stays_not n con at alive);
-    takes_contained = λ j d at gone. false_by (is_live new.live j) (λ alive. true≢false (sym (stood j d at alive).0 ∙ gone));
+    goes = λ n con at. false_from_ne_true (is_live new.live (named (s.target r) n)) (λ alive. stays_not n con at alive);
+    takes_contained = λ j d at gone. false_from_ne_true (is_live new.live j) (λ alive. true≢false (sym (stood j d at alive).0 ∙ gone));
     takes_answers = λ j a gone. get_kept cell_exact c.answers (λ k. is_live new.live k.1) (a.0, j) ∙ ap (λ b. cond b (get c.answers (a.0, j)) None) gone;
     takes_lists = λ j q gone. none_by (get new.lists (q.0, j)) (λ ns at. true≢false (sym ((forgotten_kept s ruled shape c r i fits).listed q j ns at) ∙ gone));
   }

@@ -6,12 +6,13 @@ use Rattle.std.specs.Map.{lookup}
 use Rattle.std.specs.Ordering.{nat_cmp, eq_by_cmp}
 use Rattle.std.specs.BTreeMap.{BTreeMap, is_at}
 use Rattle.std.specs.FinMap.{FinMap, get, entries, contains_key-keys}
-use Rattle.std.proofs.Common.{ap, sym, subst, ◌∙◌, inl, inr}
+use Rattle.std.proofs.Common.{ap, sym, subst, ◌∙◌, inl, inr, eq-eqb}
 use Rattle.std.proofs.lemmas.Bool.{and_from, and_parts, or_left, or_right}
 use Rattle.std.proofs.lemmas.List.Elements.{Contains-append_left, Contains-push}
 use Rattle.std.proofs.lemmas.Map.Views.{tells_apart}
 use mathlib.Core.Bool.{true≢false}
 use denote.Ref.{Bor}
+use Rattle.opa_io.proofs.Bools.{and_false}
 use Rattle.opa_model.specs.declared.ids.RelId.{RelId}
 use Rattle.opa_cells.specs.declared.instance.InstanceId.{InstanceId}
 use Rattle.opa_cells.specs.Instances.{instance_cmp, is_same, is_text, named}
@@ -28,7 +29,7 @@ use Rattle.opa_case.specs.Lost.{refers_to}
 use Rattle.opa_case.specs.Turns.{Turns, is_among}
 use Rattle.opa_case.specs.Relists.{lists_with, relisted, AreReferred}
 use Rattle.opa_case.specs.Touched.{AreTouched, AddsKeys, may_refer}
-use Rattle.opa_case.proofs.Stands.{any_map, any_weaker, same_number, text_itself}
+use Rattle.opa_case.proofs.Stands.{any_map, any_weaker, text_itself}
 use Rattle.opa_case.proofs.Taken.{any_next, one_number}
 use Rattle.opa_case.proofs.Overlaid.{put_list, lists_then, stays_then}
 
@@ -63,10 +64,6 @@ leads_end old new all left leads none q j h = go (leads q j h)
     go (inl k) = k
     go (inr t) = absurd (true≢false (sym t ∙ none q j))
 
-never : (b : Bool) → (b && false) ≡ false
-never true = refl
-never false = refl
-
 -- The rows of an index, one by one.
 row_apart : (s : Shape) (i : InstanceId) (number : ℕ) (row : BTreeMap (List ℕ) (BTreeMap InstanceId (Unit {0}))) (rest : IndexEntries) (q : ℕ) (j : InstanceId)
     → (may_refer s i q && is_indexed ((number, row) ∷ rest) q i.name j) ≡ true
@@ -98,7 +95,7 @@ rows_more old now new s i index all number row rest is before step =
     (λ q j h. row_apart s i number row rest q j (ap (λ (es : IndexEntries). MayRefer s i es q j) (sym is) ∙ h))
 
 pub rows_end : (old new : Keys) (s : Shape) (i : InstanceId) (index all : IndexEntries) → index ≡ [] → Leads old new (MayRefer s i all) (MayRefer s i index) → AddsKeys old new (MayRefer s i all)
-rows_end old new s i index all none leads = leads_end old new (MayRefer s i all) (MayRefer s i index) leads (λ q j. ap (λ (es : IndexEntries). MayRefer s i es q j) none ∙ never (may_refer s i q))
+rows_end old new s i index all none leads = leads_end old new (MayRefer s i all) (MayRefer s i index) leads (λ q j. ap (λ (es : IndexEntries). MayRefer s i es q j) none ∙ and_false (may_refer s i q))
 
 abbrev pub OfSource : ℕ → SourceEntries → Test
 OfSource number sources q j = q == number && has_source sources j
@@ -110,7 +107,7 @@ sources_more old now new number sources all inst u rest is before step =
     (λ q j h. source_apart number inst u rest q j (ap (λ (es : SourceEntries). OfSource number es q j) (sym is) ∙ h))
 
 pub sources_end : (old new : Keys) (number : ℕ) (sources all : SourceEntries) → sources ≡ [] → Leads old new (OfSource number all) (OfSource number sources) → AddsKeys old new (OfSource number all)
-sources_end old new number sources all none leads = leads_end old new (OfSource number all) (OfSource number sources) leads (λ q j. ap (λ (es : SourceEntries). OfSource number es q j) none ∙ never (q == number))
+sources_end old new number sources all none leads = leads_end old new (OfSource number all) (OfSource number sources) leads (λ q j. ap (λ (es : SourceEntries). OfSource number es q j) none ∙ and_false (q == number))
 
 -- A key is pushed.
 pub adds_key : (old new : Keys) (number : ℕ) (copied inst : InstanceId) → copied ≡ inst → new ≡ old ++ (rel number, copied) ∷ [] → AddsKeys old new (is_list number inst)
@@ -159,7 +156,7 @@ names_go s q full gone refers (n ∷ ns) within h =
     ] refl h
   where
     here : refers_to s (named (s.target q) n) q.0 (Some full) ≡ true
-    here = and_from _ _ (and_from (not (s.contains q)) _ (ap not refers) (same_number (s.target q) (s.target q) refl)) (within n (or_left (is_text n n) _ (text_itself n)))
+    here = and_from _ _ (and_from (not (s.contains q)) _ (ap not refers) (eq-eqb (s.target q) (s.target q) refl)) (within n (or_left (is_text n n) _ (text_itself n)))
 
 module _ (s : Shape) (c : CaseView) (r : RelId) (i : InstanceId) (o : Option Names) (went came : Population)
     (turns : Turns c.live (relisted s c r i o).live went came i) (referred : AreReferred s (lists_with c.lists r i o) c.live) where

@@ -6,8 +6,9 @@ use Rattle.std.specs.Ordering.{eq_by_cmp}
 use Rattle.std.specs.Cmp.{eq_by_cmp_equiv}
 use Rattle.std.proofs.Common.{arith, ap, sym, subst, ◌∙◌}
 use Rattle.std.proofs.lemmas.Map.Views.{tells_apart, exact_unsigned_eq}
-use Rattle.std.proofs.lemmas.Bool.{or_parts}
+use Rattle.std.proofs.lemmas.Bool.{or_parts, not-false, false_from_ne_true, or_right, or_left}
 use mathlib.Core.Bool.{true≢false}
+use Rattle.opa_io.proofs.Options.{none_by}
 use Rattle.opa_model.specs.declared.ids.RelId.{RelId}
 use Rattle.opa_cells.specs.declared.instance.InstanceId.{InstanceId}
 use Rattle.opa_cells.specs.Instances.{is_same, is_text, global, named}
@@ -19,20 +20,11 @@ use Rattle.opa_case.specs.Cases.{CaseView, stored, are_names}
 use Rattle.opa_case.specs.Steps.{rel, is_misplaced, stands_elsewhere, cant_name, list_fault}
 use Rattle.opa_case.specs.Fits.{Fits}
 use Rattle.opa_case.specs.Turns.{names_without, is_among, gone_upto, leaving, coming, Turns}
-use Rattle.opa_case.proofs.Lively.{or_left, or_right}
 use Rattle.opa_case.proofs.Stands.{container_found, in_members, in_upto, lookup_found, text_is, text_itself}
-use Rattle.opa_case.proofs.Kept.{not_elsewhere, not_false, passes, tests_passed}
+use Rattle.opa_case.proofs.Kept.{not_elsewhere, passes, tests_passed}
 use Rattle.opa_case.proofs.Weighing.{weigh, unit, weigh-map, counted_is, counted_some, counted_none, some_counted, none_counted, weigh_ones, without_less, occurs, paired, paired_less, paired_found, found_paired, absent, times}
 use Rattle.opa_case.proofs.Distinct.{once_upto, once_member, occurs_named, are_listed}
 use Rattle.opa_case.proofs.Balancing.{balanced, gone_less}
-
-false_by : (b : Bool) → (b ≡ true → ⊥) → b ≡ false
-false_by true never = absurd (never refl)
-false_by false never = refl
-
-none_by : {A : Type 0} (o : Option A) → ((x : A) → o ≡ Some x → ⊥) → o ≡ None
-none_by None never = refl
-none_by (Some x) never = absurd (never x refl)
 
 -- Populations whose sums agree.
 module _ (live next gone come : Population) (i : InstanceId)
@@ -58,7 +50,7 @@ module _ (live next gone come : Population) (i : InstanceId)
   not_both x some = omega (arith, occurrences x, once x, some)
 
   apart_from_global : (x : InstanceId) → 0 < occurs x live → is_same x global ≡ false
-  apart_from_global x some = false_by (is_same x global) (λ e. let none : occurs x live ≡ 0 = ap (λ y. occurs y live) (same_is x global e) ∙ no_global in omega (arith, none, some))
+  apart_from_global x some = false_from_ne_true (is_same x global) (λ e. let none : occurs x live ≡ 0 = ap (λ y. occurs y live) (same_is x global e) ∙ no_global in omega (arith, none, some))
 
   not_live : (x : InstanceId) → is_same x global ≡ false → occurs x next ≡ 0 → is_live next x ≡ false
   not_live x other none = ap (λ b. b || list_any (is x) next) other ∙ none_counted (is x) next none
@@ -106,7 +98,7 @@ module _ (live next gone come : Population) (i : InstanceId)
       by false keeps false not_new None was = absent x next (omega (arith, occurrences x, nowhere live was, counted_none (is x) come not_new))
         where
           nowhere : (xs : Population) → container_of xs x ≡ None → occurs x xs ≡ 0
-          nowhere xs none = counted_none (is x) xs (false_by (list_any (is x) xs) (λ h. let f = lookup_found (is_same x) xs h in different f.0 (sym f.1 ∙ none)))
+          nowhere xs none = counted_none (is x) xs (false_from_ne_true (list_any (is x) xs) (λ h. let f = lookup_found (is_same x) xs h in different f.0 (sym f.1 ∙ none)))
             where
               different : (d : InstanceId) → Some d ≡ None → ⊥
               different d h = cc h
@@ -187,13 +179,13 @@ module _ (s : Shape) (ruled : List Bool) (shape : IsShape s) (c : CaseView) (r :
   inside = shape.target_in r con
 
   owner : i.entity.0 ≡ s.source r
-  owner = exact_unsigned_eq i.entity.0 (s.source r) (not_false _ (or_parts _ _ placed).1)
+  owner = exact_unsigned_eq i.entity.0 (s.source r) (not-false _ (or_parts _ _ placed).1)
 
   parent : i.entity.0 ≡ s.parent t
   parent = owner ∙ ap s.source (shape.no_other r con) ∙ shape.source t inside.0 inside.1
 
   was_live : is_live live i ≡ true
-  was_live = subst (λ (xs : Population). is_live xs i ≡ true) fits.live (not_false _ (or_parts _ _ (or_parts _ _ placed).0).1)
+  was_live = subst (λ (xs : Population). is_live xs i ≡ true) fits.live (not-false _ (or_parts _ _ (or_parts _ _ placed).0).1)
 
   old_names : are_names old ≡ true
   old_names = ap (λ q. are_names (unwrap_or (l q i) [])) (shape.no_other r con) ∙ are_listed s shape c.lists fits.sound t i
@@ -210,7 +202,7 @@ module _ (s : Shape) (ruled : List Bool) (shape : IsShape s) (c : CaseView) (r :
 
   -- what comes wasn't live
   not_before : (n : List ℕ) → list_any (is_text n) (names_without names old) ≡ true → is_live live (named t n) ≡ false
-  not_before n h = false_by (is_live live (named t n)) (λ alive.
+  not_before n h = false_from_ne_true (is_live live (named t n)) (λ alive.
       let left = left_name n names old h in
       let f = container_found s l (named t n) inside.0 alive in
       let same : i ≡ f.0 = not_elsewhere c.live i f.0 (named t n) (ap (λ (xs : Population). container_of xs (named t n)) fits.live ∙ f.1) (free n left.0) in
@@ -277,7 +269,7 @@ module _ (s : Shape) (ruled : List Bool) (shape : IsShape s) (c : CaseView) (r :
       go false h = omega (arith, once_live (s.count - 1) (omega (arith, shape.some)) x, counted_none (λ p. is_same x p.0) comes h)
 
   no_global : occurs global live ≡ 0
-  no_global = counted_none (λ p. is_same global p.0) live (false_by (list_any (λ p. is_same global p.0) live) (λ h. let f = lookup_found (is_same global) live h in omega (arith, (in_upto s l (s.count - 1) global f.0 f.1).0)))
+  no_global = counted_none (λ p. is_same global p.0) live (false_from_ne_true (list_any (λ p. is_same global p.0) live) (λ h. let f = lookup_found (is_same global) live h in omega (arith, (in_upto s l (s.count - 1) global f.0 f.1).0)))
 
   come_inside : (x : InstanceId) → is_among comes x ≡ true → 0 < paired x i comes
   come_inside x h = omega (arith, in_one x t i (names_without names old), counted_some (λ p. is_same x p.0) comes h)
@@ -287,7 +279,7 @@ module _ (s : Shape) (ruled : List Bool) (shape : IsShape s) (c : CaseView) (r :
       (turns_by_sums live (live_of s (stored m)) goes comes i (sums_at (t - 1) refl) (less_at (t - 1) refl) both_once no_global come_new come_inside)
 
 other_key : (q : RelId) (j : InstanceId) (r : RelId) (i : InstanceId) → ((q ≡ r) × (j ≡ i) → ⊥) → eq_by_cmp cell_cmp (q.0, j) (r.0, i) ≡ false
-other_key q j r i apart = false_by (eq_by_cmp cell_cmp (q.0, j) (r.0, i)) (λ h. let k = tells_apart cell_exact (q.0, j) (r.0, i) h in apart (ap (λ (x : ℕ × InstanceId). rel x.0) k, ap (λ (x : ℕ × InstanceId). x.1) k))
+other_key q j r i apart = false_from_ne_true (eq_by_cmp cell_cmp (q.0, j) (r.0, i)) (λ h. let k = tells_apart cell_exact (q.0, j) (r.0, i) h in apart (ap (λ (x : ℕ × InstanceId). rel x.0) k, ap (λ (x : ℕ × InstanceId). x.1) k))
 
 -- A containment list that is set.
 pub set_turns : (s : Shape) (ruled : List Bool) → IsShape s → (c : CaseView) (r : RelId) (i : InstanceId) (names : Names) → s.contains r ≡ true → Fits s ruled c → list_fault s c r i names ≡ None

@@ -1,16 +1,16 @@
 -- A known Walk is what lives of an entity, in instance order.
 use Rattle.std.specs.Prelude.{◌≡◌, ◌≤◌, ◌<◌, ◌-◌, ◌==◌, ℕ, zero, suc, Bool, true, false, cond, List, [], ◌∷◌, ◌++◌, Option, None, Some, map, filter, flat_map, unwrap_or, refl}
 use Rattle.std.specs.Option.{option_map, option_and_then}
-use Rattle.std.proofs.Common.{arith, ap, sym, subst, ◌∙◌}
+use Rattle.std.proofs.Common.{arith, ap, sym, subst, ◌∙◌, eq-eqb}
 use Rattle.std.proofs.lemmas.List.Elements.{filter-append}
 use Rattle.std.proofs.lemmas.Map.Views.{exact_unsigned_eq}
+use Rattle.std.proofs.lemmas.Option.{same_Some}
 use mathlib.Core.Bool.{true≢false}
 use mathlib.Core.List.{map-append}
 use Rattle.opa_cells.specs.declared.instance.InstanceId.{InstanceId}
 use Rattle.opa_cells.specs.Instances.{global, named}
 use Rattle.opa_case.specs.Shapes.{Shape, IsShape}
 use Rattle.opa_case.specs.Live.{Names, Lists, Population, members, in_container, held, live_upto, live_of, gathered, walk}
-use Rattle.opa_case.proofs.Stands.{same_number, some_is}
 
 abbrev of : ℕ → InstanceId × InstanceId → Bool
 of e p = p.0.entity.0 == e
@@ -60,7 +60,7 @@ module _ (s : Shape) (l : Lists) where
   ] refl
     where
       apart : (suc n == e) ≡ false → (suc n ≡ e → ⊥)
-      apart k same = true≢false (sym (same_number (suc n) e same) ∙ k)
+      apart k same = true≢false (sym (eq-eqb (suc n) e same) ∙ k)
 
       earlier : (suc n == e) ≡ false → e ≤ n
       earlier g = omega (arith, le, apart g)
@@ -92,10 +92,10 @@ module _ (s : Shape) (l : Lists) where
       turn =
           filter-append (of (suc k)) (live_upto s l k) (block (suc k) (members (s.parent (suc k)) (live_upto s l k)))
           ∙ ap (λ xs. xs ++ filter (of (suc k)) (block (suc k) (members (s.parent (suc k)) (live_upto s l k)))) (none_yet k (suc k) (omega arith))
-          ∙ of_block (suc k) (suc k) true (same_number (suc k) (suc k) refl) (members (s.parent (suc k)) (live_upto s l k))
+          ∙ of_block (suc k) (suc k) true (eq-eqb (suc k) (suc k) refl) (members (s.parent (suc k)) (live_upto s l k))
 
   held_known : (e : ℕ) (cs : List InstanceId) (names : Names) → gathered (map (l (s.contained e)) cs) ≡ Some names → map (λ p. p.0) (block e cs) ≡ map (named e) names
-  held_known e [] names g = ap (map (named e)) (some_is [] names g)
+  held_known e [] names g = ap (map (named e)) (same_Some [] names g)
   held_known e (c ∷ cs) names g = go (l (s.contained e) c) refl (gathered (map (l (s.contained e)) cs)) refl g (λ rest h. held_known e cs rest h)
     where
       go : (o : Option Names) → l (s.contained e) c ≡ o → (r : Option Names) → gathered (map (l (s.contained e)) cs) ≡ r → gathered (o ∷ map (l (s.contained e)) cs) ≡ Some names
@@ -107,12 +107,12 @@ module _ (s : Shape) (l : Lists) where
           ∙ ap (λ xs. xs ++ map (λ p. p.0) (block e cs)) (ap (λ o. map (λ p. p.0) (in_container e c (unwrap_or o []))) is ∙ named_of e c ns)
           ∙ ap (λ xs. map (named e) ns ++ xs) (later rest more)
           ∙ sym (map-append (named e) ns rest)
-          ∙ ap (map (named e)) (some_is (ns ++ rest) names (sym (ap (option_map (λ r. ns ++ r)) more) ∙ h))
+          ∙ ap (map (named e)) (same_Some (ns ++ rest) names (sym (ap (option_map (λ r. ns ++ r)) more) ∙ h))
 
   module _ (shape : IsShape s) where
     pub walk_members : (n e : ℕ) → e ≤ n → e < s.count → (is : List InstanceId) → walk s l n e ≡ Some is → members e (live_of s l) ≡ is
     unfolding walk
-    walk_members n zero le lt is h = some_is (global ∷ []) is (root n h)
+    walk_members n zero le lt is h = same_Some (global ∷ []) is (root n h)
       where
         root : (n : ℕ) → walk s l n 0 ≡ Some is → Some (global ∷ []) ≡ Some is
         root zero g = g
@@ -130,7 +130,7 @@ module _ (s : Shape) (l : Lists) where
         step cs are None known g = absurd (cc g)
         step cs are (Some names) known g =
             members_held (s.count - 1) k (omega (arith, lt)) (omega (arith, early)) ∙ ap (λ xs. map (λ p. p.0) (block (suc k) xs)) are
-            ∙ held_known (suc k) cs names known ∙ some_is (map (named (suc k)) names) is g
+            ∙ held_known (suc k) cs names known ∙ same_Some (map (named (suc k)) names) is g
 
         go : (o : Option (List InstanceId)) → walk s l n (s.parent (suc k)) ≡ o → option_and_then (λ cs. option_map (map (named (suc k))) (gathered (map (l (s.contained (suc k))) cs))) o ≡ Some is
             → ((cs : List InstanceId) → walk s l n (s.parent (suc k)) ≡ Some cs → members (s.parent (suc k)) (live_of s l) ≡ cs) → members (suc k) (live_of s l) ≡ is

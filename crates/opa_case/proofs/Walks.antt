@@ -2,7 +2,7 @@
 use Rattle.std.specs.Prelude.{◌≡◌, ◌≤◌, ◌<◌, ◌+◌, ◌-◌, ◌==◌, ℕ, zero, suc, true, false, cond, List, [], ◌∷◌, ◌++◌, Option, None, Some, map, refl}
 use Rattle.std.specs.List.{list_any, AllByRecursion}
 use Rattle.std.specs.Option.{option_map, option_and_then}
-use Rattle.std.proofs.Common.{arith, ap, sym, subst, ◌∙◌}
+use Rattle.std.proofs.Common.{arith, ap, sym, subst, ◌∙◌, eq-eqb}
 use mathlib.Core.Bool.{true≢false}
 use Rattle.std.proofs.lemmas.Map.Views.{exact_unsigned_eq}
 use Rattle.opa_model.specs.declared.ids.RelId.{RelId}
@@ -14,26 +14,24 @@ use Rattle.opa_case.specs.Live.{Names, Lists, live_of, is_live, gathered, walk}
 use Rattle.opa_case.specs.Steps.{every_upto, with_every, rel}
 use Rattle.std.specs.Option.{option_map_or}
 use Rattle.std.specs.FinMap.{insert, empty}
-use Rattle.opa_case.proofs.Lively.{or_left, or_right, all_weaker}
-use Rattle.opa_case.proofs.Stands.{has_live, text_itself, some_is, same_number}
-
-all_append : {A : Type 0} (P : A → Type 0) (xs ys : List A) → AllByRecursion P xs → AllByRecursion P ys → AllByRecursion P (xs ++ ys)
-all_append P [] ys a b = b
-all_append P (x ∷ xs) ys a b = (a.0, all_append P xs ys a.1 b)
+use Rattle.std.proofs.lemmas.Option.{same_Some}
+use Rattle.std.proofs.lemmas.Bool.{or_right, or_left}
+use Rattle.opa_io.proofs.Lists.{each_weaker, each_append}
+use Rattle.opa_case.proofs.Stands.{has_live, text_itself}
 
 all_map : {A B : Type 0} (P : B → Type 0) (f : A → B) (xs : List A) → AllByRecursion (λ x. P (f x)) xs → AllByRecursion P (map f xs)
 all_map P f [] a = tt
 all_map P f (x ∷ xs) a = (a.0, all_map P f xs a.1)
 
-each_listed : (ns : Names) → AllByRecursion (λ n. list_any (is_text n) ns ≡ true) ns
+pub each_listed : (ns : Names) → AllByRecursion (λ n. list_any (is_text n) ns ≡ true) ns
 each_listed [] = tt
-each_listed (n ∷ ns) = (or_left (is_text n n) _ (text_itself n), all_weaker _ _ (λ m h. or_right (is_text m n) _ h) ns (each_listed ns))
+each_listed (n ∷ ns) = (or_left (is_text n n) _ (text_itself n), each_weaker _ _ (λ m h. or_right (is_text m n) _ h) ns (each_listed ns))
 
 map_same : {A B : Type 0} (f g : A → B) (P : A → Type 0) → ((x : A) → P x → f x ≡ g x) → (xs : List A) → AllByRecursion P xs → map f xs ≡ map g xs
 map_same f g P h [] a = refl
 map_same f g P h (x ∷ xs) a = λ k. h x a.0 k ∷ map_same f g P h xs a.1 k
 
-positive : (e : ℕ) → (e == 0) ≡ false → 0 < e
+pub positive : (e : ℕ) → (e == 0) ≡ false → 0 < e
 positive zero t = absurd (true≢false t)
 positive (suc e) t = omega arith
 
@@ -43,7 +41,7 @@ module _ (s : Shape) (shape : IsShape s) (l : Lists) where
   IsOf e i = (is_live (live_of s l) i ≡ true) × (i.entity.0 ≡ e)
 
   names_live : (e : ℕ) → 0 < e → e < s.count → (cs : List InstanceId) → AllByRecursion (IsOf (s.parent e)) cs → (names : Names) → gathered (map (l (s.contained e)) cs) ≡ Some names → AllByRecursion (λ n. IsOf e (named e n)) names
-  names_live e pos lt [] all names g = subst (AllByRecursion (λ n. IsOf e (named e n))) (some_is [] names g) tt
+  names_live e pos lt [] all names g = subst (AllByRecursion (λ n. IsOf e (named e n))) (same_Some [] names g) tt
   names_live e pos lt (c ∷ cs) all names g = go (l (s.contained e) c) refl (gathered (map (l (s.contained e)) cs)) refl g (λ rest h. names_live e pos lt cs all.1 rest h)
     where
       go : (o : Option Names) → l (s.contained e) c ≡ o → (r : Option Names) → gathered (map (l (s.contained e)) cs) ≡ r → gathered (o ∷ map (l (s.contained e)) cs) ≡ Some names
@@ -51,8 +49,8 @@ module _ (s : Shape) (shape : IsShape s) (l : Lists) where
       go None is r more h later = absurd (cc h)
       go (Some ns) is None more h later = absurd (cc (sym (ap (option_map (λ rest. ns ++ rest)) more) ∙ h))
       go (Some ns) is (Some rest) more h later =
-          subst (AllByRecursion (λ n. IsOf e (named e n))) (some_is (ns ++ rest) names (sym (ap (option_map (λ r. ns ++ r)) more) ∙ h))
-          (all_append _ ns rest (all_weaker _ _ (λ n k. (has_live s l shape e n c ns pos lt all.0.0 all.0.1 is k, refl)) ns (each_listed ns)) (later rest more))
+          subst (AllByRecursion (λ n. IsOf e (named e n))) (same_Some (ns ++ rest) names (sym (ap (option_map (λ r. ns ++ r)) more) ∙ h))
+          (each_append _ ns rest (each_weaker _ _ (λ n k. (has_live s l shape e n c ns pos lt all.0.0 all.0.1 is k, refl)) ns (each_listed ns)) (later rest more))
 
   roots : (is : List InstanceId) (e : ℕ) → e ≡ 0 → global ∷ [] ≡ is → AllByRecursion (IsOf e) is
   roots is e zero_is same = subst (AllByRecursion (IsOf e)) same ((or_left (is_same global global) (list_any (λ p. is_same global p.0) (live_of s l)) (same_itself global), sym zero_is), tt)
@@ -63,7 +61,7 @@ module _ (s : Shape) (shape : IsShape s) (l : Lists) where
     where
       inner : (cs : List InstanceId) → AllByRecursion (IsOf (s.parent e)) cs → (r : Option Names) → gathered (map (l (s.contained e)) cs) ≡ r → option_map (map (named e)) r ≡ Some is → AllByRecursion (IsOf e) is
       inner cs all None k h = absurd (cc h)
-      inner cs all (Some names) k h = subst (AllByRecursion (IsOf e)) (some_is (map (named e) names) is h) (all_map (IsOf e) (named e) names (names_live e pos lt cs all names k))
+      inner cs all (Some names) k h = subst (AllByRecursion (IsOf e)) (same_Some (map (named e) names) is h) (all_map (IsOf e) (named e) names (names_live e pos lt cs all names k))
 
       go : (o : Option (List InstanceId)) → walk s l n (s.parent e) ≡ o → option_and_then (λ cs. option_map (map (named e)) (gathered (map (l (s.contained e)) cs))) o ≡ Some is → AllByRecursion (IsOf e) is
       go None k h = absurd (cc h)
@@ -71,10 +69,10 @@ module _ (s : Shape) (shape : IsShape s) (l : Lists) where
 
   pub walk_live : (n e : ℕ) → e ≤ n → e < s.count → (is : List InstanceId) → walk s l n e ≡ Some is → AllByRecursion (IsOf e) is
   unfolding walk
-  walk_live zero e le lt is h = roots is e (omega (arith, le)) (some_is (global ∷ []) is h)
+  walk_live zero e le lt is h = roots is e (omega (arith, le)) (same_Some (global ∷ []) is h)
   walk_live (suc n) e le lt is h =
       elim (e == 0) as (λ t. (e == 0) ≡ t → cond t (Some (global ∷ [])) (option_and_then (λ cs. option_map (map (named e)) (gathered (map (l (s.contained e)) cs))) (walk s l n (s.parent e))) ≡ Some is → AllByRecursion (IsOf e) is) [
-        | true ↦ λ t g. roots is e (exact_unsigned_eq e 0 t) (some_is (global ∷ []) is g)
+        | true ↦ λ t g. roots is e (exact_unsigned_eq e 0 t) (same_Some (global ∷ []) is g)
         | false ↦ λ t g. step n e (positive e t) (omega (arith, le, shape.earlier e (positive e t) lt)) lt is g (λ cs k. walk_live n (s.parent e) (omega (arith, le, shape.earlier e (positive e t) lt)) (omega (arith, lt, shape.earlier e (positive e t) lt)) cs k)
       ] refl h
 
@@ -117,7 +115,7 @@ module _ (s : Shape) (l : Lists) where
   pub walk_root : (n e : ℕ) → e ≡ 0 → Some (global ∷ []) ≡ walk s l n e
   unfolding walk
   walk_root zero e z = refl
-  walk_root (suc n) e z = ap (λ b. cond b (Some (global ∷ [])) (option_and_then (onward e) (walk s l n (s.parent e)))) (sym (same_number e 0 z))
+  walk_root (suc n) e z = ap (λ b. cond b (Some (global ∷ [])) (option_and_then (onward e) (walk s l n (s.parent e)))) (sym (eq-eqb e 0 z))
 
   not_zero : (e : ℕ) → (e ≡ 0 → ⊥) → (e == 0) ≡ false
   not_zero e z = elim (e == 0) as (λ b. (e == 0) ≡ b → b ≡ false) [ true ↦ λ t. absurd (z (exact_unsigned_eq e 0 t)) | false ↦ λ _. refl ] refl

@@ -2,9 +2,10 @@
 use Rattle.std.specs.Prelude.{◌≡◌, ◌≤◌, ◌-◌, ◌&&◌, ℕ, nat_lt, Bool, true, false, cond, not, List, [], ◌∷◌, Option, None, Some, Ok, IfSome, All, length, refl}
 use Rattle.std.specs.List.{list_all, list_any}
 use Rattle.std.specs.FinMap.{FinMap, get, insert, remove, empty, len, get-empty, len-empty, len-remove}
-use Rattle.std.proofs.Common.{arith, ap, sym, subst, ◌∙◌, ◌⊎◌, inl, inr}
-use Rattle.std.proofs.lemmas.Bool.{or_parts, and_parts, ltb-false, le-ltb}
+use Rattle.std.proofs.Common.{arith, ap, sym, subst, ◌∙◌}
+use Rattle.std.proofs.lemmas.Bool.{or_parts, and_parts, ltb-false, le-ltb, not-false}
 use Rattle.std.proofs.lemmas.List.Elements.{All-nil, All-cons}
+use Rattle.opa_io.proofs.Options.{cond_none_parts}
 use Rattle.opa_model.specs.declared.ids.AttrId.{AttrId}
 use Rattle.opa_model.specs.declared.ids.RelId.{RelId}
 use Rattle.opa_cells.specs.declared.instance.InstanceId.{InstanceId}
@@ -22,12 +23,12 @@ use Rattle.opa_case.specs.Fits.{Known, Answered, Fits}
 use Rattle.opa_case.specs.Turns.{Turns}
 use Rattle.opa_case.specs.Whole.{IsWhole}
 use Rattle.opa_case.specs.Laws.{StepIsWhole}
-use Rattle.opa_case.proofs.Kept.{inserted, removed, guard, ok_is, passed, fault_none, tests_passed, not_false}
-use Rattle.opa_case.proofs.Settled.{cond_is}
+use Rattle.opa_case.proofs.Kept.{inserted, removed, guard, ok_is, passed, fault_none, tests_passed}
 use Rattle.opa_case.proofs.Answering.{answer_inserted, answer_removed}
 use Rattle.opa_case.proofs.Referring.{reference_forgotten}
 use Rattle.opa_case.proofs.Turning.{forget_turns}
 use Rattle.opa_case.proofs.Stepping.{settled_list, settled_answer}
+use Rattle.opa_case.proofs.Settling.{either}
 
 -- what is fewer isn't over a limit either
 not_over : (limit n m : ℕ) → n ≤ m → nat_lt limit m ≡ false → nat_lt limit n ≡ false
@@ -45,10 +46,6 @@ IsShort n = length n ≤ 100
 pub all_short : (ns : Names) → list_any (λ n. nat_lt 100 (length n)) ns ≡ false → All IsShort ns
 all_short [] h = All-nil IsShort
 all_short (n ∷ ns) h = let p = or_parts (nat_lt 100 (length n)) _ h in All-cons IsShort n ns (ltb-false 100 (length n) p.0) (all_short ns p.1)
-
-either : {A B : Type 0} (Q : Type 0) → A ⊎ B → (A → Q) → (B → Q) → Q
-either Q (inl a) f g = f a
-either Q (inr b) f g = g b
 
 -- a case of which nothing is known
 pub none_whole : (c : CaseView) → c.lists ≡ empty → c.answers ≡ empty → c.live ≡ [] → IsWhole c
@@ -112,7 +109,7 @@ answered_whole c a i line alive short room whole = elim (is_unknown_answer line)
 pub answer_lives : (s : Shape) (ruled : List Bool) (c : CaseView) (a : AttrId) (i : InstanceId) (line : Answer) → answer_fault s ruled c a i line ≡ None → is_live c.live i ≡ true
 answer_lives s ruled c a i line h =
     let p = fault_none (is_unanswerable s ruled c a i) Name _ h in
-    not_false (is_live c.live i) (or_parts _ _ (or_parts _ _ p.0).0).1
+    not-false (is_live c.live i) (or_parts _ _ (or_parts _ _ p.0).0).1
 
 -- an answer without a fault is short, and there is room for it
 answer_fine : (s : Shape) (ruled : List Bool) (c : CaseView) (a : AttrId) (i : InstanceId) (line : Answer) → answer_fault s ruled c a i line ≡ None → (nat_lt 1000 (length line) ≡ false) × (nat_lt 100000 (len (with_answer c a i line).answers) ≡ false)
@@ -152,7 +149,7 @@ module _ (s : Shape) (c : CaseView) (r : RelId) (i : InstanceId) (whole : IsWhol
       → ((q : RelId) (j : InstanceId) (ns : Names) → Known m q j ns → list_any (λ n. nat_lt 100 (length n)) ns ≡ false)
       → nat_lt 20000 (length (settle s m c.answers).live) ≡ false → IsWhole (settle s m c.answers)
   settled_whole m names short room = record {
-    listed = λ q j ns h. (and_parts _ _ (cond_is (stays s (live_of s (stored m)) m (q.0, j)) (get m (q.0, j)) ns (sym (get_kept cell_exact m (stays s (live_of s (stored m)) m) (q.0, j)) ∙ h)).0).0;
+    listed = λ q j ns h. (and_parts _ _ (cond_none_parts (stays s (live_of s (stored m)) m (q.0, j)) (get m (q.0, j)) ns (sym (get_kept cell_exact m (stays s (live_of s (stored m)) m) (q.0, j)) ∙ h)).0).0;
     answered = λ a j line h. (settled_answer s m c.answers a j line h).0;
     names = λ q j ns h. names q j ns (settled_list s m c.answers q j ns h);
     short = λ q j ns h. short q j ns (settled_list s m c.answers q j ns h);

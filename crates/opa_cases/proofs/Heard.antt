@@ -4,6 +4,7 @@ use Rattle.std.specs.Prelude.{◌==◌, ◌||◌, Option, codes, flat_map, if◌
 use Rattle.std.specs.List.{concat, list_any}
 use Rattle.std.specs.FinMap as cases
 use Rattle.std.proofs.lemmas.List.Elements.{All-cons, All-append, All-head, All-push, All-tail}
+use Rattle.opa_io.proofs.Characters.{quote_is}
 use Rattle.opa_talk.specs.Lines.{lines, IsPart, EndsLine}
 use Rattle.opa_talk.proofs.LinesLaws.{lines_first, part_none}
 use Rattle.opa_tree.specs.declared.rulebase.Rulebase.{Rulebase}
@@ -132,9 +133,6 @@ blank_no_quote a b p q e = omega (arith, p, q, e)
 no_quote : (c : ℕ) → (c == 34) ≡ false → c ≡ 34 → ⊥
 no_quote c e d = grind (arith, e, d)
 
-is_quote : (c : ℕ) → (c == 34) ≡ true → c ≡ 34
-is_quote c e = grind (arith, e)
-
 -- what stands behind a name: its last quote and a blank
 abbrev closed : List ℕ → List ℕ
 closed r = 34 ∷ 32 ∷ r
@@ -150,7 +148,7 @@ ends_here c m r s false q h = no_quote c q (sym (first_of 34 c (32 ∷ r) (doubl
 
 both_go : (c d : ℕ) (n m r s : List ℕ) (t u : Bool) → (c == 34) ≡ t → (d == 34) ≡ u → inner t c (doubled n) ++ closed r ≡ inner u d (doubled m) ++ closed s → (c ≡ d) × (doubled n ++ closed r ≡ doubled m ++ closed s)
 both_go c d n m r s true true p q h = (
-  is_quote c p ∙ sym (is_quote d q),
+  quote_is c p ∙ sym (quote_is d q),
   rest_of 34 34 (doubled n ++ closed r) (doubled m ++ closed s) (rest_of 34 34 (34 ∷ (doubled n ++ closed r)) (34 ∷ (doubled m ++ closed s)) h),
 )
 both_go c d n m r s true false p q h = absurd (no_quote d q (sym (first_of 34 d (34 ∷ (doubled n ++ closed r)) (doubled m ++ closed s) h)))

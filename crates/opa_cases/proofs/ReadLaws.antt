@@ -1,6 +1,8 @@
 -- How a line of a caseload is read.
-use Rattle.std.proofs.Common.{◌≡◌, ◌≤◌, ℕ, Bool, true, false, List, [], ◌∷◌, ◌++◌, length, length-append, refl, sym, ap, ◌∙◌, subst, arith}
-use Rattle.std.specs.Prelude.{◌&&◌, nat_le, Result, Ok, Err, IfOk, IfErr}
+use Rattle.std.proofs.Common.{◌≡◌, ℕ, Bool, true, false, List, [], ◌∷◌, ◌++◌, length, length-append, refl, sym, ap, ◌∙◌, subst, arith, le-leb, leb-true}
+use Rattle.std.specs.Prelude.{nat_le, Result, Ok, Err, IfOk, IfErr}
+use Rattle.std.proofs.lemmas.Bool.{and_from}
+use Rattle.opa_io.proofs.Bools.{and_first, and_second}
 use Rattle.opa_words.specs.Fronts.{BeginsWithText, BeginsWithNoText}
 use Rattle.opa_words.specs.Kinds.{quoted}
 use Rattle.opa_words.proofs.QuoteLaws.{quoted_tells_apart}
@@ -41,38 +43,20 @@ too_long_name text name rest begins long other left is =
     let e = one_front text name other rest left begins is.begins in
     let no : true ≡ false = sym is.short ∙ ap is_short (sym e.0) ∙ long in cc no
 
-left_of : (a b : Bool) → (a && b) ≡ true → a ≡ true
-left_of true b h = refl
-left_of false b h = absurd (cc h)
-
-right_of : (a b : Bool) → (a && b) ≡ true → b ≡ true
-right_of true b h = h
-right_of false b h = absurd (cc h)
-
-at_most : (a b : ℕ) → nat_le a b ≡ true → a ≤ b
-at_most a b h = grind (arith, h)
-
-says_most : (a b : ℕ) → a ≤ b → nat_le a b ≡ true
-says_most a b h = grind (arith, h)
-
-both : (a b : Bool) → a ≡ true → b ≡ true → (a && b) ≡ true
-both true b h k = k
-both false b h k = absurd (cc h)
-
 pub named_front : (read text name rest : List ℕ) → IsText read text → IsFront text name rest → IsNamed read name rest
 named_front read text name rest t front = record {
   short = t.short;
   utf8 = t.utf8;
   begins = subst (λ b. BeginsWithText b name rest) t.same front.begins;
-  some = at_most 1 (length name) (left_of (nat_le 1 (length name)) (nat_le (length name) 100) front.short);
-  few = at_most (length name) 100 (right_of (nat_le 1 (length name)) (nat_le (length name) 100) front.short);
+  some = leb-true 1 (length name) (and_first (nat_le 1 (length name)) (nat_le (length name) 100) front.short);
+  few = leb-true (length name) 100 (and_second (nat_le 1 (length name)) (nat_le (length name) 100) front.short);
 }
 
 pub unnamed_front : (read text : List ℕ) → IsText read text → IsNoFront text → IsUnnamed read
 unnamed_front read text t none name rest is =
     none name rest (record {
       begins = subst (λ b. BeginsWithText b name rest) (sym t.same) is.begins;
-      short = both (nat_le 1 (length name)) (nat_le (length name) 100) (says_most 1 (length name) is.some) (says_most (length name) 100 is.few);
+      short = and_from (nat_le 1 (length name)) (nat_le (length name) 100) (le-leb 1 (length name) is.some) (le-leb (length name) 100 is.few);
     })
 
 pub unnamed_text : (read : List ℕ) → IsNoText read → IsUnnamed read

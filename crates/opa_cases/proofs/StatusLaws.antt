@@ -5,11 +5,12 @@ use Rattle.std.proofs.lemmas.Option.{IfSome_then}
 use Rattle.opa_io.specs.Outside.{Files, AppendsFront}
 use Rattle.opa_io.specs.declared.fault.Status.{Status}
 use Rattle.opa_io.specs.declared.fault.Status.TheVariants as status
+use Rattle.opa_io.proofs.Outsides.{read_whole}
 use Rattle.opa_outside.specs.Outside.{MOST, Outside, IsUnused, IsSilent, ReadAtMost, Calm}
 use Rattle.opa_outside.specs.Telling.{IsTold}
 use Rattle.opa_rulebase.specs.Loading.{Opens}
 use Rattle.opa_talk.specs.Talk.{MayLeave}
-use Rattle.opa_talk.proofs.StatusLaws.{all_read, calm_is_done, first_among, unread, whole_among}
+use Rattle.opa_talk.proofs.StatusLaws.{calm_is_done, first_among, unread, whole_among}
 use Rattle.opa_talk.proofs.TranscriptLaws.{cuts_anywhere}
 use Rattle.opa_tree.specs.declared.rulebase.Rulebase.{Rulebase}
 use Rattle.opa_cases.specs.Caseload.{caseload, Lacks, Stops, at_first}
@@ -43,7 +44,7 @@ module _ (name : List ℕ) (old new : Outside) where
       → IfSome o (λ files. IfSome l (λ bytes. (b : Rulebase) × Opens files name (Ok b) × SaysAll b old new bytes))
   wrote_all base read None l opens took end says = tt
   wrote_all base read (Some files) None opens took end says = tt
-  wrote_all base read (Some files) (Some bytes) opens took end says = (base, opens, subst (λ t. SaysAll base old new t) (all_read bytes read new.left took end) says)
+  wrote_all base read (Some files) (Some bytes) opens took end says = (base, opens, subst (λ t. SaysAll base old new t) (read_whole bytes read new.left took end) says)
 
   abbrev Front : List ℕ → Files → Type 0
   Front read files =

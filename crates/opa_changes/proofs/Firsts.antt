@@ -22,15 +22,8 @@ use Rattle.opa_mean.specs.Given.{line_value}
 use Rattle.opa_mean.specs.Holding.{has_line, held_value}
 use Rattle.opa_mean.specs.Rulebases.{IsOf, value_at}
 use Rattle.opa_mean.specs.Slots.{has_place}
-use Rattle.opa_mean.proofs.ChangesAre.{difference_found, found_difference}
+use Rattle.opa_mean.proofs.ChangesAre.{difference_found, found_difference, no_difference}
 use Rattle.opa_mean.proofs.Holdings.{unanswered}
-
-pub no_difference : (end : ℕ) (f : ℕ → Value) → first_difference end f f ≡ None
-no_difference end f = go (first_difference end f f) refl
-  where
-    go : (o : Option ℕ) → first_difference end f f ≡ o → first_difference end f f ≡ None
-    go None e = e
-    go (Some d) e = absurd ((difference_found end f f d e).1 refl)
 
 at_value : (l : Answer) → IsLine DAYS l → (d : ℕ) → at l d ≡ Some (line_value (Some l) d)
 at_value [] form d = absurd form

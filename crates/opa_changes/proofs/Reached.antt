@@ -1,8 +1,7 @@
 -- Which slots a change reaches, one by one.
-use Rattle.std.proofs.Common.{◌≡◌, ℕ, ◌+◌, ◌<◌, ◌≤◌, Bool, true, false, cond, not, List, filter, length, get_or, take, sym, ◌∙◌, ap, subst, arith}
+use Rattle.std.proofs.Common.{◌≡◌, ℕ, ◌+◌, ◌<◌, Bool, true, false, cond, not, List, filter, length, get_or, take, sym, ◌∙◌, ap, subst, arith}
 use Rattle.std.specs.Prelude.{◌||◌}
 use Rattle.std.specs.List.{list_any}
-use Rattle.std.proofs.lemmas.List.{take_all}
 use Rattle.std.proofs.lemmas.List.Filters.{length-filter_more}
 use Rattle.opa_model.specs.declared.ids.AttrId.{AttrId}
 use Rattle.opa_cells.specs.declared.instance.InstanceId.{InstanceId}
@@ -57,7 +56,3 @@ reads_here r r' n n' a i e g = ap (λ (q : Rulebase). slot_reads q n' a i) e ∙
 
 pub placed_same : (r r' : Rulebase) (o o' n n' : CaseView) (found : List Question) → r' ≡ r → o' ≡ o → n' ≡ n → ArePlaced r' o' n' found → ArePlaced r o n found
 placed_same r r' o o' n n' found e f g h = subst (λ (q : Rulebase). ArePlaced q o n found) e (subst (λ (k : CaseView). ArePlaced r' k n found) f (subst (λ (k : CaseView). ArePlaced r' o' k found) g h))
-
--- all items are taken
-pub all_taken : {X : Type 0} (xs : List X) (n : ℕ) → length xs ≤ n → take n xs ≡ xs
-all_taken xs n le = take_all n xs le

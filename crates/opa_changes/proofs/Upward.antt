@@ -6,31 +6,25 @@ use Rattle.std.specs.BTreeMap as tree
 use Rattle.std.specs.Cmp.{eq_by_cmp_equiv, nat_cmp_total}
 use Rattle.std.specs.Cmp.Lexicographic.{slice_cmp}
 use Rattle.std.specs.Option.{option_map_or}
-use Rattle.std.specs.Ordering.{nat_cmp, ordering_then, is_eq}
-use Rattle.std.specs.declared.cmp.Ordering.{Ordering}
-use Rattle.std.specs.declared.cmp.Ordering.TheVariants.{Less, Equal, Greater}
+use Rattle.std.specs.Ordering.{nat_cmp, is_eq}
 use Rattle.std.proofs.lemmas.Map.Lookups.{exact_unsigned}
 use Rattle.std.proofs.lemmas.Map.Views.{tells_apart}
 use Rattle.std.proofs.lemmas.List.{take_more}
 use Rattle.std.proofs.lemmas.List.Elements.{Contains-append_cases}
+use Rattle.std.proofs.lemmas.Bool.{or_right, or_left}
 use Rattle.opa_cells.specs.declared.instance.InstanceId.{InstanceId}
 use Rattle.opa_cells.specs.Instances.{is_same, is_text, named}
 use Rattle.opa_cells.proofs.Orders.{same_is, same_itself}
 use Rattle.opa_case.specs.Homes.{has_name}
 use Rattle.opa_case.specs.Live.{Population, container_of}
-use Rattle.opa_case.proofs.Lively.{or_left, or_right}
 use Rattle.opa_dirty.specs.declared.slot.Slot.{Slot}
 use Rattle.opa_tree.proofs.Members.{none_in}
+use Rattle.opa_cells.proofs.Rowed.{parts}
 use Rattle.opa_changes.specs.Wanted.{has_wanted, AddsUpward, AreWanted, IsClosed, IsClosedBut}
 use Rattle.opa_changes.specs.declared.wanted.Wanted.{Wanted}
 use Rattle.opa_changes.proofs.Taking.{only_one}
 
 -- ---- a name is put into the names of its entity
-
-parts : (o p : Ordering) → is_eq (ordering_then o p) ≡ (is_eq o && is_eq p)
-parts Less p = refl
-parts Equal p = refl
-parts Greater p = refl
 
 pub inserted : (x : InstanceId) (old left new : Wanted) (names more : BTreeMap (List ℕ) (Unit {0})) → ((n : List ℕ) → has_name names n ≡ has_wanted old (named x.entity.0 n)) → ((i : InstanceId) → i.entity.0 ≢ x.entity.0 → has_wanted left i ≡ has_wanted old i)
     → ((n : List ℕ) → has_name more n ≡ (is_text n x.name || has_name names n)) → ((q : ℕ) → tree.get nat_cmp new.names q ≡ cond (is_eq (nat_cmp x.entity.0 q)) (Some more) (tree.get nat_cmp left.names q)) → (i : InstanceId) → has_wanted new i ≡ (is_same i x || has_wanted old i)

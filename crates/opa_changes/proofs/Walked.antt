@@ -1,17 +1,11 @@
 -- The slots over the lists of live instances are the slots.
-use Rattle.std.proofs.Common.{◌≡◌, ℕ, ◌<◌, Bool, true, false, cond, List, [], ◌∷◌, map, filter, flat_map, length, Option, None, Some, Contains, refl, sym, ◌∙◌, ap, subst}
-use Rattle.std.specs.Prelude.{All, slice_get, unwrap_or}
-use Rattle.std.proofs.lemmas.List.Elements.{All-get_or}
-use Rattle.std.proofs.lemmas.Option.{slice_get_within, get_or_from_slice_get}
+use Rattle.std.proofs.Common.{◌≡◌, Bool, true, false, cond, List, [], ◌∷◌, map, filter, flat_map, length, Contains, refl, sym, ◌∙◌, ap, subst}
 use Rattle.opa_model.specs.declared.ids.AttrId.{AttrId}
-use Rattle.opa_model.specs.declared.lists.Lists.{Lists}
-use Rattle.opa_model.specs.declared.things.Attribute.{Attribute}
-use Rattle.opa_model.specs.Models.{IsModel, HasEntity}
 use Rattle.opa_cells.specs.declared.instance.InstanceId.{InstanceId}
 use Rattle.opa_case.specs.Cases.{CaseView}
 use Rattle.opa_case.specs.Instances.{AreInstances}
 use Rattle.opa_case.specs.Live.{members}
-use Rattle.opa_case.specs.Shapes.{no_attribute, shape_of}
+use Rattle.opa_case.specs.Shapes.{shape_of}
 use Rattle.opa_tree.specs.declared.rulebase.Rulebase.{Rulebase}
 use Rattle.opa_mean.specs.Changes.{ruled, slots}
 use Rattle.opa_mean.specs.Given.{base_of, facts_of}
@@ -19,20 +13,11 @@ use Rattle.opa_mean.specs.Places.{owner_of, is_of}
 use Rattle.opa_mean.specs.Rulebases.{IsOf}
 use Rattle.opa_mean.proofs.SlotCounts.{owned_are_members}
 use Rattle.opa_mean.proofs.SlotsAre.{slots_are_live}
+use Rattle.opa_mean.proofs.Owned.{owner_within}
 use Rattle.opa_changes.specs.Reaching.{AreSlots}
 use Rattle.opa_changes.specs.Walking.{slots_over, with_listed}
 use Rattle.opa_changes.specs.Wanted.{AreAmong}
 use Rattle.opa_changes.proofs.Wanting.{among_all}
-
-of_all : {X : Type 0} (P : X → Type 0) (xs : List X) (n : ℕ) (x : X) → slice_get xs n ≡ Some x → All P xs → P x
-of_all P xs n x at all = subst P (get_or_from_slice_get xs n x x at) (All-get_or P xs n x (slice_get_within xs n x at) all)
-
-owner_within : (m : Lists) → IsModel m → (a : AttrId) → owner_of (shape_of m) a < length m.entities
-owner_within m is a = go (slice_get m.attributes a.0) refl
-  where
-    go : (o : Option Attribute) → slice_get m.attributes a.0 ≡ o → (unwrap_or o no_attribute).entity.0 < length m.entities
-    go None e = is.has_global
-    go (Some x) e = of_all (λ (y : Attribute). HasEntity m y.entity) m.attributes a.0 x e is.in_range.owners
 
 pub listed_with : (r : Rulebase) (c : CaseView) → IsOf r c → (live : List (List InstanceId)) → AreInstances (length r.model.entities) c live → (a : AttrId)
     → with_listed (shape_of r.model) live a ≡ map {B = AttrId × InstanceId} (λ i. (a, i)) (filter (is_of (owner_of (shape_of r.model) a)) (facts_of c).instances)

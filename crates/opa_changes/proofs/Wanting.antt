@@ -3,7 +3,7 @@ use Rattle.std.proofs.Common.{◌≡◌, ◌⊎◌, inl, inr, ℕ, ◌+◌, ◌-
 use Rattle.std.specs.Prelude.{unwrap_or, zero, suc}
 use Rattle.std.specs.List.{list_any}
 use Rattle.std.specs.FinMap.{get}
-use Rattle.std.proofs.lemmas.Bool.{cases_lt}
+use Rattle.std.proofs.lemmas.Bool.{cases_lt, or_right, or_left}
 use Rattle.std.proofs.lemmas.List.Elements.{filter-append}
 use Rattle.opa_model.specs.declared.ids.RelId.{RelId}
 use Rattle.opa_cells.specs.declared.instance.InstanceId.{InstanceId}
@@ -14,9 +14,8 @@ use Rattle.opa_case.specs.Instances.{AreInstances, listed_by}
 use Rattle.opa_case.specs.Live.{Names, Lists, Population, members, container_of}
 use Rattle.opa_case.specs.Shapes.{Shape, IsShape, shape_of}
 use Rattle.opa_case.proofs.Kept.{stands}
-use Rattle.opa_case.proofs.Lively.{or_left, or_right}
 use Rattle.opa_case.proofs.Losing.{is_every}
-use Rattle.opa_case.proofs.Peopled.{contained_members, got_last, got_before}
+use Rattle.opa_case.proofs.Peopled.{contained_members, got_last, got_before, more_length}
 use Rattle.opa_case.proofs.Shaped.{shape_is}
 use Rattle.opa_case.proofs.Stands.{either_has, in_upto, text_itself}
 use Rattle.opa_tree.specs.declared.rulebase.Rulebase.{Rulebase}
@@ -102,10 +101,6 @@ module _ (r : Rulebase) (c : CaseView) (is : IsOf r c) where
     wanted_found e pos lt lists are = ap (wanted_listed w (list_of c) (s.contained e) e) (are.in_order (s.parent e) (parent_is_before e pos lt)) ∙ wanted_members e pos lt
 
 -- ---- a list for each entity
-
-more_length : (xs : List (List InstanceId)) (x : List InstanceId) → length (xs ++ x ∷ []) ≡ length xs + 1
-more_length [] x = refl
-more_length (y ∷ xs) x = let rest = more_length xs x in omega (arith, rest)
 
 pub next_among : (live : Population) (w : InstanceId → Bool) (n : ℕ) (old new : List (List InstanceId)) (list : List InstanceId) → AreAmong n live w old → new ≡ old ++ list ∷ [] → list ≡ filter w (members n live) → AreAmong (n + 1) live w new
 next_among live w n old new list are is same = record {

@@ -2,7 +2,7 @@
 use Rattle.std.proofs.Common.{◌≡◌, ◌≢◌, ◌∙◌, ◌+◌, ◌<◌, ◌&&◌, ℕ, zero, suc, arith, Bool, true, false, cond, List, [], ◌∷◌, ◌++◌, length, map, refl, sym, ap, ap₂, subst, All, AllPairs, get_or}
 use Rattle.std.specs.Prelude.{Option, None, Some, is_some, flat_map, slice_get, slice_index_or, ◌==◌, IsTrue}
 use Rattle.std.specs.Option.{option_map, option_or}
-use Rattle.std.proofs.lemmas.Bool.{false≢true}
+use Rattle.std.proofs.lemmas.Bool.{false≢true, and_from}
 use Rattle.std.proofs.lemmas.List.{length-map}
 use Rattle.std.proofs.lemmas.List.Elements.{All-nil, All-cons, All-head, All-tail}
 use Rattle.std.proofs.lemmas.Option.{slice_get_within}
@@ -27,15 +27,11 @@ use Rattle.opa_check.specs.Refused.{IsRefused, IsRefusedBy}
 use Rattle.opa_check.proofs.FoundLaws.{is_taken, highest_is, complete_at, within_at}
 use Rattle.opa_tree.proofs.Setting.{rule_after}
 
-both : (a b : Bool) → a ≡ true → b ≡ true → (a && b) ≡ true
-both true b h k = k
-both false b h k = absurd (false≢true h)
-
 no_own : (m : Lists) (rules : List Rule) → All (λ r. IsTrue (rule_is_reached m r)) rules → All (λ r. IsTrue (rule_has_kind m r)) rules → All (λ r. IsTrue (concludes_bool m r)) rules → flat_map (own_faults m) rules ≡ []
 no_own m [] a b c = refl
 no_own m (r ∷ rules) a b c =
     ap (λ (t : Bool). (unless t (fault_at Scope r) ++ unless (rule_has_kind m r && concludes_bool m r) (fault_at Kind r)) ++ flat_map (own_faults m) rules) (All-head (λ r. IsTrue (rule_is_reached m r)) r rules a)
-    ∙ ap (λ (t : Bool). unless t (fault_at Kind r) ++ flat_map (own_faults m) rules) (both (rule_has_kind m r) (concludes_bool m r) (All-head (λ r. IsTrue (rule_has_kind m r)) r rules b) (All-head (λ r. IsTrue (concludes_bool m r)) r rules c))
+    ∙ ap (λ (t : Bool). unless t (fault_at Kind r) ++ flat_map (own_faults m) rules) (and_from (rule_has_kind m r) (concludes_bool m r) (All-head (λ r. IsTrue (rule_has_kind m r)) r rules b) (All-head (λ r. IsTrue (concludes_bool m r)) r rules c))
     ∙ no_own m rules (All-tail (λ r. IsTrue (rule_is_reached m r)) r rules a) (All-tail (λ r. IsTrue (rule_has_kind m r)) r rules b) (All-tail (λ r. IsTrue (concludes_bool m r)) r rules c)
 
 abbrev IsFree : List Rule → Rule → Type 0
@@ -86,7 +82,7 @@ module _ (count : ℕ) (rules : List Rule) (values : List ℕ) (declared : AreDe
   pub all_taken : (a : AttrId) → IsTaken rules a
   all_taken a = is_taken count rules (map (λ (v : ℕ). Some v) values) declared (length-map values (λ (v : ℕ). Some v) ∙ are.for_each) right a (rank_at values a) (complete_at values a.0)
 
-not_both : (rules : List Rule) (a : AttrId) → IsLeft rules a → IsTaken rules a → ⊥
+pub not_both : (rules : List Rule) (a : AttrId) → IsLeft rules a → IsTaken rules a → ⊥
 not_both rules a left (n, gone) = false≢true (sym gone ∙ left n)
 
 pub accepted_are_not_refused_holds : AcceptedAreNotRefused

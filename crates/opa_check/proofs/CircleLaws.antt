@@ -53,11 +53,11 @@ open_test ranks b = not (is_some (rank_found ranks b))
 some_none : (n : ℕ) → Some n ≡ None → ⊥
 some_none n h = cc
 
-is_none : (o : Option ℕ) → not (is_some o) ≡ true → o ≡ None
+pub is_none : (o : Option ℕ) → not (is_some o) ≡ true → o ≡ None
 is_none None h = refl
 is_none (Some n) h = absurd (false≢true h)
 
-is_known : (o : Option ℕ) → not (is_some o) ≡ false → (n : ℕ) × (o ≡ Some n)
+pub is_known : (o : Option ℕ) → not (is_some o) ≡ false → (n : ℕ) × (o ≡ Some n)
 is_known None h = absurd (false≢true (sym h))
 is_known (Some n) h = (n, refl)
 

@@ -5,6 +5,8 @@ use Rattle.std.specs.Option.{option_or}
 use Rattle.std.proofs.lemmas.Bool.{false≢true}
 use Rattle.std.proofs.lemmas.List.Elements.{All-nil, All-cons, All-head, All-tail}
 use Rattle.std.proofs.lemmas.List.Kept.{AllPairs-cons}
+use Rattle.opa_io.proofs.Bools.{and_first, and_second}
+use Rattle.opa_io.proofs.Lists.{no_pairs}
 use Rattle.opa_model.specs.declared.ids.AttrId.{AttrId}
 use Rattle.opa_model.specs.declared.lists.Lists.{Lists}
 use Rattle.opa_model.specs.Models.{HasAttribute}
@@ -38,14 +40,6 @@ holds false fault h = cc
 fails : (test : Bool) (fault : RbFault) → when test fault ≡ [] → test ≡ false
 fails true fault h = cc
 fails false fault h = refl
-
-first_of_both : (a b : Bool) → (a && b) ≡ true → a ≡ true
-first_of_both true b h = refl
-first_of_both false b h = h
-
-second_of_both : (a b : Bool) → (a && b) ≡ true → b ≡ true
-second_of_both true b h = h
-second_of_both false b h = absurd (false≢true h)
 
 reached : (m : Lists) (r : Rule) → own_faults m r ≡ [] → IsTrue (rule_is_reached m r)
 reached m r h = holds (rule_is_reached m r) (fault_at Scope r) (none_left _ (unless (rule_has_kind m r && concludes_bool m r) (fault_at Kind r)) h)
@@ -93,9 +87,6 @@ all_free before (rule ∷ rules) h =
     (all_by (IsFree (before ++ rule ∷ [])) (IsFree before) rules (λ r free. free_before before rule r (concludes r.attr rule) refl (free_of before rule r free))
     (all_free (before ++ rule ∷ []) rules (none_right (when (is_some (rule_of before rule.attr)) (fault_at Twice rule)) _ h)))
 
-no_pairs : {X : Type 0} (R : X → X → Type 0) → AllPairs R []
-no_pairs R i j d lt within = absurd (omega arith)
-
 pub all_differ : (before rules : List Rule) → second_faults before rules ≡ [] → AllPairs (λ r s. r.attr ≢ s.attr) rules
 all_differ before [] h = no_pairs (λ r s. r.attr ≢ s.attr)
 all_differ before (rule ∷ rules) h =
@@ -112,7 +103,7 @@ are_sound m rules declared none =
     record {
       attributes_declared = declared;
       reached = all_by (λ r. own_faults m r ≡ []) (λ r. IsTrue (rule_is_reached m r)) rules (reached m) own;
-      of_kinds = all_by (λ r. own_faults m r ≡ []) (λ r. IsTrue (rule_has_kind m r)) rules (λ r h. first_of_both (rule_has_kind m r) (concludes_bool m r) (of_kind m r h)) own;
-      bools_by_if = all_by (λ r. own_faults m r ≡ []) (λ r. IsTrue (concludes_bool m r)) rules (λ r h. second_of_both (rule_has_kind m r) (concludes_bool m r) (of_kind m r h)) own;
+      of_kinds = all_by (λ r. own_faults m r ≡ []) (λ r. IsTrue (rule_has_kind m r)) rules (λ r h. and_first (rule_has_kind m r) (concludes_bool m r) (of_kind m r h)) own;
+      bools_by_if = all_by (λ r. own_faults m r ≡ []) (λ r. IsTrue (concludes_bool m r)) rules (λ r h. and_second (rule_has_kind m r) (concludes_bool m r) (of_kind m r h)) own;
       one_each = all_differ [] rules second;
     }

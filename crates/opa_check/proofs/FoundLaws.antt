@@ -3,7 +3,7 @@ use Rattle.std.proofs.Common.{◌≡◌, ◌≢◌, ◌∙◌, ◌+◌, ◌<◌,
 use Rattle.std.specs.Prelude.{Option, None, Some, slice_get, slice_index_or}
 use Rattle.std.specs.List.{list_any}
 use Rattle.std.specs.Option.{option_map}
-use Rattle.std.proofs.lemmas.Bool.{false≢true}
+use Rattle.std.proofs.lemmas.Bool.{false≢true, or_right}
 use Rattle.std.proofs.lemmas.Option.{slice_get_past, slice_get_within}
 use Rattle.opa_model.specs.declared.ids.AttrId.{AttrId}
 use Rattle.opa_tree.specs.declared.rules.Rule.{Rule}
@@ -16,10 +16,6 @@ use Rattle.opa_tree.proofs.Members.{none_in, contains_head, contains_tail, conta
 use Rattle.opa_tree.proofs.RankLaws.{rule_declared}
 use Rattle.opa_check.specs.Circles.{stays, IsLeft, IsTaken}
 use Rattle.opa_check.specs.Found.{uses_by, or_zero, rank_found, higher, highest_found, found_by}
-
-or_right : (a b : Bool) → b ≡ true → (a || b) ≡ true
-or_right true b h = refl
-or_right false b h = h
 
 module _ {X : Type 0} where
   pub any_more : (f g : X → Bool) (xs : List X) → ((x : X) → f x ≡ true → g x ≡ true) → list_any f xs ≡ true → list_any g xs ≡ true

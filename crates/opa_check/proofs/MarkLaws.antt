@@ -1,5 +1,5 @@
 -- Attributes that are concluded, rule by rule.
-use Rattle.std.proofs.Common.{◌≡◌, ◌≢◌, ◌∙◌, ◌+◌, ◌<◌, ℕ, zero, suc, arith, Bool, true, false, cond, ◌||◌, List, [], ◌∷◌, ◌++◌, length, refl, sym, ap, subst, get_or, take, drop}
+use Rattle.std.proofs.Common.{◌≡◌, ◌≢◌, ◌∙◌, ◌<◌, ℕ, arith, Bool, true, false, cond, ◌||◌, List, [], ◌∷◌, ◌++◌, refl, sym, ap, subst, take}
 use Rattle.std.specs.Prelude.{Option, None, Some, is_some, slice_get, slice_set}
 use Rattle.std.specs.Option.{option_or}
 use Rattle.opa_model.specs.declared.ids.AttrId.{AttrId}
@@ -7,11 +7,6 @@ use Rattle.opa_tree.specs.declared.rules.Rule.{Rule}
 use Rattle.opa_tree.specs.Rules.{rule_of, concludes}
 use Rattle.opa_check.specs.Faults.{AreMarks}
 use Rattle.opa_tree.proofs.Setting.{set_same, set_other, set_length, same_place, other_place, rule_after}
-
-pub rest_from : {X : Type 0} (xs : List X) (i : ℕ) (x : X) → i < length xs → x ≡ get_or xs i x → drop i xs ≡ x ∷ drop (i + 1) xs
-rest_from [] i x lt is = absurd (omega (arith, lt))
-rest_from (y ∷ xs) zero x lt is = ap (λ z. z ∷ xs) (sym is)
-rest_from (y ∷ xs) (suc i) x lt is = let same : suc i + 1 ≡ suc (i + 1) = omega arith in rest_from xs i x (omega (arith, lt)) is ∙ ap (λ n. x ∷ drop n (y ∷ xs)) (sym same)
 
 some_first : (o : Option Rule) → is_some (option_or o None) ≡ is_some o
 some_first None = refl

@@ -2,7 +2,6 @@
 use Rattle.std.proofs.Common.{◌≡◌, ◌∙◌, ◌<◌, ◌≤◌, ℕ, zero, suc, arith, Bool, true, false, not, cond, List, [], ◌∷◌, length, map, refl, sym, ap, subst, get_or, nat_lt}
 use Rattle.std.specs.Prelude.{Option, None, Some, is_some, unwrap_or, position, slice_get}
 use Rattle.std.specs.List.{position_or_len}
-use Rattle.std.proofs.lemmas.Bool.{false≢true}
 use Rattle.std.proofs.lemmas.List.Quantifiers.{position-Some}
 use Rattle.std.proofs.lemmas.Option.{slice_get-get_or, slice_get_within}
 use Rattle.opa_model.specs.declared.ids.AttrId.{AttrId}
@@ -13,11 +12,8 @@ use Rattle.opa_tree.specs.Ranks.{AreRanks}
 use Rattle.std.proofs.lemmas.List.{length-map}
 use Rattle.opa_check.specs.Found.{or_zero, uses_by, found_by, AreUses, AreFound, AreAll}
 use Rattle.opa_check.specs.Settled.{AreSettled, IsOpen}
-use Rattle.opa_check.proofs.CircleLaws.{open_left, known_taken, right_by}
+use Rattle.opa_check.proofs.CircleLaws.{open_left, known_taken, right_by, is_none, is_known}
 use Rattle.opa_check.proofs.FoundLaws.{are_ranks}
-
-is_open_rank : Option ℕ → Bool
-is_open_rank r = not (is_some r)
 
 all_known : (ranks : List (Option ℕ)) → length ranks ≤ position_or_len (λ r. not (is_some r)) ranks → map (λ (n : ℕ). Some n) (map (λ r. unwrap_or r 0) ranks) ≡ ranks
 all_known [] le = refl
@@ -31,18 +27,10 @@ all_found ranks none = here (nat_lt (position_or_len (λ r. not (is_some r)) ran
     here true e h = cc
     here false e h = let past : length ranks ≤ position_or_len (λ r. not (is_some r)) ranks = grind (arith, e) in all_known ranks past
 
-none_of : (r : Option ℕ) → not (is_some r) ≡ true → r ≡ None
-none_of None h = refl
-none_of (Some n) h = absurd (false≢true h)
-
-some_of : (r : Option ℕ) → not (is_some r) ≡ false → (n : ℕ) × (r ≡ Some n)
-some_of None h = absurd (false≢true (sym h))
-some_of (Some n) h = (n, refl)
-
 pub open_at : (ranks : List (Option ℕ)) (a : AttrId) → position (λ r. not (is_some r)) ranks ≡ Some a.0 → IsOpen ranks a
 open_at ranks a is =
     let w = position-Some (λ r. not (is_some r)) ranks a.0 None is in
-    slice_get-get_or ranks a.0 None w.0 ∙ ap Some (none_of (get_or ranks a.0 None) w.1)
+    slice_get-get_or ranks a.0 None w.0 ∙ ap Some (is_none (get_or ranks a.0 None) w.1)
 
 pub least_at : (rules : List Rule) (uses : List (Option (List AttrId))) (ranks : List (Option ℕ)) → AreSettled rules uses ranks → (a : AttrId) → position (λ r. not (is_some r)) ranks ≡ Some a.0 → IsLeastLeft rules a
 least_at rules uses ranks settled a is = record {
@@ -53,7 +41,7 @@ least_at rules uses ranks settled a is = record {
     earlier : (b : AttrId) → b.0 < a.0 → IsTaken rules b
     earlier b lt =
         let w = position-Some (λ r. not (is_some r)) ranks a.0 None is in
-        let known = some_of (get_or ranks b.0 None) (w.2 b.0 lt) in
+        let known = is_known (get_or ranks b.0 None) (w.2 b.0 lt) in
         known_taken rules uses ranks settled b known.0 (ap or_zero (slice_get-get_or ranks b.0 None (omega (arith, lt, w.0))) ∙ known.1)
 
 -- settled ranks, by what each step gave

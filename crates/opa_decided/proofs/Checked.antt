@@ -1,7 +1,7 @@
 -- Rules are refused for one fault.
 use Rattle.std.proofs.Common.{◌≡◌, ◌∙◌, ◌<◌, ◌≤◌, ◌⊎◌, inl, inr, ℕ, List, [], ◌∷◌, ◌++◌, Contains, All, refl, sym, ap, ap₂, subst, arith}
 use Rattle.std.specs.Prelude.{Option, Some, None}
-use Rattle.std.proofs.lemmas.Bool.{false≢true, cases_lt}
+use Rattle.std.proofs.lemmas.Bool.{cases_lt}
 use Rattle.std.proofs.lemmas.List.Elements.{All-head, All-tail}
 use Rattle.opa_model.specs.declared.ids.AttrId.{AttrId}
 use Rattle.opa_tree.specs.declared.faults.RbFault.{RbFault}
@@ -13,13 +13,10 @@ use Rattle.opa_check.specs.Circles as c
 use Rattle.opa_check.specs.Circles.{IsLeft, IsTaken, IsFirstLeft, Circles, IsLeastLeft, HasCircle, from_visit}
 use Rattle.opa_check.specs.Faults.{rule_faults}
 use Rattle.opa_check.specs.Refused.{IsRefusedBy}
-use Rattle.opa_check.proofs.AcceptedLaws.{accepted_are_not_refused_holds}
+use Rattle.opa_check.proofs.AcceptedLaws.{accepted_are_not_refused_holds, not_both}
 use Rattle.opa_decided.specs.Checking.{OneCircle, OneCheckFault, RulebasesAreNotRefused}
 
 -- ---- the least attribute that is left
-
-not_both : (rules : List Rule) (a : AttrId) → IsLeft rules a → IsTaken rules a → ⊥
-not_both rules a left (n, gone) = false≢true (sym gone ∙ left n)
 
 one_least : (rules : List Rule) (a b : AttrId) → IsLeastLeft rules a → IsLeastLeft rules b → a ≡ b
 one_least rules a b h k = go (cases_lt a.0 b.0) (cases_lt b.0 a.0)

@@ -1,49 +1,35 @@
 -- A line of an interview has one reply.
-use Rattle.std.proofs.Common.{◌≡◌, ◌≢◌, ℕ, true, false, List, inl, inr, sym, ◌∙◌}
+use Rattle.std.proofs.Common.{◌≡◌, ◌≢◌, ℕ, List, inl, inr, sym, ◌∙◌}
 use Rattle.std.specs.Prelude.{Option, None, Some}
 use Rattle.opa_changes.specs.Telling.{ToldOnce}
 use Rattle.opa_model.specs.declared.lists.Lists.{Lists}
-use Rattle.opa_model.specs.Models.{IsModel}
 use Rattle.opa_case.specs.declared.question.Question.{Question}
 use Rattle.opa_told.specs.Laws.{OneReportTold}
 use Rattle.opa_need.specs.Goals.{next_of}
 use Rattle.opa_script.specs.declared.command.Command.{Command}
 use Rattle.opa_script.specs.declared.fault.CmdFault.{CmdFault}
 use Rattle.opa_script.specs.declared.fault.CmdFault.TheVariants as fault
-use Rattle.opa_script.specs.Laws.{IsWellFormed}
-use Rattle.opa_script.proofs.ReplyLaws as replies
 use Rattle.opa_reply.specs.Held.{Held}
-use Rattle.opa_reply.specs.Interviews.{is_long_reply, IsTold as IsSaid, IsNotTold as IsNotSaid, RepliesTo, RepliesNotTo, Tells, TellsNothing, interview}
+use Rattle.opa_reply.specs.Interviews.{IsTold as IsSaid, IsNotTold as IsNotSaid, RepliesNotTo, Tells, TellsNothing, interview}
 use Rattle.opa_reply.specs.Lines.{text_of}
+use Rattle.opa_reply.proofs.OneReply.{one_said, said_or_not, never_long}
 use Rattle.opa_decided.specs.Laws.{HasModel, IsTold, OneReply, SameBase, StaysTold}
 use Rattle.opa_decided.proofs.ReplyFaults.{one_reply_fault_holds}
 use Rattle.opa_decided.proofs.Replying.{AreApart, answers_one, answers_stay}
-
--- a line isn't both too long and not
-not_both : {T : Type 0} (line : List ℕ) → is_long_reply line ≡ true → is_long_reply line ≡ false → T
-not_both line long short = let no : true ≡ false = sym long ∙ short in absurd (cc no)
-
-one_said : (m : Lists) → IsModel m → (asked : Option Question) (text : List ℕ) (c d : Command) → IsWellFormed c → IsWellFormed d → RepliesTo m asked text c → RepliesTo m asked text d → c ≡ d
-one_said m is None text c d wc wd h k = h ∙ sym k
-one_said m is (Some q) text c d wc wd h k = replies.one_reply_holds m is q text c d wc wd h k
 
 one_fault : (m : Lists) (asked : Option Question) (text : List ℕ) (f g : CmdFault) → f ≢ fault.NoMemory → g ≢ fault.NoMemory → RepliesNotTo m asked text f → RepliesNotTo m asked text g → f ≡ g
 one_fault m None text f g some other h k = absurd h
 one_fault m (Some q) text f g some other h k = one_reply_fault_holds m q text f g some other h k
 
-said_or_not : (m : Lists) (asked : Option Question) (text : List ℕ) (c : Command) (f : CmdFault) → RepliesTo m asked text c → RepliesNotTo m asked text f → f ≡ fault.NoMemory
-said_or_not m None text c f h k = absurd k
-said_or_not m (Some q) text c f h k = replies.refused_or_replied_holds m q text c f h k
-
 module _ (m : Lists) (asked : Option Question) where
   one_reason : (line : List ℕ) (f g : CmdFault) → f ≢ fault.NoMemory → g ≢ fault.NoMemory → IsNotSaid m asked line f → IsNotSaid m asked line g → f ≡ g
   one_reason line f g some other (inl h) (inl k) = h.1 ∙ sym k.1
-  one_reason line f g some other (inl h) (inr k) = not_both line h.0 k.0
-  one_reason line f g some other (inr h) (inl k) = not_both line k.0 h.0
+  one_reason line f g some other (inl h) (inr k) = never_long line h.0 k.0
+  one_reason line f g some other (inr h) (inl k) = never_long line k.0 h.0
   one_reason line f g some other (inr h) (inr k) = one_fault m asked (text_of line) f g some other h.1 k.1
 
   says_something : (line : List ℕ) (c : Command) (f : CmdFault) → IsSaid m asked line c → IsNotSaid m asked line f → f ≡ fault.NoMemory
-  says_something line c f h (inl k) = not_both line k.0 h.0
+  says_something line c f h (inl k) = never_long line k.0 h.0
   says_something line c f h (inr k) = said_or_not m asked (text_of line) c f h.1 k.1
 
 replies_apart : AreApart Tells TellsNothing

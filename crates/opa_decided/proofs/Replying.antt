@@ -1,5 +1,5 @@
 -- A line of a run has one reply.
-use Rattle.std.proofs.Common.{◌≡◌, ◌≢◌, ℕ, true, false, List, inl, inr, sym, ap, subst, ◌∙◌}
+use Rattle.std.proofs.Common.{◌≡◌, ◌≢◌, ℕ, List, inl, inr, sym, ap, subst, ◌∙◌}
 use Rattle.opa_changes.specs.Telling.{ToldOnce}
 use Rattle.opa_model.specs.declared.lists.Lists.{Lists}
 use Rattle.opa_told.specs.Laws.{OneReportTold}
@@ -10,8 +10,9 @@ use Rattle.opa_script.proofs.LawsHold.{refused_or_read_holds}
 use Rattle.opa_script.proofs.OneCommand.{one_command_holds}
 use Rattle.opa_reply.specs.Held.{Held}
 use Rattle.opa_reply.specs.Refused.{refused_command}
-use Rattle.opa_reply.specs.Lines.{text_of, is_too_long}
+use Rattle.opa_reply.specs.Lines.{text_of}
 use Rattle.opa_reply.specs.Replies.{Answers, Asks, AsksNothing, CarriesOut, IsAsked, IsNotAsked, Replies, conversation}
+use Rattle.opa_reply.proofs.OneReply.{never_too_long}
 use Rattle.opa_decided.specs.Laws.{HasModel, IsTold, OneReply, SameBase, StaysTold}
 use Rattle.opa_decided.proofs.LineFaults.{one_command_fault_holds}
 use Rattle.opa_decided.proofs.Carrying.{AreSame, Stays, stays_same, carried_one, carried_stays}
@@ -40,19 +41,15 @@ module _ (Says : Held → List ℕ → Command → Type 0) (SaysNothing : Held �
 
 -- ---- commands
 
--- a line isn't both too long and not
-not_both : {T : Type 0} (line : List ℕ) → is_too_long line ≡ true → is_too_long line ≡ false → T
-not_both line long short = let no : true ≡ false = sym long ∙ short in absurd (cc no)
-
 one_reason : (m : Lists) (line : List ℕ) (f g : CmdFault) → f ≢ fault.NoMemory → g ≢ fault.NoMemory → IsNotAsked m line f → IsNotAsked m line g → f ≡ g
 one_reason m line f g some other (inl h) (inl k) = h.1 ∙ sym k.1
-one_reason m line f g some other (inl h) (inr k) = not_both line h.0 k.0
-one_reason m line f g some other (inr h) (inl k) = not_both line k.0 h.0
+one_reason m line f g some other (inl h) (inr k) = never_too_long line h.0 k.0
+one_reason m line f g some other (inr h) (inl k) = never_too_long line k.0 h.0
 one_reason m line f g some other (inr h) (inr k) = one_command_fault_holds m (text_of line) f g some other h.1 k.1
 
 -- a line that asks for a command is one
 asks_something : (m : Lists) (line : List ℕ) (c : Command) (f : CmdFault) → IsAsked m line c → IsNotAsked m line f → f ≡ fault.NoMemory
-asks_something m line c f h (inl k) = not_both line k.0 h.0
+asks_something m line c f h (inl k) = never_too_long line k.0 h.0
 asks_something m line c f h (inr k) = refused_or_read_holds m (text_of line) c f h.1 k.1
 
 commands_apart : AreApart Asks AsksNothing

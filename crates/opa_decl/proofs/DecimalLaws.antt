@@ -4,6 +4,7 @@ use Rattle.std.specs.Prelude.{◌/◌, ◌%◌, ◌&&◌, ◌==◌, nat_le, is_s
 use Rattle.std.specs.Option.{option_map, option_and_then}
 use Rattle.std.proofs.lemmas.Bool.{leb-true, and_parts}
 use Rattle.std.proofs.lemmas.Option.{cond_some}
+use Rattle.opa_io.proofs.Options.{bound_parts, mapped_parts}
 use Rattle.opa_words.specs.declared.kinds.Token.{Token}
 use Rattle.opa_words.specs.Reserved.{are_phrase, phrase_text}
 use Rattle.opa_decl.specs.declared.cut.CutBlock.{CutBlock}
@@ -19,7 +20,7 @@ use Rattle.opa_decl.specs.Pieces.{has_text, split_at, phrase}
 use Rattle.opa_decl.specs.Spelling.{place_in, member_in}
 use Rattle.opa_decl.proofs.AttributeLaws.{DeclaresFew}
 use Rattle.opa_decl.proofs.MemberLines.{HoldOfLines, in_member, member_tokens}
-use Rattle.opa_decl.proofs.SpelledItems.{bound, mapped, carried, given, Hold, in_all_items}
+use Rattle.opa_decl.proofs.SpelledItems.{carried, given, Hold, in_all_items}
 
 -- ---- bounds
 
@@ -38,8 +39,8 @@ module _ (bytes : List ℕ) where
   whole_taken : (most : ℕ) (ts : List Token) (x : ℕ × List Token) → whole bytes most ts ≡ Some x → x.0 ≤ most
   whole_taken most [] x h = absurd (cc h)
   whole_taken most (t ∷ ts) x h =
-      let k = mapped (λ (n : ℕ). (n, ts)) (option_and_then (whole_up_to most) (number_at bytes t)) x h in
-      let n = bound (whole_up_to most) (number_at bytes t) k.0 k.1 in
+      let k = mapped_parts (λ (n : ℕ). (n, ts)) (option_and_then (whole_up_to most) (number_at bytes t)) x h in
+      let n = bound_parts (whole_up_to most) (number_at bytes t) k.0 k.1 in
       subst (λ (y : ℕ × List Token). y.0 ≤ most) k.2 (whole_few most k.0 n.0 n.2)
 
   limit_few : (most : ℕ) (l : Limits) (ts : List Token) (x : Limits × List Token) → KeepsFew most l → limit bytes most l ts ≡ Some x → KeepsFew most x.0
@@ -49,12 +50,12 @@ module _ (bytes : List ℕ) where
     where
       by_decimals : (b c : Bool) → cond b (cond c None (option_map (with_decimals l) (whole bytes most ts))) None ≡ Some x → KeepsFew most x.0
       by_decimals true true k = absurd (cc k)
-      by_decimals true false k = let y = mapped (with_decimals l) (whole bytes most ts) x k in subst (λ (z : Limits × List Token). KeepsFew most z.0) y.2 (whole_taken most ts y.0 y.1)
+      by_decimals true false k = let y = mapped_parts (with_decimals l) (whole bytes most ts) x k in subst (λ (z : Limits × List Token). KeepsFew most z.0) y.2 (whole_taken most ts y.0 y.1)
       by_decimals false c k = absurd (cc k)
 
       by_to : (b c : Bool) → cond b (cond c None (option_map (with_most l) (signed bytes ts))) (cond (has_text bytes (codes "decimals") t) (cond (is_some l.decimals) None (option_map (with_decimals l) (whole bytes most ts))) None) ≡ Some x → KeepsFew most x.0
       by_to true true k = absurd (cc k)
-      by_to true false k = let y = mapped (with_most l) (signed bytes ts) x k in subst (λ (z : Limits × List Token). KeepsFew most z.0) y.2 few
+      by_to true false k = let y = mapped_parts (with_most l) (signed bytes ts) x k in subst (λ (z : Limits × List Token). KeepsFew most z.0) y.2 few
       by_to false c k = by_decimals (has_text bytes (codes "decimals") t) (is_some l.decimals) k
 
       by_from : (b : Bool) → cond b (cond (is_some l.least) None (option_map (with_least l) (signed bytes ts)))
@@ -63,13 +64,13 @@ module _ (bytes : List ℕ) where
         where
           by_least : (c : Bool) → cond c None (option_map (with_least l) (signed bytes ts)) ≡ Some x → KeepsFew most x.0
           by_least true m = absurd (cc m)
-          by_least false m = let y = mapped (with_least l) (signed bytes ts) x m in subst (λ (z : Limits × List Token). KeepsFew most z.0) y.2 few
+          by_least false m = let y = mapped_parts (with_least l) (signed bytes ts) x m in subst (λ (z : Limits × List Token). KeepsFew most z.0) y.2 few
       by_from false k = by_to (has_text bytes (codes "to") t) (is_some l.most) k
 
   limits_few : (left most : ℕ) (l : Limits) (ts : List Token) (found : Limits) → KeepsFew most l → limits bytes left most l ts ≡ Some found → KeepsFew most found
   limits_few zero most l ts found few h = absurd (cc h)
   limits_few (suc left) most l ts found few h =
-      let first = bound (ends_or bytes (limits bytes left most)) (limit bytes most l ts) found h in
+      let first = bound_parts (ends_or bytes (limits bytes left most)) (limit bytes most l ts) found h in
       after first.0.0 first.0.1 (limit_few most l ts first.0 few first.1) first.2 (λ m us kept e. limits_few left most m us found kept e)
     where
       after : (m : Limits) (us : List Token) → KeepsFew most m → ends_or bytes (limits bytes left most) (m, us) ≡ Some found → ((k : Limits) (vs : List Token) → KeepsFew most k → limits bytes left most k vs ≡ Some found → KeepsFew most found) → KeepsFew most found

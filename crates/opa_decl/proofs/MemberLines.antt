@@ -2,6 +2,7 @@
 use Rattle.std.proofs.Common.{◌≡◌, ℕ, Bool, true, false, cond, List, [], ◌∷◌, Option, Some, None, refl, subst}
 use Rattle.std.specs.Prelude.{codes}
 use Rattle.std.specs.Option.{option_map}
+use Rattle.opa_io.proofs.Options.{bound_parts, mapped_parts}
 use Rattle.opa_words.specs.declared.kinds.Token.{Token}
 use Rattle.opa_decl.specs.declared.cut.CutLine.{CutLine}
 use Rattle.opa_decl.specs.declared.items.Bounds.{Bounds}
@@ -14,7 +15,6 @@ use Rattle.opa_decl.specs.declared.items.Sort.TheVariants as sort
 use Rattle.opa_decl.specs.Lines.{bool_line, number_line, bool_attribute, number_attribute, attribute, reference_line, every_line, member_of, member}
 use Rattle.opa_decl.specs.Pieces.{has_text, phrase}
 use Rattle.opa_decl.specs.Spelling.{place_in, inner, member_in}
-use Rattle.opa_decl.proofs.SpelledItems.{bound, mapped}
 
 -- one of two ways
 choose : {X : Type 0} (Q : X → Type 0) (b : Bool) (x y : Option X) → ((z : X) → x ≡ Some z → Q z) → ((z : X) → y ≡ Some z → Q z) → (z : X) → cond b x y ≡ Some z → Q z
@@ -33,7 +33,7 @@ module _ (Q : Item → Type 0) (bytes : List ℕ) (at : Place) (of_global : Bool
     pub of_every : (x : RelationLine) → every_line bytes at of_global ts ≡ Some x → Q (Relation x)
 
   made_by : {A : Type 0} (f : A → Item) (o : Option A) → ((x : A) → o ≡ Some x → Q (f x)) → (i : Item) → option_map f o ≡ Some i → Q i
-  made_by f o has i h = let x = mapped f o i h in subst (λ (j : Item). Q j) x.2 (has x.0 x.1)
+  made_by f o has i h = let x = mapped_parts f o i h in subst (λ (j : Item). Q j) x.2 (has x.0 x.1)
 
   module _ (t : Token) (holds : HoldOfLines) where
     abbrev or_every : Option Item
@@ -73,4 +73,4 @@ in_member Q bytes at of_global (t ∷ ts) i holds h = in_line Q bytes at of_glob
 -- the tokens of a line of level 1 spell the item
 pub member_tokens : (file : ℕ) (of_global : Bool) (line : CutLine) (i : Item) → member_in file of_global line ≡ Some i → (ts : List Token) × (inner line ≡ Some ts) × (member line.text (place_in file line) of_global ts ≡ Some i)
 unfolding member_in
-member_tokens file of_global line i h = bound (member line.text (place_in file line) of_global) (inner line) i h
+member_tokens file of_global line i h = bound_parts (member line.text (place_in file line) of_global) (inner line) i h

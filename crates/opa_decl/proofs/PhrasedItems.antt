@@ -9,6 +9,7 @@ use Rattle.std.proofs.lemmas.Option.{cond_some}
 use Rattle.std.proofs.lemmas.List.{length-map}
 use Rattle.std.proofs.lemmas.List.Elements.{All-head, All-tail, All-take, All-drop, All-append}
 use Rattle.std.proofs.lemmas.Str.{IsUtf8-nil, IsUtf8-append, IsUtf8-between}
+use Rattle.opa_io.proofs.Options.{bound_parts, mapped_parts}
 use Rattle.opa_model.specs.declared.things.Verb.{Verb}
 use Rattle.opa_words.specs.declared.kinds.Token.{Token}
 use Rattle.opa_words.specs.declared.kinds.TokenKind.{TokenKind}
@@ -41,7 +42,7 @@ use Rattle.opa_decl.specs.Steps.{◌>>=◌}
 use Rattle.opa_decl.specs.Spelling.{place_in, inner, behind_first, behind_head, member_in, headed_verb, inside_in}
 use Rattle.opa_decl.proofs.MemberLines.{HoldOfLines, in_member, member_tokens}
 use Rattle.opa_decl.proofs.PhraseTexts.{AreOf, IsSaid, IsSaidFully, spoken_tokens, phrase_joined, phrase_again}
-use Rattle.opa_decl.proofs.SpelledItems.{bound, mapped, carried, given, given_if, same_value, Hold, in_all_items}
+use Rattle.opa_decl.proofs.SpelledItems.{carried, given, given_if, same_value, Hold, in_all_items}
 
 -- what a bool says
 abbrev pub SaysWell : Sort → Type 0
@@ -85,7 +86,7 @@ module _ (bytes : List ℕ) where
   split_of : (mark : List ℕ) (ts : List Token) (x : List Token × List Token) → AreOf bytes ts → split_at bytes mark ts ≡ Some x → BothAreOf x
   unfolding split_at
   split_of mark ts x are h =
-      let i = mapped (λ (i : ℕ). let y : List Token × List Token = (take i ts, drop (i + 1) ts) in y) (position (has_text bytes mark) ts) x h in
+      let i = mapped_parts (λ (i : ℕ). let y : List Token × List Token = (take i ts, drop (i + 1) ts) in y) (position (has_text bytes mark) ts) x h in
       subst BothAreOf i.2 (front_of i.0 ts are, back_of (i.0 + 1) ts are)
 
   -- ---- phrases and words
@@ -287,7 +288,7 @@ inner_tokens line ts h e = go (line.level == 1) e
     go false k = absurd (cc k)
 
 behind_tokens : (line : CutLine) (ts : List Token) → IsCutLine line → behind_head line ≡ Some ts → AreOf line.text ts
-behind_tokens line ts h e = let us = bound behind_first line.tokens ts e in go us.0 (has_tokens line.text line.tokens us.0 h us.1) us.2
+behind_tokens line ts h e = let us = bound_parts behind_first line.tokens ts e in go us.0 (has_tokens line.text line.tokens us.0 h us.1) us.2
   where
     go : (us : List Token) → AreOf line.text us → behind_first us ≡ Some ts → AreOf line.text ts
     go [] are k = absurd (cc k)
@@ -301,11 +302,11 @@ member_phrased file of_global line i cut h =
 
 verb_phrased : (line : CutLine) (v : Verb) → IsCutLine line → headed_verb line ≡ Some v → IsSaidFully v.negative
 unfolding headed_verb
-verb_phrased line v cut h = let ts = bound (verb_line line.text) (behind_head line) v h in verb_of line.text ts.0 (behind_tokens line ts.0 cut ts.1) v ts.2
+verb_phrased line v cut h = let ts = bound_parts (verb_line line.text) (behind_head line) v h in verb_of line.text ts.0 (behind_tokens line ts.0 cut ts.1) v ts.2
 
 inside_phrased : (file : ℕ) (line : CutLine) (x : Option Name × Name) → IsCutLine line → inside_in file line ≡ Some x → IsPhraseText x.1.text
 unfolding inside_in
-inside_phrased file line x cut h = let ts = bound (inside_line line.text (place_in file line)) (inner line) x h in inside_of line.text (place_in file line) ts.0 (inner_tokens line ts.0 cut ts.1) x ts.2
+inside_phrased file line x cut h = let ts = bound_parts (inside_line line.text (place_in file line)) (inner line) x h in inside_of line.text (place_in file line) ts.0 (inner_tokens line ts.0 cut ts.1) x ts.2
 
 pub items_phrased : (blocks : List CutBlock) → All HaveTokens blocks → All IsPhrased (items_of blocks)
 items_phrased blocks cut =

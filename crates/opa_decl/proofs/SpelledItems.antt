@@ -4,6 +4,7 @@ use Rattle.std.specs.Prelude.{◌==◌, if◌then◌else◌}
 use Rattle.std.specs.Option.{option_map, option_and_then}
 use Rattle.std.proofs.lemmas.Option.{cond_some, same_Some}
 use Rattle.std.proofs.lemmas.List.Elements.{All-nil, All-cons, All-head, All-tail, All-append}
+use Rattle.opa_io.proofs.Options.{bound_parts, mapped_parts}
 use Rattle.opa_words.specs.declared.kinds.Token.{Token}
 use Rattle.opa_model.specs.declared.things.Verb.{Verb}
 use Rattle.opa_decl.specs.declared.cut.CutBlock.{CutBlock}
@@ -21,14 +22,6 @@ use Rattle.opa_decl.specs.Steps.{each}
 
 -- ---- steps that succeed
 
-pub bound : {A B : Type 0} (f : A → Option B) (o : Option A) (y : B) → option_and_then f o ≡ Some y → (x : A) × (o ≡ Some x) × (f x ≡ Some y)
-bound f None y h = absurd (cc h)
-bound f (Some x) y h = (x, refl, h)
-
-pub mapped : {A B : Type 0} (f : A → B) (o : Option A) (y : B) → option_map f o ≡ Some y → (x : A) × (o ≡ Some x) × (f x ≡ y)
-mapped f None y h = absurd (cc h)
-mapped f (Some x) y h = (x, refl, (let e : f x ≡ y = cc h in e))
-
 -- what holds of whatever comes of the next step holds of the end
 pub carried : {A B : Type 0} (P : B → Type 0) (f : A → Option B) (o : Option A) → ((x : A) → o ≡ Some x → (y : B) → f x ≡ Some y → P y) → (y : B) → option_and_then f o ≡ Some y → P y
 carried P f None step y h = absurd (cc h)
@@ -45,8 +38,8 @@ module _ {A B : Type 0} (P : B → Type 0) (L : A → Type 0) (f : A → Option 
   pub each_has : (xs : List A) (ys : List B) → each f xs ≡ Some ys → All L xs → All P ys
   each_has [] ys h all = subst (λ (zs : List B). All P zs) (let e : [] ≡ ys = cc h in e) (All-nil P)
   each_has (x ∷ xs) ys h all =
-      let here = bound (λ (y : B). option_map (λ (zs : List B). y ∷ zs) (each f xs)) (f x) ys h in
-      let rest = mapped (λ (zs : List B). here.0 ∷ zs) (each f xs) ys here.2 in
+      let here = bound_parts (λ (y : B). option_map (λ (zs : List B). y ∷ zs) (each f xs)) (f x) ys h in
+      let rest = mapped_parts (λ (zs : List B). here.0 ∷ zs) (each f xs) ys here.2 in
       subst (λ (zs : List B). All P zs) rest.2 (All-cons P here.0 rest.0 (has x here.0 (All-head L x xs all) here.1) (each_has xs rest.0 rest.1 (All-tail L x xs all)))
 
 pub same_value : {A : Type 0} {x y : A} → Some x ≡ Some y → x ≡ y
@@ -68,14 +61,14 @@ module _ (P : Item → Type 0) (L : CutLine → Type 0) (holds : Hold P L) where
   one i is h e = subst (λ (zs : List Item). All P zs) e (All-cons P i [] h (All-nil P))
 
   in_verb : (file : ℕ) (first : CutLine) (deeper : List CutLine) (is : List Item) → L first → All L deeper → verb_block file first deeper ≡ Some is → All P is
-  in_verb file first [] is l ls h = let v = mapped (verb_item file first) (headed_verb first) is h in one _ is (holds.of_verb file first v.0 l v.1) v.2
+  in_verb file first [] is l ls h = let v = mapped_parts (verb_item file first) (headed_verb first) is h in one _ is (holds.of_verb file first v.0 l v.1) v.2
   in_verb file first (line ∷ lines) is l ls h = absurd (cc h)
 
   in_global : (file : ℕ) (first : CutLine) (deeper : List CutLine) (is : List Item) → L first → All L deeper → global_block file first deeper ≡ Some is → All P is
   in_global file first [] is l ls h = absurd (cc h)
   in_global file first (line ∷ lines) is l ls h =
-      let more = bound (λ (more : List Token). option_and_then (λ (members : List Item). if length more == 0 then Some members else None) (each (member_in file true) (line ∷ lines))) (behind_head first) is h in
-      let members = bound (λ (members : List Item). if length more.0 == 0 then Some members else None) (each (member_in file true) (line ∷ lines)) is more.2 in
+      let more = bound_parts (λ (more : List Token). option_and_then (λ (members : List Item). if length more == 0 then Some members else None) (each (member_in file true) (line ∷ lines))) (behind_head first) is h in
+      let members = bound_parts (λ (members : List Item). if length more.0 == 0 then Some members else None) (each (member_in file true) (line ∷ lines)) is more.2 in
       subst (λ (zs : List Item). All P zs) (cond_some (length more.0 == 0) members.0 is members.2).1 (each_has P L (member_in file true) (holds.of_member file true) (line ∷ lines) members.0 members.1 ls)
 
   with_entity : (phrase : Name) (above : Option Name × Name) (members is : List Item) → P (item.Entity (record { phrase = phrase; parent = above.0; inside = above.1 })) → All P members
@@ -87,28 +80,28 @@ module _ (P : Item → Type 0) (L : CutLine → Type 0) (holds : Hold P L) where
   in_entity file first [] is l ls h = absurd (cc h)
   in_entity file first (second ∷ lines) is l ls h =
       let make : Name → Option Name × Name → List Item → List Item = λ phrase above members. item.Entity (record { phrase = phrase; parent = above.0; inside = above.1 }) ∷ members in
-      let phrase = bound (λ (phrase : Name). option_and_then (λ (above : Option Name × Name). option_and_then (λ (members : List Item). Some (make phrase above members)) (each (member_in file false) lines)) (inside_in file second)) (headed_phrase file first) is h in
-      let above = bound (λ (above : Option Name × Name). option_and_then (λ (members : List Item). Some (make phrase.0 above members)) (each (member_in file false) lines)) (inside_in file second) is phrase.2 in
-      let members = bound (λ (members : List Item). Some (make phrase.0 above.0 members)) (each (member_in file false) lines) is above.2 in
+      let phrase = bound_parts (λ (phrase : Name). option_and_then (λ (above : Option Name × Name). option_and_then (λ (members : List Item). Some (make phrase above members)) (each (member_in file false) lines)) (inside_in file second)) (headed_phrase file first) is h in
+      let above = bound_parts (λ (above : Option Name × Name). option_and_then (λ (members : List Item). Some (make phrase.0 above members)) (each (member_in file false) lines)) (inside_in file second) is phrase.2 in
+      let members = bound_parts (λ (members : List Item). Some (make phrase.0 above.0 members)) (each (member_in file false) lines) is above.2 in
       with_entity phrase.0 above.0 members.0 is (holds.of_entity file first second phrase.0 above.0 l (All-head L second lines ls) phrase.1 above.1) (each_has P L (member_in file false) (holds.of_member file false) lines members.0 members.1 (All-tail L second lines ls)) members.2
 
   in_goal : (file : ℕ) (first : CutLine) (deeper : List CutLine) (is : List Item) → goal_block file first deeper ≡ Some is → All P is
-  in_goal file first [] is h = let g = mapped (λ (goal : Name). item.Goal goal ∷ []) (headed_phrase file first) is h in one _ is (holds.of_goal g.0) g.2
+  in_goal file first [] is h = let g = mapped_parts (λ (goal : Name). item.Goal goal ∷ []) (headed_phrase file first) is h in one _ is (holds.of_goal g.0) g.2
   in_goal file first (line ∷ lines) is h = absurd (cc h)
 
   in_screen : (file : ℕ) (first : CutLine) (deeper : List CutLine) (is : List Item) → screen_block file first deeper ≡ Some is → All P is
   in_screen file first [] is h = absurd (cc h)
   in_screen file first (line ∷ lines) is h =
       let make : Name → List Name → List Item = λ title names. item.Screen (record { title = title; items = names }) ∷ [] in
-      let title = bound (λ (title : Name). option_and_then (λ (names : List Name). Some (make title names)) (each (screen_item file) (line ∷ lines))) (headed_text file first) is h in
-      let names = bound (λ (names : List Name). Some (make title.0 names)) (each (screen_item file) (line ∷ lines)) is title.2 in
+      let title = bound_parts (λ (title : Name). option_and_then (λ (names : List Name). Some (make title names)) (each (screen_item file) (line ∷ lines))) (headed_text file first) is h in
+      let names = bound_parts (λ (names : List Name). Some (make title.0 names)) (each (screen_item file) (line ∷ lines)) is title.2 in
       one _ is (holds.of_screen (record { title = title.0; items = names.0 })) (let same : make title.0 names.0 ≡ is = cc names.2 in same)
 
   in_file : (file : ℕ) (first : CutLine) (deeper : List CutLine) (is : List Item) → file_block file first deeper ≡ Some is → All P is
   in_file file first [] is h = go (file == 0) h
     where
       go : (b : Bool) → cond b (option_map (λ (named : Name). item.File named ∷ []) (headed_text file first)) None ≡ Some is → All P is
-      go true k = let f = mapped (λ (named : Name). item.File named ∷ []) (headed_text file first) is k in one _ is (holds.of_file f.0) f.2
+      go true k = let f = mapped_parts (λ (named : Name). item.File named ∷ []) (headed_text file first) is k in one _ is (holds.of_file f.0) f.2
       go false k = absurd (cc k)
   in_file file first (line ∷ lines) is h = absurd (cc h)
 
@@ -124,7 +117,7 @@ module _ (P : Item → Type 0) (L : CutLine → Type 0) (holds : Hold P L) where
   in_lines : (file : ℕ) (lines : List CutLine) (is : List Item) → All L lines → spelled_in file lines ≡ Some is → All P is
   in_lines file [] is all h = absurd (cc h)
   in_lines file (first ∷ deeper) is all h =
-      let head = bound (λ (kind : Head). block_by file kind first deeper) (head_of first.text) is h in
+      let head = bound_parts (λ (kind : Head). block_by file kind first deeper) (head_of first.text) is h in
       in_block file head.0 first deeper is (All-head L first deeper all) (All-tail L first deeper all) head.2
 
   in_items : (block : CutBlock) → All L block.lines → All P (items_in block)

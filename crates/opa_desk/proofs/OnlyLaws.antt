@@ -6,6 +6,7 @@ use Rattle.std.specs.Io.KnownBytes.{Appends, Consumes}
 use Rattle.opa_io.specs.Outside.{Files}
 use Rattle.opa_io.specs.declared.fault.Status.{Status}
 use Rattle.opa_io.specs.declared.fault.Status.TheVariants as status
+use Rattle.opa_io.proofs.Outsides.{read_whole}
 use Rattle.opa_model.specs.Models.{IsModel}
 use Rattle.opa_outside.specs.Outside.{Outside}
 use Rattle.opa_outside.specs.Telling.{IsTold}
@@ -13,7 +14,6 @@ use Rattle.opa_rulebase.specs.Loading.{Opens}
 use Rattle.opa_script.specs.Laws.{OneCommand, RefusedOrRead}
 use Rattle.opa_talk.specs.Lines.{input_lines}
 use Rattle.opa_talk.specs.Transcript.{IsTranscript}
-use Rattle.opa_talk.proofs.StatusLaws.{all_read}
 use Rattle.opa_tree.specs.declared.rulebase.Rulebase.{Rulebase}
 use Rattle.opa_decided.specs.Laws.{OneCommandFault}
 use Rattle.opa_decided.specs.Opening.{OneOpening}
@@ -62,7 +62,7 @@ module _ (old new : Outside) (s : Status) where
         → IfSome l (λ bytes. (good : Status) (text : List ℕ) → Gives base bytes good text → Ended old new s good text)
     works_over w answered None took = tt
     works_over w answered (Some bytes) took = λ good text gives.
-        let read = all_read bytes w.read new.left took w.ended in
+        let read = read_whole bytes w.read new.left took w.ended in
         let one = one_gives base is one_command one_fault apart bytes good w.good text w.text gives (subst (λ b. Gives base b w.good w.text) read w.gives) in
         let told = told_whole w.good w.text answered w.told in
         (told.0 ∙ sym one.0, subst (Appends old.written new.written) (sym one.1) told.1)
@@ -94,7 +94,7 @@ module _ (one_opening : OneOpening) (one_command : OneCommand) (one_fault : OneC
         (refl, subst (Appends old.written new.written) (sym one.0) says.wrote)
 
     talks_over : (s : Status) → cases.Talks base old new s → HasAnswered s → CasesOver old new s (Ok base)
-    talks_over status.Done (read, took, few, (end, says)) answered = says_over read says old.left (λ bytes all. all_read bytes read new.left all end) took
+    talks_over status.Done (read, took, few, (end, says)) answered = says_over read says old.left (λ bytes all. read_whole bytes read new.left all end) took
     talks_over status.Refused t answered = absurd t
     talks_over status.Usage t answered = absurd t
     talks_over status.ReadFault t answered = not_read answered

@@ -24,7 +24,7 @@ use Rattle.opa_dirty.proofs.Parted.{parts_of}
 use Rattle.opa_dirty.proofs.Looking.{line_right}
 use Rattle.opa_dirty.proofs.Rising.{rises, listed_rise, to_one}
 
-from_kind : (k : Kind) (v : Value) (l : Answer) → has_kind k v ≡ true → list_all (λ p. has_kind k p.1) l ≡ true → (d : ℕ) → has_kind k (value_from v l d) ≡ true
+pub from_kind : (k : Kind) (v : Value) (l : Answer) → has_kind k v ≡ true → list_all (λ p. has_kind k p.1) l ≡ true → (d : ℕ) → has_kind k (value_from v l d) ≡ true
 from_kind k v [] h all d = h
 from_kind k v (p ∷ l) h all d = let both = and_parts _ _ all in go (nat_le p.0 d) (from_kind k p.1 l both.0 both.1 d)
   where
@@ -32,7 +32,7 @@ from_kind k v (p ∷ l) h all d = let both = and_parts _ _ all in go (nat_le p.0
     go true g = g
     go false g = h
 
-line_kind : (k : Kind) (l : Answer) → list_all (λ p. has_kind k p.1) l ≡ true → (d : ℕ) → has_kind k (day_value l d) ≡ true
+pub line_kind : (k : Kind) (l : Answer) → list_all (λ p. has_kind k p.1) l ≡ true → (d : ℕ) → has_kind k (day_value l d) ≡ true
 line_kind k [] all d = refl
 line_kind k (p ∷ l) all d = let both = and_parts _ _ all in from_kind k p.1 l both.0 both.1 d
 

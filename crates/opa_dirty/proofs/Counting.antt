@@ -21,6 +21,7 @@ use Rattle.opa_mean.proofs.Fitting.{live_in}
 use Rattle.opa_dirty.specs.Dirty.{is_reached}
 use Rattle.opa_dirty.specs.Settling.{Lines, Shift, IsDirty, Stages, is_left, left, reached}
 use Rattle.opa_mean.specs.Slots.{is_slot}
+use Rattle.opa_mean.proofs.SlotsAre.{in_attributes}
 use Rattle.opa_dirty.proofs.Parted.{parts_of}
 use Rattle.opa_dirty.proofs.Staging.{some_stays, some_here}
 
@@ -67,18 +68,6 @@ module _ {X : Type 0} (p q : X → Bool) (weaker : (x : X) → q x ≡ true → 
 same_filter : {X : Type 0} (p q : X → Bool) → ((x : X) → p x ≡ q x) → (xs : List X) → filter p xs ≡ filter q xs
 same_filter p q h [] = refl
 same_filter p q h (x ∷ xs) = ap (λ b. cond b (x ∷ filter p xs) (filter p xs)) (h x) ∙ ap (λ ys. cond (q x) (x ∷ ys) ys) (same_filter p q h xs)
-
--- each declared attribute with a rule is among those by rank
-in_attributes : (n : ℕ) (a : AttrId) → a.0 < n → Contains (attributes n) a
-in_attributes zero a lt = absurd (omega (arith, lt))
-in_attributes (suc n) a lt = go (cases_lt a.0 n) (in_attributes n a)
-  where
-    go : (a.0 < n) ⊎ (n ≤ a.0) → (a.0 < n → Contains (attributes n) a) → Contains (attributes n ++ record { 0 = n } ∷ []) a
-    go (inl more) rec = Contains-append_left (attributes n) (record { 0 = n } ∷ []) a (rec more)
-    go (inr at) rec =
-        let e : n ≡ a.0 = omega (arith, lt, at) in
-        let same : ◌≡◌ {A = AttrId} (record { 0 = n }) a = ap (λ (k : ℕ). let x : AttrId = record { 0 = k } in x) e in
-        Contains-append_right (attributes n) (record { 0 = n } ∷ []) a (subst (λ (x : AttrId). Contains (record { 0 = n } ∷ []) x) same (contains_head (record { 0 = n }) []))
 
 in_below : (b : Base) (n : ℕ) (k : ℕ) (a : AttrId) → k < n → Contains (of_rank b k) a → Contains (below_rank b n) a
 in_below b zero k a lt h = absurd (omega (arith, lt))

@@ -2,11 +2,11 @@
 use Rattle.std.proofs.Common.{◌≡◌, ℕ, zero, suc, ◌+◌, ◌<◌, ◌≤◌, Bool, true, false, cond, not, is_some, List, [], ◌∷◌, Option, None, Some, refl, sym, ◌∙◌, ap, arith}
 use Rattle.std.specs.Prelude.{find, ◌&&◌}
 use Rattle.opa_cells.specs.Instances.{is_text}
-use Rattle.std.specs.Cmp.{nat_eq_equiv, eq_by_cmp_equiv}
+use Rattle.std.specs.Cmp.{eq_by_cmp_equiv}
 use Rattle.std.specs.Cmp.Lexicographic.{nat_list_cmp_total}
+use Rattle.opa_io.proofs.Options.{none_is}
 use Rattle.opa_date.specs.declared.TheConstants.{DAYS}
 use Rattle.opa_value.specs.declared.value.Value.{Value}
-use Rattle.opa_value.specs.declared.value.Value.TheVariants.{Unknown, Uncertain, Bool as Truth, Num, Words, Day}
 use Rattle.opa_window.specs.Days.{days}
 use Rattle.opa_model.specs.declared.ids.AttrId.{AttrId}
 use Rattle.opa_cells.specs.declared.instance.InstanceId.{InstanceId}
@@ -15,16 +15,8 @@ use Rattle.opa_mean.specs.Changes.{first_difference}
 use Rattle.opa_mean.specs.Rulebases.{value_at}
 use Rattle.opa_mean.specs.Sameness.{same_value, same_names, same_lists}
 use Rattle.opa_mean.proofs.Cleaning.{same_where_none}
+use Rattle.opa_mean.proofs.SameBoth.{value_itself}
 use Rattle.opa_dirty.specs.Settling.{Shift, is_told}
-
-value_itself : (v : Value) → same_value v v ≡ true
-value_itself Unknown = refl
-value_itself Uncertain = refl
-value_itself (Truth true) = refl
-value_itself (Truth false) = refl
-value_itself (Num n) = grind arith
-value_itself (Words t) = (eq_by_cmp_equiv nat_list_cmp_total).refl t
-value_itself (Day d) = nat_eq_equiv.refl d
 
 none_among : (p : ℕ → Bool) (s n : ℕ) → ((d : ℕ) → s ≤ d → d < s + n → p d ≡ false) → find p (days s n) ≡ None
 none_among p s zero h = refl
@@ -33,10 +25,6 @@ none_among p s (suc n) h = ap (λ b. cond b (Some s) (find p (days (s + 1) n))) 
 pub none_where_same : (end : ℕ) (f g : ℕ → Value) → ((d : ℕ) → d < end → f d ≡ g d) → first_difference end f g ≡ None
 unfolding first_difference
 none_where_same end f g h = none_among (λ d. not (same_value (f d) (g d))) 0 end (λ d le lt. ap (λ v. not (same_value (f d) v)) (sym (h d (omega (arith, lt)))) ∙ ap not (value_itself (f d)))
-
-none_is : {X : Type 0} (o : Option X) → is_some o ≡ false → o ≡ None
-none_is None h = refl
-none_is (Some x) h = absurd (cc h)
 
 -- functions that agree on the calendar's days differ from the same
 pub same_difference : (end : ℕ) (f f' g g' : ℕ → Value) → ((d : ℕ) → d < end → f d ≡ f' d) → ((d : ℕ) → d < end → g d ≡ g' d) → is_some (first_difference end f g) ≡ is_some (first_difference end f' g')

@@ -2,7 +2,7 @@
 use Rattle.std.proofs.Common.{◌≡◌, suc, Bool, true, false, cond, [], Option, None, Some, is_some, refl, sym, ◌∙◌, ap, arith}
 use Rattle.std.specs.Prelude.{◌&&◌}
 use Rattle.std.specs.Option.{option_or}
-use Rattle.std.proofs.lemmas.Bool.{and_parts}
+use Rattle.std.proofs.lemmas.Bool.{and_parts, and_from}
 use Rattle.opa_date.specs.declared.TheConstants.{DAYS}
 use Rattle.opa_line.specs.Lines.{StandsFor}
 use Rattle.opa_model.specs.declared.ids.AttrId.{AttrId}
@@ -12,7 +12,6 @@ use Rattle.opa_case.specs.Live.{Population, is_live}
 use Rattle.opa_tree.proofs.Members.{none_in}
 use Rattle.opa_mean.specs.Rulebases.{value_at}
 use Rattle.opa_mean.specs.Slots.{is_slot}
-use Rattle.opa_mean.proofs.SameBoth.{both_true}
 use Rattle.opa_dirty.specs.Dirty.{is_reached}
 use Rattle.opa_dirty.specs.Settling.{Lines, Shift, IsShift, AreCurrent, AreSettled, IsDirty, IsSettling, LaidAreCurrent, LaidStayCurrent, rank_of, laid, laid_over}
 use Rattle.opa_dirty.proofs.Catching.{clean_value, caught_up}
@@ -32,7 +31,7 @@ settles s is staged h = record {
     dirty : (a : AttrId) (i : InstanceId) (x : Bool) → is_some (staged a i) ≡ x → (y : Bool) → (is_slot s.rules s.new a i && is_reached s.rules s.old s.new a i) ≡ y → is_some (staged a i) ≡ (is_slot s.rules s.new a i && is_reached s.rules s.old s.new a i)
     dirty a i true e true e' = e ∙ sym e'
     dirty a i false e false e' = e ∙ sym e'
-    dirty a i true e false e' = let d = h.dirty a i e in absurd (cc (e', both_true (is_slot s.rules s.new a i) (is_reached s.rules s.old s.new a i) d.slot d.reached))
+    dirty a i true e false e' = let d = h.dirty a i e in absurd (cc (e', and_from (is_slot s.rules s.new a i) (is_reached s.rules s.old s.new a i) d.slot d.reached))
     dirty a i false e true e' = let two = and_parts _ _ e' in absurd (cc (e, derived a i (record { slot = two.0; reached = two.1 })))
 
 module _ (s : Shift) (is : IsShift s) (kept staged : Lines) (current : AreCurrent s.rules s.old kept) (are : AreSettled s staged) where

@@ -4,6 +4,7 @@ use Rattle.std.specs.Prelude.{map, ◌||◌, ◌&&◌, ◌==◌}
 use Rattle.std.specs.List.{list_any}
 use Rattle.std.specs.FinMap.{FinMap, get}
 use Rattle.std.specs.Option.{option_or}
+use Rattle.opa_io.proofs.Bools.{or_assoc}
 use Rattle.opa_model.specs.declared.ids.AttrId.{AttrId}
 use Rattle.opa_cells.specs.Instances.{is_same, global}
 use Rattle.opa_cells.specs.Keys.{cell_cmp}
@@ -37,10 +38,6 @@ live_flag c i = ap (λ b. is_same i global || b) (go c.live)
     go [] = refl
     go (p ∷ live) = ap (λ b. is_same i p.0 || b) (go live)
 
-or_assoc : (x y z : Bool) → (x || (y || z)) ≡ ((x || y) || z)
-or_assoc true y z = refl
-or_assoc false y z = refl
-
 pub fresh_or_reads : FreshOrReads
 fresh_or_reads r c c' a i =
     ap (λ l. not (l && same_options is_same (container_of c.live i) (container_of c'.live i)) || (not (same_lists same_question (slot_reads r c a i) (slot_reads r c' a i)) || list_any (is_changed r c c') (slot_reads r c' a i))) (live_flag c i)
@@ -58,7 +55,7 @@ reader_is_reached s a i q reads told = fresh_or_reads s.rules s.old s.new a i �
     either true e = refl
     either false e = e
 
-stale_parts : (x y z : Bool) → (not (x && y) || not z) ≡ false → (x ≡ true) × (z ≡ true)
+pub stale_parts : (x y z : Bool) → (not (x && y) || not z) ≡ false → (x ≡ true) × (z ≡ true)
 stale_parts true true true h = (refl, refl)
 stale_parts true true false h = absurd (cc h)
 stale_parts true false z h = absurd (cc h)

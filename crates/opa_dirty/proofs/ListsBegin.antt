@@ -4,7 +4,7 @@ use Rattle.std.specs.Prelude.{◌||◌, ◌&&◌}
 use Rattle.std.specs.List.{list_any}
 use Rattle.std.specs.FinMap.{get}
 use Rattle.std.specs.Option.{option_copied}
-use Rattle.std.proofs.lemmas.Bool.{and_parts}
+use Rattle.std.proofs.lemmas.Bool.{and_parts, not-false}
 use Rattle.opa_date.specs.declared.TheConstants.{DAYS}
 use Rattle.opa_model.specs.declared.ids.AttrId.{AttrId}
 use Rattle.opa_cells.specs.Instances.{is_same}
@@ -36,6 +36,7 @@ use Rattle.opa_dirty.proofs.Lowering.{reads_are_lower}
 use Rattle.opa_dirty.proofs.Parted.{parts_of, slot_is}
 use Rattle.opa_dirty.proofs.Reaching.{slot_kept, dirty_by_old_reads, new_is_dirty}
 use Rattle.opa_dirty.proofs.Rereading.{SameList}
+use Rattle.opa_dirty.proofs.Freshness.{stale_parts}
 
 no_pass : {X : Type 0} (p : X → Bool) (xs : List X) (x : X) → list_any p xs ≡ false → Contains xs x → p x ≡ false
 no_pass p xs x none there = go (p x) refl
@@ -43,10 +44,6 @@ no_pass p xs x none there = go (p x) refl
     go : (b : Bool) → p x ≡ b → p x ≡ false
     go false e = e
     go true e = absurd (cc (none, passes_in p xs x there e))
-
-not_false : (b : Bool) → not b ≡ false → b ≡ true
-not_false true h = refl
-not_false false h = absurd (cc h)
 
 all_three : (x y z : Bool) → x ≡ true → y ≡ true → (x && (y && z)) ≡ false → z ≡ false
 all_three true true z a b h = h
@@ -70,7 +67,7 @@ module _ (s : Shift) (by : IsByLists s) (readers : Question → Waiting) (exact 
     where
       one : (q : Question) → Contains (old_reads a i) q → SameList (λ j. mean.IsLive (facts_of s.old) j × mean.IsLive (facts_of s.new) j) (facts_of s.old).members (facts_of s.new).members q
       one (question.Attr m j) there = tt
-      one (question.Members q j) there = λ both. names_exact ((facts_of s.old).members q j) ((facts_of s.new).members q j) (not_false (same_names ((facts_of s.old).members q j) ((facts_of s.new).members q j))
+      one (question.Members q j) there = λ both. names_exact ((facts_of s.old).members q j) ((facts_of s.new).members q j) (not-false (same_names ((facts_of s.old).members q j) ((facts_of s.new).members q j))
           (all_three (is_live s.old.live j) (is_live s.new.live j) (is_told s (question.Members q j)) (in_live s.old j both.0) (in_live s.new j both.1) (no_pass is_lost (old_reads a i) (question.Members q j) none there)))
 
   -- a list that differs, at what stays, is told
@@ -221,12 +218,6 @@ lists_begin s by readers exact told are waiting w = begun s by readers exact tol
 
 pub readers_then : ReadersThen
 readers_then s by told are before after is_anew exact then = then_are s by before exact told are after is_anew then
-
-stale_parts : (x y z : Bool) → (not (x && y) || not z) ≡ false → (x ≡ true) × (z ≡ true)
-stale_parts true true true h = (refl, refl)
-stale_parts true true false h = absurd (cc h)
-stale_parts true false z h = absurd (cc h)
-stale_parts false y z h = absurd (cc h)
 
 -- the readers before a change settle it
 pub held_can_tell : HeldCanTell

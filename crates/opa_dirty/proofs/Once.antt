@@ -27,6 +27,7 @@ use Rattle.opa_mean.proofs.Fitting.{in_live}
 use Rattle.opa_dirty.specs.Dirty.{is_reached}
 use Rattle.opa_dirty.specs.Settling.{Lines, Shift, IsShift, IsDirty, Stages, is_left, left}
 use Rattle.opa_mean.specs.Slots.{is_slot}
+use Rattle.opa_mean.proofs.SlotsAre.{out_attributes}
 use Rattle.opa_dirty.proofs.Parted.{slot_is}
 use Rattle.opa_dirty.proofs.Counting.{in_slots}
 use Rattle.opa_dirty.proofs.Staging.{some_here, split_some, some_stays}
@@ -108,25 +109,12 @@ differ_flat : {X Y : Type 0} (f : X → List Y) → ((x : X) → Differ (f x)) �
 differ_flat f each one [] d = tt
 differ_flat f each one (x ∷ xs) d = differ_append (f x) (flat_map f xs) (each x) (differ_flat f each one xs d.1) (λ z here there. let w = flat_out f xs z there in d.0 (subst (λ k. Contains xs k) (one w.0 x z w.1.1 here) w.1.0))
 
--- attributes stand once, in declared order and by rank
-in_order : (n : ℕ) (a : AttrId) → Contains (attributes n) a → a.0 < n
-in_order zero a h = absurd (none_in a h)
-in_order (suc n) a h = go (Contains-append_cases (attributes n) (record { 0 = n } ∷ []) a h) (in_order n a)
-  where
-    last : (record { 0 = n } ≡ a) ⊎ Contains [] a → a.0 < suc n
-    last (inl e) = let k : n ≡ a.0 = ap (λ (x : AttrId). x.0) e in omega (arith, k)
-    last (inr none) = absurd (none_in a none)
-
-    go : Contains (attributes n) a ⊎ Contains (record { 0 = n } ∷ []) a → (Contains (attributes n) a → a.0 < n) → a.0 < suc n
-    go (inl k) rec = let l = rec k in omega (arith, l)
-    go (inr k) rec = last (contains_cases (record { 0 = n }) a [] k)
-
 attributes_differ : (n : ℕ) → Differ (attributes n)
 attributes_differ zero = tt
 attributes_differ (suc n) = differ_append (attributes n) (record { 0 = n } ∷ []) (attributes_differ n) (λ h. none_in _ h, tt) (λ a here there. go a here (contains_cases (record { 0 = n }) a [] there))
   where
     go : (a : AttrId) → Contains (attributes n) a → (record { 0 = n } ≡ a) ⊎ Contains [] a → ⊥
-    go a here (inl e) = let l = in_order n a here in let k : n ≡ a.0 = ap (λ (x : AttrId). x.0) e in omega (arith, l, k)
+    go a here (inl e) = let l = out_attributes n a here in let k : n ≡ a.0 = ap (λ (x : AttrId). x.0) e in omega (arith, l, k)
     go a here (inr none) = none_in a none
 
 at_rank : (b : Base) (n : ℕ) (a : AttrId) → Contains (of_rank b n) a → (b.rank a ≡ n) × (is_some (rule_of b.rules a) ≡ true)

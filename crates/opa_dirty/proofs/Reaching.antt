@@ -1,19 +1,20 @@
 -- What was live before is dirty exactly where something that it could look at differs.
-use Rattle.std.proofs.Common.{◌≡◌, ℕ, List, [], ◌∷◌, Bool, true, false, not, Option, None, Some, refl, sym, ◌∙◌, ap, subst}
+use Rattle.std.proofs.Common.{◌≡◌, ℕ, List, [], ◌∷◌, Bool, true, false, not, Option, None, Some, refl, sym, ◌∙◌, ap}
 use Rattle.std.specs.Prelude.{◌||◌, ◌&&◌}
 use Rattle.std.specs.List.{list_any, AllByRecursion}
 use Rattle.std.proofs.Common.{Contains}
+use Rattle.std.proofs.lemmas.Bool.{and_from, or_parts, not-false}
+use Rattle.opa_io.proofs.Lists.{each_weaker}
 use Rattle.opa_model.specs.declared.ids.AttrId.{AttrId}
 use Rattle.opa_model.specs.declared.ids.RelId.{RelId}
 use Rattle.opa_cells.specs.Instances.{is_same, named}
 use Rattle.opa_cells.specs.declared.instance.InstanceId.{InstanceId}
-use Rattle.opa_cells.proofs.Orders.{same_is, same_itself}
+use Rattle.opa_cells.proofs.Orders.{same_itself}
 use Rattle.opa_case.specs.declared.question.Question.{Question}
 use Rattle.opa_case.specs.declared.question.Question.TheVariants as question
 use Rattle.opa_tree.specs.declared.expr.Expr.{Expr}
 use Rattle.opa_tree.specs.declared.rules.Rule.{Rule}
 use Rattle.opa_tree.specs.Rules.{rule_of}
-use Rattle.opa_tree.proofs.Members.{contains_head, contains_tail}
 use Rattle.opa_mean.specs.Changes.{differs, is_dirty}
 use Rattle.opa_mean.specs.Changes as changes
 use Rattle.opa_mean.specs.Completion.{AreFacts}
@@ -24,22 +25,15 @@ use Rattle.opa_mean.specs.Reads.{reads, reads_of, rule_reads}
 use Rattle.opa_mean.specs.Sameness.{same_question, same_lists, same_options, same_names}
 use Rattle.opa_mean.proofs.Chains.{chain_same, places_same, place_live}
 use Rattle.opa_mean.proofs.Completing.{above_live}
-use Rattle.opa_mean.proofs.Everywhere.{all_of_each, all_weaker}
+use Rattle.opa_mean.proofs.Everywhere.{all_of_each}
 use Rattle.opa_mean.proofs.Exact.{lists_exact, question_exact, names_exact}
 use Rattle.opa_mean.proofs.Fitting.{live_in, in_live}
 use Rattle.opa_mean.proofs.ChangesAre.{live_passes}
 use Rattle.opa_mean.proofs.LawsOver as over
-use Rattle.opa_mean.proofs.SameBoth.{both_true, question_itself, lists_itself}
+use Rattle.opa_mean.proofs.SameBoth.{question_itself, lists_itself}
+use Rattle.opa_mean.proofs.Cleaning.{any_same}
 use Rattle.opa_dirty.specs.Dirty.{DirtyByOldReads, DirtyByNewReads, NewIsDirty, ReadsStay}
 use Rattle.opa_dirty.proofs.Rereading.{reads_kept, SameList}
-
-not_false : (b : Bool) → not b ≡ false → b ≡ true
-not_false true h = refl
-not_false false h = absurd (cc h)
-
-or_none : (a b : Bool) → (a || b) ≡ false → (a ≡ false) × (b ≡ false)
-or_none true b h = absurd (cc h)
-or_none false b h = (refl, h)
 
 same_container : (o o' : Option InstanceId) → o' ≡ o → same_options is_same o o' ≡ true
 same_container None o' e = ap (same_options is_same None) e
@@ -49,15 +43,15 @@ same_container (Some i) o' e = ap (same_options is_same (Some i)) e ∙ same_its
 module _ (b : Base) (c c' : Facts) where
   same_list : (Live : InstanceId → Type 0) (q : Question) → differs b c c' q ≡ false → SameList Live c.members c'.members q
   same_list Live (question.Attr a i) h = tt
-  same_list Live (question.Members r i) h = λ _. names_exact (c.members r i) (c'.members r i) (not_false (same_names (c.members r i) (c'.members r i)) h)
+  same_list Live (question.Members r i) h = λ _. names_exact (c.members r i) (c'.members r i) (not-false (same_names (c.members r i) (c'.members r i)) h)
 
   same_list_back : (Live : InstanceId → Type 0) (q : Question) → differs b c c' q ≡ false → SameList Live c'.members c.members q
   same_list_back Live (question.Attr a i) h = tt
-  same_list_back Live (question.Members r i) h = λ _. sym (names_exact (c.members r i) (c'.members r i) (not_false (same_names (c.members r i) (c'.members r i)) h))
+  same_list_back Live (question.Members r i) h = λ _. sym (names_exact (c.members r i) (c'.members r i) (not-false (same_names (c.members r i) (c'.members r i)) h))
 
   each_list : (P : Question → Type 0) → ((q : Question) → differs b c c' q ≡ false → P q) → (qs : List Question) → list_any (differs b c c') qs ≡ false → AllByRecursion P qs
   each_list P f [] h = tt
-  each_list P f (q ∷ qs) h = let both = or_none _ _ h in (f q both.0, each_list P f qs both.1)
+  each_list P f (q ∷ qs) h = let both = or_parts _ _ h in (f q both.0, each_list P f qs both.1)
 
 -- what a slot reads is kept where its lists are
 module _ (b : Base) (c c' : Facts) (are : AreFacts b.shape c) (are' : AreFacts b.shape c') (stay : (i : InstanceId) → IsLive c i → IsLive c' i → c'.container i ≡ c.container i) where
@@ -69,7 +63,7 @@ module _ (b : Base) (c c' : Facts) (are : AreFacts b.shape c) (are' : AreFacts b
   above i j live e = (above_live b.shape c are i j live.0 e, above_live b.shape c' are' i j live.1 (stay i live.0 live.1 ∙ e))
 
   places : (enclosing : List InstanceId) → AllByRecursion Both enclosing → (e : ℕ) → place c.container enclosing e ≡ place c'.container enclosing e
-  places enclosing w e = sym (places_same c.container c'.container enclosing (all_weaker Both _ (λ i h. chain_same c.container Both above c'.container (λ j k. stay j k.0 k.1) i h) enclosing w) e)
+  places enclosing w e = sym (places_same c.container c'.container enclosing (each_weaker Both _ (λ i h. chain_same c.container Both above c'.container (λ j k. stay j k.0 k.1) i h) enclosing w) e)
 
   at_both : (enclosing : List InstanceId) → AllByRecursion Both enclosing → (e : ℕ) (i : InstanceId) → place c.container enclosing e ≡ Some i → Both i
   at_both = place_live c.container Both above
@@ -103,7 +97,7 @@ module _ (b : Base) (c c' : Facts) (are : AreFacts b.shape c) (are' : AreFacts b
   -- dirty is then: what is read differs, or something that is read afterwards does
   placed : is_dirty b c c' a i ≡ (not (same_lists same_question Old New) || list_any (differs b c c') New)
   placed = ap (λ x. not x || (not (same_lists same_question Old New) || list_any (differs b c c') New))
-      (both_true (changes.is_live c i) (same_options is_same (c.container i) (c'.container i)) (live_passes i c.instances live) (same_container (c.container i) (c'.container i) (stay i live live')))
+      (and_from (changes.is_live c i) (same_options is_same (c.container i) (c'.container i)) (live_passes i c.instances live) (same_container (c.container i) (c'.container i) (stay i live live')))
 
   when_same : Old ≡ New → is_dirty b c c' a i ≡ list_any (differs b c c') New
   when_same same = placed ∙ ap (λ x. not x || list_any (differs b c c') New) (ap (same_lists same_question Old) (sym same) ∙ lists_itself same_question question_itself Old)
@@ -142,15 +136,6 @@ pub dirty_by_new_reads : DirtyByNewReads
 dirty_by_new_reads r c c' is is' keep a i live live' =
     by_new (base_of r) (facts_of c) (facts_of c') (over.facts r c is) (over.facts r c' is') (λ j l l'. keep j (in_live c j l) (in_live c' j l')) a i (live_in c i live) (live_in c' i live')
 
--- an instance that passes the test is among the live ones
-any_same : (i : InstanceId) (is : List InstanceId) → list_any (is_same i) is ≡ true → Contains is i
-any_same i [] h = absurd (cc h)
-any_same i (j ∷ is) h = go (is_same i j) refl (any_same i is)
-  where
-    go : (b : Bool) → is_same i j ≡ b → (list_any (is_same i) is ≡ true → Contains is i) → Contains (j ∷ is) i
-    go true e rest = subst (λ (k : InstanceId). Contains (j ∷ is) k) (sym (same_is i j e)) (contains_head j is)
-    go false e rest = contains_tail j i is (rest (sym (ap (λ b. b || list_any (is_same i) is) e) ∙ h))
-
 -- an instance that isn't among the live ones fails the test
 pub new_is_dirty : NewIsDirty
 new_is_dirty r c c' a i new = go (changes.is_live (facts_of c) i) (told (changes.is_live (facts_of c) i) refl)
@@ -170,4 +155,4 @@ reads_stay r c c' is is' keep a i live live' same =
   where
     one : (q : Question) → Contains (reads_of (base_of r) (facts_of c) a i) q → SameList (λ j. IsLive (facts_of c) j × IsLive (facts_of c') j) (facts_of c).members (facts_of c').members q
     one (question.Attr m j) there = tt
-    one (question.Members q j) there = λ _. names_exact ((facts_of c).members q j) ((facts_of c').members q j) (not_false (same_names ((facts_of c).members q j) ((facts_of c').members q j)) (same q j there))
+    one (question.Members q j) there = λ _. names_exact ((facts_of c).members q j) ((facts_of c').members q j) (not-false (same_names ((facts_of c).members q j) ((facts_of c').members q j)) (same q j there))

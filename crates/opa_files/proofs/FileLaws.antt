@@ -1,6 +1,7 @@
 -- Files that are taken one after another.
-use Rattle.std.proofs.Common.{◌≡◌, ℕ, ◌+◌, ◌≤◌, List, [], ◌∷◌, ◌++◌, length, false, Option, Some, None, IfSome, IfOk, IfErr, Result, Ok, Err, refl, sym, ap, ◌∙◌, append_assoc, append-nil, subst, slice_get, arith}
-use Rattle.opa_io.specs.Outside.{Files, Rose}
+use Rattle.std.proofs.Common.{◌≡◌, ℕ, ◌+◌, ◌≤◌, List, [], ◌∷◌, ◌++◌, length, false, Option, Some, None, IfSome, IfOk, IfErr, Result, Ok, Err, refl, sym, ap, ◌∙◌, append_assoc, append-nil, subst, slice_get}
+use Rattle.opa_io.specs.Outside.{Files}
+use Rattle.opa_io.proofs.Outsides.{rose_before}
 use Rattle.opa_layout.specs.Lines.{rows}
 use Rattle.opa_tree.specs.declared.faults.RbKind.TheVariants.{Limit}
 use Rattle.opa_files.specs.declared.fault.TakeError.{TakeError}
@@ -42,9 +43,6 @@ files_fail files old main n l ls left u whole e h r =
 pub told_both : (told : Option Files) (P Q R : Files → Type 0) → IfSome told P → IfSome told Q → ((files : Files) → P files → Q files → R files) → IfSome told R
 told_both None P Q R p q f = tt
 told_both (Some files) P Q R p q f = f files p q
-
-pub rose_before : (b m n : ℕ) → b ≤ m → Rose m n → Rose b n
-rose_before b m n h k = grind (arith, h, k)
 
 module _ (told : Option Files) (name : List ℕ) where
   pub main_fails : (b n : ℕ) (e : TakeError) → HasTakeError told (RefusesFile 0 name) b n e → HasTakeError told (λ files u. AreFiles files name (Err u)) b n e

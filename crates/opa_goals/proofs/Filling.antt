@@ -4,6 +4,7 @@ use Rattle.std.specs.List.{list_all}
 use Rattle.std.specs.Prelude.{slice_set}
 use Rattle.std.proofs.lemmas.Bool.{cases_lt}
 use Rattle.std.proofs.lemmas.List.{get_or_past, get_or-set_same, get_or-set_other}
+use Rattle.opa_io.proofs.Bools.{same_truth}
 use Rattle.opa_model.specs.declared.ids.AttrId.{AttrId}
 use Rattle.opa_tree.specs.declared.rulebase.Rulebase.{Rulebase}
 use Rattle.opa_tree.specs.declared.rules.Rule.{Rule}
@@ -16,11 +17,11 @@ use Rattle.opa_mean.specs.Frees.{is_free, rule_is_free}
 use Rattle.opa_mean.specs.Given.{base_of}
 use Rattle.opa_goals.specs.Freedom.{never_asks}
 use Rattle.opa_goals.specs.Tables.{free_by, told_free, IsDone, AreFrees, AreFreesUpTo}
-use Rattle.opa_goals.proofs.Reaching.{each_passes, all_pass, all_alike, same_bool, never_by, undeclared_never_asks}
+use Rattle.opa_goals.proofs.Reaching.{each_passes, all_pass, all_alike, never_by, undeclared_never_asks}
 
 -- what a tree mentions and its mentions pass alike
 all_mentioned : (p : AttrId → Bool) (rule : Rule) → list_all p (mentioned rule.expr) ≡ list_all p (mentions rule.expr)
-all_mentioned p rule = same_bool _ _
+all_mentioned p rule = same_truth _ _
     (λ h. all_pass p (mentions rule.expr) (λ a there. each_passes p (mentioned rule.expr) h a (((mentions_are_each_once_holds rule.expr).1 a).0 there)))
     (λ h. all_pass p (mentioned rule.expr) (λ a there. each_passes p (mentions rule.expr) h a (((mentions_are_each_once_holds rule.expr).1 a).1 there)))
 

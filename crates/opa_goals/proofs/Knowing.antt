@@ -1,10 +1,13 @@
 -- Goals that are known on every day, by their lines.
-use Rattle.std.proofs.Common.{◌≡◌, ◌≢◌, ◌↔◌, ◌⊎◌, inl, inr, ℕ, zero, suc, ◌+◌, ◌<◌, ◌≤◌, Bool, true, false, cond, not, ◌&&◌, ◌||◌, ◌==◌, List, [], ◌∷◌, length, drop, Option, None, Some, is_some, refl, sym, ◌∙◌, ap, subst, arith, add-one}
+use Rattle.std.proofs.Common.{◌≡◌, ◌≢◌, ◌↔◌, ◌⊎◌, inl, inr, ℕ, zero, suc, ◌+◌, ◌<◌, ◌≤◌, Bool, true, false, cond, not, ◌&&◌, ◌||◌, ◌==◌, List, [], ◌∷◌, length, drop, Option, None, Some, is_some, refl, sym, ◌∙◌, ap, subst, arith}
 use Rattle.std.specs.Prelude.{find, nat_le, is_none, slice_get}
 use Rattle.std.specs.FinMap.{get}
 use Rattle.std.specs.List.{list_any, list_all, AllByRecursion}
 use Rattle.std.proofs.lemmas.Bool.{le-leb, lt-leb, eq-eqb, and_parts}
 use Rattle.std.proofs.lemmas.Option.{slice_get_past}
+use Rattle.opa_io.proofs.Bools.{same_truth}
+use Rattle.opa_io.proofs.Numbers.{found_passes}
+use Rattle.opa_io.proofs.Places.{drop_at}
 use Rattle.opa_date.specs.declared.TheConstants.{DAYS}
 use Rattle.opa_value.specs.declared.value.Value.{Value}
 use Rattle.opa_value.specs.declared.value.Value.TheVariants.{Unknown}
@@ -32,17 +35,9 @@ use Rattle.opa_goals.specs.declared.states.GoalState.{GoalState}
 use Rattle.opa_goals.specs.Freedom.{never_asks}
 use Rattle.opa_goals.specs.States.{is_known, state_by, goal_state, IsStateOf, StaysSettled}
 use Rattle.opa_goals.specs.Stretches.{is_pair_known, is_line_known}
-use Rattle.opa_goals.proofs.Reaching.{same_bool, never_is_free, free_never_asks}
+use Rattle.opa_goals.proofs.Reaching.{never_is_free, free_never_asks}
 
 -- ---- the first day on which a value is unknown
-
-found_passes : (p : ℕ → Bool) (ds : List ℕ) (d : ℕ) → find p ds ≡ Some d → p d ≡ true
-found_passes p [] d e = absurd (cc e)
-found_passes p (k ∷ ds) d e = go (p k) refl (found_passes p ds d)
-  where
-    go : (b : Bool) → p k ≡ b → (find p ds ≡ Some d → p d ≡ true) → p d ≡ true
-    go true q rest = let same : k ≡ d = cc (e, ap (λ b. cond b (Some k) (find p ds)) q) in sym (ap p same) ∙ q
-    go false q rest = rest (sym (ap (λ b. cond b (Some k) (find p ds)) q) ∙ e)
 
 found_within : (p : ℕ → Bool) (s n d : ℕ) → find p (days s n) ≡ Some d → d < s + n
 found_within p s zero d e = absurd (cc e)
@@ -151,7 +146,7 @@ line_open (p ∷ l) form h = go (is_pair_known p) refl (open_day 0 p.1 l (omega 
 
 -- a line that stands for values tells whether they are all known
 known_by_line : (f : ℕ → Value) (l : List (ℕ × Value)) → IsLine DAYS l → StandsFor DAYS f l → is_line_known l ≡ is_none (first_unknown DAYS f)
-known_by_line f l form stands = same_bool _ _ there back
+known_by_line f l form stands = same_truth _ _ there back
   where
     there : is_line_known l ≡ true → is_none (first_unknown DAYS f) ≡ true
     there h = known_then f (λ d lt un. line_known l d form h (stands d lt ∙ ap Some un))
@@ -233,15 +228,6 @@ module _ (r : Rulebase) (c : CaseView) where
       stays v w (inr same) known = sym same
 
 -- ---- the loop over goals
-
-drop_at : (goals : List AttrId) (n : ℕ) (a : AttrId) → slice_get goals n ≡ Some a → drop n goals ≡ a ∷ drop (n + 1) goals
-drop_at [] n a e = absurd (none_there n a e)
-  where
-    none_there : (n : ℕ) (a : AttrId) → slice_get [] n ≡ Some a → ⊥
-    none_there zero a e = cc e
-    none_there (suc n) a e = cc e
-drop_at (b ∷ goals) zero a e = let same : b ≡ a = cc e in ap (λ x. x ∷ goals) same
-drop_at (b ∷ goals) (suc n) a e = drop_at goals n a e ∙ ap (λ m. a ∷ drop m goals) (add-one n) ∙ sym (ap (λ m. a ∷ drop m (b ∷ goals)) (add-one (suc n)))
 
 none_behind : (goals : List AttrId) (n : ℕ) → length goals ≤ n → drop n goals ≡ []
 none_behind [] zero over = refl

@@ -1,11 +1,10 @@
 -- What a tree needs is declared, where all of the tree is reached from the enclosing entities.
-use Rattle.std.proofs.Common.{◌≡◌, ◌⊎◌, inl, inr, ℕ, ◌+◌, ◌-◌, ◌<◌, Bool, true, false, cond, ◌&&◌, List, [], ◌∷◌, ◌++◌, length, map, Option, None, Some, Contains, refl, sym, subst}
-use Rattle.std.specs.Prelude.{flat_map, nat_lt, IsTrue}
-use Rattle.std.specs.Option.{option_map_or}
+use Rattle.std.proofs.Common.{◌≡◌, ◌⊎◌, inl, inr, ℕ, ◌+◌, ◌-◌, ◌<◌, Bool, true, false, cond, ◌&&◌, List, [], ◌∷◌, ◌++◌, length, map, Option, None, Some, Contains, sym, subst}
+use Rattle.std.specs.Prelude.{flat_map, IsTrue}
 use Rattle.std.proofs.lemmas.Bool.{and_parts}
 use Rattle.std.proofs.lemmas.List.Elements.{Contains-append_cases}
 use Rattle.std.proofs.lemmas.Option.{slice_get_within}
-use Rattle.opa_date.specs.declared.TheConstants.{DAYS}
+use Rattle.opa_io.proofs.Options.{there_is}
 use Rattle.opa_value.specs.declared.value.Value.{Value}
 use Rattle.opa_value.specs.declared.value.Value.TheVariants.{Unknown, Uncertain, Bool as Truth, Num, Words, Day}
 use Rattle.opa_value.specs.Truth.{is_true, is_unknown}
@@ -38,6 +37,7 @@ use Rattle.opa_mean.specs.Next.{question_of}
 use Rattle.opa_mean.specs.Places.{owner_of, place}
 use Rattle.opa_mean.specs.Uses.{Use, Uses, Used, RowUses, RowUsed, at_place_uses, on_date_uses, in_window_uses}
 use Rattle.opa_mean.proofs.NeedsLaws.{row_needs, needs-roll, row_needs-is}
+use Rattle.opa_mean.proofs.UsesAt.{date_in, window_in}
 use Rattle.opa_goals.specs.Asked.{IsDeclared}
 
 -- the question of a use is declared
@@ -52,26 +52,6 @@ if_in v us u h = go (is_unknown v) h
     go true h = h
     go false h = absurd (none_in u h)
 
-date_in : (f : ℕ → List Use) (v : Value) (u : Use) → Contains (on_date_uses f v) u → (d : ℕ) × Contains (f d) u
-date_in f (Day k) u h = go (nat_lt k DAYS) h
-  where
-    go : (b : Bool) → Contains (cond b (f k) []) u → (d : ℕ) × Contains (f d) u
-    go true h = (k, h)
-    go false h = absurd (none_in u h)
-date_in f Unknown u h = absurd (none_in u h)
-date_in f Uncertain u h = absurd (none_in u h)
-date_in f (Truth b) u h = absurd (none_in u h)
-date_in f (Num n) u h = absurd (none_in u h)
-date_in f (Words t) u h = absurd (none_in u h)
-
-window_in : (f : ℕ → List Use) (v w : Value) (u : Use) → Contains (in_window_uses f v w) u → (d : ℕ) × Contains (f d) u
-window_in f (Day j) (Day k) u h = go (nat_lt j DAYS && nat_lt k DAYS) h
-  where
-    go : (b : Bool) → Contains (cond b (flat_map f (days j (k - j))) []) u → (d : ℕ) × Contains (f d) u
-    go true h = let x = flat_out f (days j (k - j)) u h in (x.0, x.1.1)
-    go false h = absurd (none_in u h)
-window_in f _ _ u h = absurd (none_in u h)
-
 cond_in : (v : Value) (own us rest : List Use) (u : Use) → Contains (cond_needs v own us rest) u → Contains own u ⊎ (Contains us u ⊎ Contains rest u)
 cond_in (Truth true) own us rest u h = inr (inl h)
 cond_in (Truth false) own us rest u h = inr (inr h)
@@ -80,11 +60,6 @@ cond_in Uncertain own us rest u h = absurd (none_in u h)
 cond_in (Num n) own us rest u h = absurd (none_in u h)
 cond_in (Words t) own us rest u h = absurd (none_in u h)
 cond_in (Day k) own us rest u h = absurd (none_in u h)
-
--- what is asked of a thing holds only where there is one
-pub there_is : {X : Type 0} (o : Option X) (f : X → Bool) → IsTrue (option_map_or f o false) → (x : X) × ((o ≡ Some x) × IsTrue (f x))
-there_is None f h = absurd (cc h)
-there_is (Some x) f h = (x, (refl, h))
 
 module _ (m : Lists) (s : Shape) (l : Look) (list_need : RelId → InstanceId → Use) (at_point : AttrId → InstanceId → ℕ → List Use)
     (of_list : (r : RelId) (i : InstanceId) → r.0 < length m.relations → IsAsked m (list_need r i))

@@ -4,6 +4,7 @@ use Rattle.std.specs.Prelude.{unwrap_or}
 use Rattle.std.specs.List.{AllByRecursion}
 use Rattle.std.proofs.lemmas.List.Elements.{All-head, All-tail}
 use Rattle.std.proofs.lemmas.Option.{slice_get-get_or, slice_get_within}
+use Rattle.opa_io.proofs.Options.{there_is}
 use Rattle.opa_date.specs.declared.TheConstants.{DAYS}
 use Rattle.opa_model.specs.declared.ids.AttrId.{AttrId}
 use Rattle.opa_model.specs.declared.ids.RelId.{RelId}
@@ -36,7 +37,7 @@ use Rattle.opa_mean.proofs.Everywhere.{all_of_each}
 use Rattle.opa_mean.proofs.Filtered.{map_out}
 use Rattle.opa_mean.proofs.SameBoth.{sameness_is_exact}
 use Rattle.opa_goals.specs.Asked.{IsDeclared}
-use Rattle.opa_goals.proofs.Needing.{IsAsked, there_is, if_in, needs_declared}
+use Rattle.opa_goals.proofs.Needing.{IsAsked, if_in, needs_declared}
 
 module _ (r : Rulebase) (c : CaseView) (is : IsOf r c) where
   abbrev s : Shape

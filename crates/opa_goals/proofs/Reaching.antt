@@ -1,7 +1,8 @@
 -- What never asks, by what is reached and by its own rule.
-use Rattle.std.proofs.Common.{◌≡◌, ◌↔◌, ◌⊎◌, inl, inr, ◌≤◌, Bool, true, false, ◌&&◌, List, [], ◌∷◌, length, Option, None, Some, Contains, refl, sym, ◌∙◌, ap, subst, arith}
+use Rattle.std.proofs.Common.{◌≡◌, ◌↔◌, ◌⊎◌, inl, inr, ◌≤◌, Bool, true, ◌&&◌, List, [], ◌∷◌, length, Option, None, Some, Contains, refl, sym, ◌∙◌, ap, subst, arith}
 use Rattle.std.specs.List.{list_all}
-use Rattle.std.proofs.lemmas.Bool.{and_parts}
+use Rattle.std.proofs.lemmas.Bool.{and_parts, and_from}
+use Rattle.opa_io.proofs.Bools.{same_truth}
 use Rattle.opa_model.specs.declared.ids.AttrId.{AttrId}
 use Rattle.opa_tree.specs.declared.rulebase.Rulebase.{Rulebase}
 use Rattle.opa_tree.specs.declared.rules.Rule.{Rule}
@@ -31,15 +32,6 @@ all_pass p (x ∷ xs) h = ap (λ b. b && list_all p xs) (h x (contains_head x xs
 pub all_alike : {X : Type 0} (p q : X → Bool) (xs : List X) → ((x : X) → Contains xs x → p x ≡ q x) → list_all p xs ≡ list_all q xs
 all_alike p q [] h = refl
 all_alike p q (x ∷ xs) h = ap (λ b. b && list_all p xs) (h x (contains_head x xs)) ∙ ap (λ b. q x && b) (all_alike p q xs (λ y there. h y (contains_tail x y xs there)))
-
-pub both_hold : (x y : Bool) → x ≡ true → y ≡ true → (x && y) ≡ true
-both_hold x y e f = ap (λ b. b && y) e ∙ f
-
--- two truth values that hold alike are one
-pub same_bool : (x y : Bool) → (x ≡ true → y ≡ true) → (y ≡ true → x ≡ true) → x ≡ y
-same_bool true y f g = sym (f refl)
-same_bool false true f g = g refl
-same_bool false false f g = refl
 
 module _ (r : Rulebase) where
   abbrev its : AttrId → List AttrId
@@ -76,9 +68,9 @@ module _ (r : Rulebase) where
 
   -- by the rule, and by what it mentions
   pub never_by : (a : AttrId) → never_asks (base_of r) a ≡ (rule_is_free (rule_of r.rules a) && list_all (never_asks (base_of r)) (its a))
-  never_by a = same_bool _ _
+  never_by a = same_truth _ _
       (λ h. let free = never_is_free a h in
-      both_hold _ _ (free a itself) (all_pass (never_asks (base_of r)) (its a) (λ m there. free_never_asks m (free_through a m free there))))
+      and_from _ _ (free a itself) (all_pass (never_asks (base_of r)) (its a) (λ m there. free_never_asks m (free_through a m free there))))
       (λ h. let both = and_parts _ _ h in
       free_never_asks a (free_from a both.0 (λ m there. never_is_free m (each_passes (never_asks (base_of r)) (its a) both.1 m there))))
 

@@ -1,6 +1,7 @@
 -- What an answer that isn't refused makes of a case.
 use Rattle.std.proofs.Common.{◌≡◌, Bool, true, false, cond, not, List, Option, None, Some, Result, Ok, Err, IfSome, is_some, refl, sym, ◌∙◌, ap}
 use Rattle.std.specs.Prelude.{◌||◌, ◌==◌}
+use Rattle.opa_io.proofs.Bools.{neither_first}
 use Rattle.opa_model.specs.declared.ids.AttrId.{AttrId}
 use Rattle.opa_model.specs.Models.{HasAttribute}
 use Rattle.opa_cells.specs.declared.instance.InstanceId.{InstanceId}
@@ -18,10 +19,6 @@ use Rattle.opa_store.specs.Nexts.{answered}
 use Rattle.opa_tree.specs.Rules.{rule_of}
 use Rattle.opa_tree.specs.declared.rulebase.Rulebase.{Rulebase}
 use Rattle.opa_infer.specs.Coming.{IsAnswerable}
-
-or_first : (x y : Bool) → (x || y) ≡ false → x ≡ false
-or_first false y h = refl
-or_first true y h = absurd (cc h)
 
 pub refused : {X : Type 0} (x : Result X Refusal) (e : Refusal) → Some e ≡ refusal_of x → x ≡ Err e
 refused (Ok x) e h = absurd (cc h)
@@ -98,4 +95,4 @@ module _ (r : Rulebase) (c : CaseView) (is : IsOf r c) (shapes : ModelsAreShapes
 
 -- an attribute that can be answered has no rule
 pub unruled : (r : Rulebase) (c : CaseView) (a : AttrId) (i : InstanceId) (o : Option Answer) → IsAnswerable r c a i o → is_some (rule_of r.rules a) ≡ false
-unruled r c a i o h = sym (r.ruled_by.by_rules a h.declared) ∙ or_first (has_rule r.ruled a) (not (is_live c.live i)) (or_first (has_rule r.ruled a || not (is_live c.live i)) (not (i.entity.0 == ((shape_of r.model).attribute a).entity.0)) h.free)
+unruled r c a i o h = sym (r.ruled_by.by_rules a h.declared) ∙ neither_first (has_rule r.ruled a) (not (is_live c.live i)) (neither_first (has_rule r.ruled a || not (is_live c.live i)) (not (i.entity.0 == ((shape_of r.model).attribute a).entity.0)) h.free)

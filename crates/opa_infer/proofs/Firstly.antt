@@ -37,9 +37,9 @@ use Rattle.opa_dirty.proofs.Parted.{parts_of, slot_is}
 use Rattle.opa_dirty.proofs.Rising.{rises, listed_rise, to_one}
 use Rattle.opa_dirty.proofs.Staging.{split_line, split_some, some_stays, some_here}
 use Rattle.opa_dirty.specs.declared.slot.Slot.{Slot}
+use Rattle.opa_dirty.proofs.Allowing.{line_kind}
 use Rattle.opa_store.specs.Stores.{AreListed, is_listed}
 use Rattle.opa_infer.specs.First.{AreFirst}
-use Rattle.opa_infer.proofs.Kinded.{line_kind}
 
 abbrev Pair : Type 0
 Pair = AttrId × InstanceId

@@ -4,6 +4,7 @@ use Rattle.std.specs.Prelude.{◌&&◌, ◌||◌, ◌==◌}
 use Rattle.std.specs.FinMap.{get}
 use Rattle.std.specs.Option.{option_copied}
 use Rattle.std.proofs.lemmas.Bool.{eq-eqb}
+use Rattle.opa_io.proofs.Bools.{or_true}
 use Rattle.opa_date.specs.declared.TheConstants.{DAYS}
 use Rattle.opa_line.specs.Lines.{at, IsLine, StandsFor}
 use Rattle.opa_model.specs.declared.ids.AttrId.{AttrId}
@@ -31,10 +32,6 @@ and_false true true h = h
 and_false true false h = refl
 and_false false y h = refl
 
-or_right_is : (x : Bool) → (x || true) ≡ true
-or_right_is true = refl
-or_right_is false = refl
-
 and_or : (x y z : Bool) → (x && y) ≡ true → (x && (y || z)) ≡ true
 and_or true true z h = refl
 and_or true false z h = absurd (cc h)
@@ -59,7 +56,7 @@ module _ (r : Rulebase) (c : CaseView) (is : IsOf r c) (a : AttrId) (i : Instanc
   answer_has : (l : Answer) → get c.answers (a.0, i) ≡ Some l → has_line r c a i ≡ true
   answer_has l e =
       ap (λ b. b && (is_some (rule_of r.rules a) || is_some (get c.answers (a.0, i)))) (answer_placed l e)
-      ∙ ap (λ b. is_some (rule_of r.rules a) || b) (ap is_some e) ∙ or_right_is (is_some (rule_of r.rules a))
+      ∙ ap (λ b. is_some (rule_of r.rules a) || b) (ap is_some e) ∙ or_true (is_some (rule_of r.rules a))
 
   answer_right : (l : Answer) → IsFound r c a i None → get c.answers (a.0, i) ≡ Some l → IsLine DAYS l → StandsFor DAYS (value_at r c a i) l
   answer_right l none e form = λ d lt. go (rule_of r.rules a) refl d

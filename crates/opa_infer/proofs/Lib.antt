@@ -2,7 +2,6 @@ mod Accepted
 mod Firstly
 mod Found
 mod Heard
-pub mod Kinded
 mod Known
 mod Relisted
 mod Staged

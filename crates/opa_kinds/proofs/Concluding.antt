@@ -4,7 +4,7 @@ use Rattle.std.specs.Prelude.{nat_le, unwrap_or}
 use Rattle.std.specs.List.{list_all}
 use Rattle.std.specs.FinMap.{get}
 use Rattle.std.specs.Option.{option_map_or}
-use Rattle.std.proofs.lemmas.Bool.{and_parts, eqb-true}
+use Rattle.std.proofs.lemmas.Bool.{and_parts, eqb-true, or_right}
 use Rattle.opa_value.specs.declared.value.Value.{Value}
 use Rattle.opa_line.specs.Lines.{value_from}
 use Rattle.opa_window.specs.Days.{day_value}
@@ -26,7 +26,7 @@ use Rattle.opa_mean.specs.Mean.{look_of, concluded, fitted, is_money, mean_by}
 use Rattle.opa_mean.specs.Meaning.{value as value_of}
 use Rattle.opa_mean.specs.Rulebases.{IsOf}
 use Rattle.opa_kinds.specs.Laws.{kind_of}
-use Rattle.opa_kinds.proofs.Passing.{found_is, given_or}
+use Rattle.opa_kinds.proofs.Passing.{found_is}
 use Rattle.opa_kinds.proofs.Plain.{Has, kind_has, fit_has}
 use Rattle.opa_kinds.proofs.Stepping.{tree_has}
 
@@ -74,7 +74,7 @@ module _ (free : Bool) (r : Rulebase) (c : CaseView) (is : IsOf r c) where
       go None e = answers_have a i d
       go (Some rule) e =
           fit_has free (kind_of r a) (is_money (kind_of r a)) (value_of (shape_of r.model) (look_of (facts_of c) f) rule.expr (i ∷ []) d)
-          (tree_has free r.model (look_of (facts_of c) f) holds rule.expr true (given_or free (has_form rule.expr true) (found_is (λ (x : Rule). HasForm x.expr) (concludes a) r.rules rule r.formed e).0) (kind_of r a) (rule_can a rule e) (i ∷ []) d)
+          (tree_has free r.model (look_of (facts_of c) f) holds rule.expr true (or_right free (has_form rule.expr true) (found_is (λ (x : Rule). HasForm x.expr) (concludes a) r.rules rule r.formed e).0) (kind_of r a) (rule_can a rule e) (i ∷ []) d)
 
   pub steps_have : (n : ℕ) → Holds (mean_by (base_of r) (facts_of c) n)
   unfolding mean_by

@@ -25,7 +25,7 @@ pub values_have_kinds_holds : ValuesHaveKinds
 values_have_kinds_holds r c is a i d = sym (bound_is (kind_of r a) (value_at r c a i d)) ∙ steps_have false r c is (suc (rank_at r.ranks a)) a i d
 
 -- the tree of a rule can have a kind
-rule_can : (r : Rulebase) (rule : Rule) (o : Option Attribute) → option_map_or (λ (x : Attribute). can_have r.model rule.expr x.kind) o false ≡ true → CanBe r.model rule.expr
+pub rule_can : (r : Rulebase) (rule : Rule) (o : Option Attribute) → option_map_or (λ (x : Attribute). can_have r.model rule.expr x.kind) o false ≡ true → CanBe r.model rule.expr
 rule_can r rule None h = absurd (cc h)
 rule_can r rule (Some x) h = (x.kind, h)
 

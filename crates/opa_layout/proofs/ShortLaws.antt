@@ -60,11 +60,11 @@ past (b ∷ bs) = go (is_blank b) (past bs)
     go true h = omega (arith, h)
     go false h = omega arith
 
-unmarked : (x : List ℕ) (t : Bool) → length (cond t (drop 3 x) x) ≤ length x
+pub unmarked : (x : List ℕ) (t : Bool) → length (cond t (drop 3 x) x) ≤ length x
 unmarked x true = omega (arith, length-drop 3 x)
 unmarked x false = omega arith
 
-without_mark-shorter : (x : List ℕ) → length (without_mark x) ≤ length x
+pub without_mark-shorter : (x : List ℕ) → length (without_mark x) ≤ length x
 without_mark-shorter x = unmarked x (bytes_eq (take 3 x) (239 ∷ 187 ∷ 191 ∷ []))
 
 kept_few : (rs : List Row) → length (kept rs) ≤ length rs

@@ -3,6 +3,7 @@ pub mod Differing
 pub mod Growing
 pub mod LineLaws
 pub mod LastPairs
+pub mod Mapping
 pub mod Merging
 pub mod MoreDays
 pub mod OneLine

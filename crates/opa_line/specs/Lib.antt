@@ -1,5 +1,6 @@
 pub mod Differences
 pub mod Growth
+pub mod Holding
 pub mod Laws
 pub mod Lines
 pub mod Pairs

@@ -1,18 +1,30 @@
 // A line that is made from its first day on.
-ghost use Rattle.std.specs.Prelude.{◌≡◌, [], ◌∷◌, ◌++◌, ◌<◌, ◌≤◌, ◌↔◌, IsTrue, OnOk, OnErr, length};
+ghost use Rattle.std.specs.Prelude.{◌≡◌, [], ◌∷◌, ◌++◌, ◌<◌, ◌≤◌, ◌↔◌, IsTrue, IfOk, OnOk, OnErr, length};
 ghost use Rattle.opa_line.specs.Growth.{Added, Entered, Grown, last_value};
+ghost use Rattle.opa_line.specs.Holding.{pairs_held, pairs_begun};
 
 use crate::Line;
+use crate::line::Held;
 use opa_date::DAYS;
 use opa_io::{NoMemory, Same};
 use std::alloc::Global;
 use std::marker::Model;
+use std::mem;
+
+/// The pairs so far. A vector is made once a second pair comes.
+#[derive(Debug, Drop)]
+enum Begun<T> {
+    Nothing,
+    One((u32, T)),
+    Many(Vec<(u32, T)>),
+}
 
 /// A line that is made from its first day on, and the day up to which it goes.
 #[derive(Debug, Drop)]
 pub struct Builder<T> {
+    alloc: Global,
     upto: u32,
-    pairs: Vec<(u32, T)>,
+    pairs: Begun<T>,
 }
 
 impl<T> Model for Builder<T> {
@@ -20,14 +32,15 @@ impl<T> Model for Builder<T> {
     ghost use Rattle.std.specs.Coded.{coded_list, coded×, coded_ℕ};
     ghost use Rattle.opa_date.specs.declared.TheConstants.{DAYS};
     ghost use Rattle.opa_line.specs.Growth.{IsUpTo};
+    ghost use Rattle.opa_line.specs.Holding.{pairs_begun};
 
     ghost Value = { ℕ × List (ℕ × T) };
 
     ghost coded = { coded× coded_ℕ (coded_list (coded× coded_ℕ T.code)) };
 
-    ghost view = { λ b. (b.upto, b.pairs.items) };
+    ghost view = { λ b. (b.upto, pairs_begun b.pairs) };
 
-    ghost invariant = { λ b. (b.upto ≤ DAYS) × IsUpTo b.upto b.pairs.items };
+    ghost invariant = { λ b. (b.upto ≤ DAYS) × IsUpTo b.upto (pairs_begun b.pairs) };
 }
 
 impl<T> Builder<T> {
@@ -35,8 +48,9 @@ impl<T> Builder<T> {
         ensures { result ≡ (0, []) }
     {
         Builder {
+            alloc,
             upto: 0,
-            pairs: Vec::new(alloc),
+            pairs: Begun::Nothing,
         }
     }
 
@@ -45,13 +59,20 @@ impl<T> Builder<T> {
         requires { self.0 ≡ DAYS }
         ensures { result ≡ self.1 }
     {
-        let Builder { upto: _, pairs } = self;
-        Line { pairs }
+        let Builder {
+            alloc,
+            upto: _,
+            pairs,
+        } = self;
+        Line {
+            held: held(alloc, pairs),
+        }
     }
 }
 
 impl<T: Same + Drop> Builder<T> {
     /// The value holds up to that day, which isn't in it; up to a day that the line already reaches nothing changes.
+    /// Without memory nothing is left of the line.
     pub fn until(&mut self, day: u32, value: T) -> Result<(), NoMemory>
         requires { day ≤ DAYS }
         ensures { OnOk result (Grown self.old day value self.new) }
@@ -59,9 +80,23 @@ impl<T: Same + Drop> Builder<T> {
         if self.upto >= day {
             return Ok(());
         }
-        enter(&mut self.pairs, self.upto, value)?;
+        let upto = self.upto;
+        self.upto = 0;
+        let before = mem::replace(&mut self.pairs, Begun::Nothing);
+        let after = entered(self.alloc, before, upto, value)?;
+        self.pairs = after;
         self.upto = day;
         Ok(())
+    }
+}
+
+fn held<T>(alloc: Global, pairs: Begun<T>) -> Held<T>
+    ensures { pairs_held result ≡ pairs_begun pairs }
+{
+    match pairs {
+        Begun::Nothing => Held::Many(Vec::new(alloc)),
+        Begun::One(pair) => Held::One([pair]),
+        Begun::Many(pairs) => Held::Many(pairs),
     }
 }
 
@@ -101,5 +136,41 @@ fn enter<T: Same + Drop>(pairs: &mut Vec<(u32, T)>, day: u32, value: T) -> Resul
         put(pairs, day, value)
     } else {
         add(pairs, day, value)
+    }
+}
+
+/// The pairs with a second one, if it has a new value.
+fn after_first<T: Same + Drop>(
+    alloc: Global,
+    first: (u32, T),
+    day: u32,
+    value: T,
+) -> Result<Begun<T>, NoMemory>
+    ensures { IfOk result (λ pairs. Added (first ∷ []) day value (pairs_begun pairs)) }
+{
+    if value.same(&first.1) {
+        return Ok(Begun::One(first));
+    }
+    let mut pairs = Vec::new(alloc);
+    pairs.push(first)?;
+    pairs.push((day, value))?;
+    Ok(Begun::Many(pairs))
+}
+
+fn entered<T: Same + Drop>(
+    alloc: Global,
+    pairs: Begun<T>,
+    day: u32,
+    value: T,
+) -> Result<Begun<T>, NoMemory>
+    ensures { IfOk result (λ entered. Entered (pairs_begun pairs) day value (pairs_begun entered)) }
+{
+    match pairs {
+        Begun::Nothing => Ok(Begun::One((day, value))),
+        Begun::One(first) => after_first(alloc, first, day, value),
+        Begun::Many(mut pairs) => {
+            enter(&mut pairs, day, value)?;
+            Ok(Begun::Many(pairs))
+        }
     }
 }

@@ -54,14 +54,18 @@ impl<T> Line<T> {
         requires { MayMap F.Fn f DAYS self.now }
         ensures { IfOk result (EachDay (Maps F.Fn f self.now) DAYS) }
     {
-        let unit = Line::constant(alloc, ())?;
-        self.zip(
-            alloc,
-            &unit,
-            move |x: &T, _unit: &()|
-                requires { F.pre f x }
-                ensures { F.post f x.entry result }
-            { f(x) },
-        )
+        let pairs = self.segments();
+        let mut out = Builder::new(alloc);
+        let mut value = &pairs[0].1;
+        let mut rest = &pairs[1..];
+        while let [next, after @ ..] = rest {
+            let answer = f(value)?;
+            out.until(next.0, answer)?;
+            value = &next.1;
+            rest = after;
+        }
+        let last = f(value)?;
+        out.until(DAYS, last)?;
+        Ok(out.finish())
     }
 }

@@ -7,10 +7,17 @@ use opa_io::NoMemory;
 use std::alloc::Global;
 use std::marker::Model;
 
-/// A value at each day of the calendar.
+/// The pairs of a line: one lies in the line itself, more lie in a vector.
+#[derive(Debug, Drop)]
+pub(crate) enum Held<T> {
+    One([(u32, T); 1]),
+    Many(Vec<(u32, T)>),
+}
+
+/// A value at each day of the calendar. A line of one pair takes no memory of its own.
 #[derive(Debug, Drop)]
 pub struct Line<T> {
-    pub(crate) pairs: Vec<(u32, T)>,
+    pub(crate) held: Held<T>,
 }
 
 impl<T> Model for Line<T> {
@@ -18,14 +25,15 @@ impl<T> Model for Line<T> {
     ghost use Rattle.std.specs.Coded.{coded_list, coded×, coded_ℕ};
     ghost use Rattle.opa_date.specs.declared.TheConstants.{DAYS};
     ghost use Rattle.opa_line.specs.Lines.{IsLine};
+    ghost use Rattle.opa_line.specs.Holding.{pairs_held};
 
     ghost Value = { List (ℕ × T) };
 
     ghost coded = { coded_list (coded× coded_ℕ T.code) };
 
-    ghost view = { λ l. l.pairs.items };
+    ghost view = { λ l. pairs_held l.held };
 
-    ghost invariant = { λ l. IsLine DAYS l.pairs.items };
+    ghost invariant = { λ l. IsLine DAYS (pairs_held l.held) };
 }
 
 impl<T> Line<T> {
@@ -36,9 +44,9 @@ impl<T> Line<T> {
         ensures pair { IfOk result (λ l. l ≡ (0, value) ∷ []) }
         ensures everywhere { IfOk result (StandsFor DAYS (λ _. value)) }
     {
-        let mut pairs = Vec::new(alloc);
-        pairs.push((0, value))?;
-        Ok(Line { pairs })
+        Ok(Line {
+            held: Held::One([(0, value)]),
+        })
     }
 
     /// The pairs.
@@ -46,7 +54,10 @@ impl<T> Line<T> {
         ensures value { result.now ≡ self.now }
         ensures form { IsLine DAYS self.now }
     {
-        self.pairs.as_slice()
+        match &self.held {
+            Held::One(pair) => pair,
+            Held::Many(pairs) => pairs.as_slice(),
+        }
     }
 
     /// The value at a day.
@@ -55,6 +66,9 @@ impl<T> Line<T> {
         ensures { at self.now day ≡ Some result.now }
     {
         let pairs = self.segments();
+        if pairs.len() == 1 {
+            return &pairs[0].1;
+        }
         let reached = pairs.partition_point(|pair| pair.0 <= day);
         &pairs[reached - 1].1
     }

@@ -8,10 +8,6 @@ use Rattle.opa_listen.specs.declared.change.Change.{Change}
 use Rattle.opa_listen.specs.Listening.{ListenerView, is_watched}
 use Rattle.opa_listen.specs.Telling.{HasRoomOf, keeping, CanKeep, EachKeeps}
 
-pub none_left : {X : Type 0} (xs : List X) → length xs ≡ 0 → xs ≡ []
-none_left [] e = refl
-none_left (x ∷ xs) e = absurd (omega (arith, e))
-
 -- ---- one listener
 
 pub room_itself : (v : ListenerView) → HasRoomOf v v

@@ -4,6 +4,7 @@ use Rattle.std.specs.List.{All, AllZip, AllByRecursion}
 use Rattle.std.proofs.lemmas.List.{take_more, take_more_set, take_all, map-append, length-map}
 use Rattle.std.proofs.lemmas.Slice.Zip.{AllZip-long}
 use Rattle.std.proofs.lemmas.List.Elements.{All-head, All-rest, All-from_recursion, filter-append}
+use Rattle.opa_io.proofs.Lists.{each_push}
 use Rattle.opa_model.specs.declared.ids.AttrId.{AttrId}
 use Rattle.opa_listen.specs.declared.change.Change.{Change}
 use Rattle.opa_listen.specs.Listening.{ListenerView, is_watched, watched_of}
@@ -34,10 +35,6 @@ pub ready_can_keep : (changes : List Change) (v : ListenerView) → IsReady chan
 ready_can_keep changes v h = record { room = h; watched = All-from_recursion (λ (c : Change). is_watched v.watched c.attr ≡ true) (watched_of v.watched changes) (watched_each v.watched changes) }
 
 -- ---- each in turn
-
-all_push : {X : Type 0} (P : X → Type 0) (xs : List X) (y : X) → AllByRecursion P xs → P y → AllByRecursion P (xs ++ y ∷ [])
-all_push P [] y h p = (p, tt)
-all_push P (x ∷ xs) y h p = (h.0, all_push P xs y h.1 p)
 
 room_trans : (u v w : ListenerView) → HasRoomOf u v → HasRoomOf v w → HasRoomOf u w
 room_trans u v w h k = record {
@@ -77,7 +74,7 @@ module _ {X : Type 0} (view : X → ListenerView) where
   readied_more changes start now place x y h l e k r =
       let within : place < length now = omega (arith, l, readied_within changes start now place h) in
       record {
-        ready = subst (AllByRecursion (IsReady changes)) (sym (ap (map view) (take_more_set now place y within) ∙ map-append view (take place now) (y ∷ []))) (all_push (IsReady changes) (map view (take place now)) (view y) h.ready r);
+        ready = subst (AllByRecursion (IsReady changes)) (sym (ap (map view) (take_more_set now place y within) ∙ map-append view (take place now) (y ∷ []))) (each_push (IsReady changes) (map view (take place now)) (view y) h.ready r);
         same = readied_err changes start now place x y h e k;
       }
 

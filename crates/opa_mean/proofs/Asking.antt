@@ -21,10 +21,9 @@ use Rattle.opa_tree.specs.declared.expr.Expr.{Expr}
 use Rattle.opa_tree.specs.declared.expr.Row.{Row}
 use Rattle.opa_tree.specs.declared.expr.Expr.TheOpen.{Expr-F, Const, Attr, All, Any, Not, Op, Certain, Known, Over, Window, Rolling, Table}
 use Rattle.opa_tree.proofs.Induction.{by_parts, Part, RowPart, without}
-use Rattle.opa_tree.specs.declared.expr.Expr.TheViews.{roll-Expr}
-use Rattle.opa_tree.specs.declared.expr.Expr.TheFolds.{map-Expr, fold-roll-Expr}
-use Rattle.opa_tree.specs.Trees.{form_step, form_row, has_form}
-use Rattle.opa_tree.proofs.FormLaws.{row_has_form, form-of_row}
+use Rattle.opa_tree.specs.declared.expr.Expr.TheFolds.{map-Expr}
+use Rattle.opa_tree.specs.Trees.{form_step, has_form}
+use Rattle.opa_tree.proofs.FormLaws.{row_has_form, form-of_row, form-roll}
 use Rattle.opa_window.specs.Days.{days, over_days}
 use Rattle.opa_window.specs.Folds.{sum_value, greatest, least, run_value}
 use Rattle.opa_window.specs.Windows.{on_date, on_dates, in_window}
@@ -45,10 +44,6 @@ module _ {X : Type 0} where
   right_none : (xs ys : List X) → xs ++ ys ≡ [] → ys ≡ []
   right_none [] ys e = e
   right_none (x ∷ xs) ys e = absurd (cc e)
-
-form-roll : (x : Expr-F Expr Row) → has_form (roll-Expr x) ≡ form_step (map-Expr Expr Row (Bool → Bool) (Bool → Bool) has_form row_has_form x)
-unfolding has_form row_has_form
-form-roll = fold-roll-Expr (Bool → Bool) (Bool → Bool) form_step form_row
 
 -- one of the things is unknown, so that one of them has a need
 one_of : {X : Type 0} (f : X → Value) (u : X → List Use) → ((x : X) → f x ≡ Unknown → u x ≡ [] → ⊥) → (xs : List X) → HasUnknown (map f xs) → flat_map u xs ≡ [] → ⊥

@@ -3,7 +3,7 @@ use Rattle.std.proofs.Common.{◌≡◌, ◌≢◌, ◌⊎◌, inl, inr, ℕ, ze
 use Rattle.std.specs.Prelude.{find, ◌||◌, ◌&&◌}
 use Rattle.std.specs.List.{list_any}
 use Rattle.std.specs.Option.{option_map}
-use Rattle.std.proofs.lemmas.Bool.{cases_lt}
+use Rattle.std.proofs.lemmas.Bool.{cases_lt, not-true, not-false, or_right, or_left}
 use Rattle.opa_date.specs.declared.TheConstants.{DAYS}
 use Rattle.opa_value.specs.declared.value.Value.{Value}
 use Rattle.opa_value.specs.declared.value.Value.TheVariants.{Unknown}
@@ -14,7 +14,6 @@ use Rattle.opa_cells.specs.Instances.{is_same}
 use Rattle.opa_cells.specs.declared.instance.InstanceId.{InstanceId}
 use Rattle.opa_cells.proofs.Orders.{same_itself}
 use Rattle.opa_case.specs.Cases.{CaseView}
-use Rattle.opa_case.proofs.Lively.{or_left, or_right}
 use Rattle.opa_case.specs.declared.question.Question.{Question}
 use Rattle.opa_case.specs.declared.question.Question.TheVariants as question
 use Rattle.opa_tree.specs.declared.rulebase.Rulebase.{Rulebase}
@@ -75,22 +74,14 @@ found_first p s n d le lt passes none = go (find p (days s n)) refl
 abbrev differ : (ℕ → Value) → (ℕ → Value) → ℕ → Bool
 differ f g d = not (same_value (f d) (g d))
 
-not_true : (b : Bool) → not b ≡ true → b ≡ false
-not_true true h = absurd (cc h)
-not_true false h = refl
-
-not_false : (b : Bool) → not b ≡ false → b ≡ true
-not_false true h = refl
-not_false false h = absurd (cc h)
-
 pub difference_found : (end : ℕ) (f g : ℕ → Value) (d : ℕ) → first_difference end f g ≡ Some d → (d < end) × (f d ≢ g d) × ((e : ℕ) → e < d → f e ≡ g e)
 unfolding first_difference
 difference_found end f g d h =
     let r = first_found (differ f g) 0 end d h in
     let lt = r.1 in (
       omega (arith, lt),
-      λ same. cc (not_true (same_value (f d) (g d)) r.2, (sameness_is_exact.values (f d) (g d)).1 same),
-      λ e before. value_exact (f e) (g e) (not_false (same_value (f e) (g e)) (r.3 e (omega arith) before)),
+      λ same. cc (not-true (same_value (f d) (g d)) r.2, (sameness_is_exact.values (f d) (g d)).1 same),
+      λ e before. value_exact (f e) (g e) (not-false (same_value (f e) (g e)) (r.3 e (omega arith) before)),
     )
 
 pub found_difference : (end : ℕ) (f g : ℕ → Value) (d : ℕ) → d < end → f d ≢ g d → ((e : ℕ) → e < d → f e ≡ g e) → first_difference end f g ≡ Some d
@@ -101,7 +92,7 @@ found_difference end f g d lt apart same = found_first (differ f g) 0 end d (ome
     go true e = absurd (apart (value_exact (f d) (g d) e))
     go false e = ap not e
 
-no_difference : (end : ℕ) (f : ℕ → Value) → first_difference end f f ≡ None
+pub no_difference : (end : ℕ) (f : ℕ → Value) → first_difference end f f ≡ None
 no_difference end f = go (first_difference end f f) refl
   where
     go : (o : Option ℕ) → first_difference end f f ≡ o → first_difference end f f ≡ None

@@ -1,8 +1,9 @@
 -- A slot that isn't dirty keeps its line.
-use Rattle.std.proofs.Common.{◌≡◌, ◌⊎◌, inl, inr, ℕ, zero, suc, ◌+◌, ◌<◌, ◌≤◌, List, [], ◌∷◌, Bool, true, false, cond, not, is_some, Option, None, Some, Contains, refl, sym, ◌∙◌, ap, subst, arith}
+use Rattle.std.proofs.Common.{◌≡◌, ◌⊎◌, inl, inr, ℕ, zero, suc, ◌+◌, ◌<◌, ◌≤◌, List, [], ◌∷◌, Bool, true, false, cond, not, None, Some, Contains, refl, sym, ◌∙◌, ap, subst, arith}
 use Rattle.std.specs.Prelude.{find, ◌||◌}
 use Rattle.std.specs.List.{list_any, AllByRecursion}
-use Rattle.std.proofs.lemmas.Bool.{and_parts, cases_lt}
+use Rattle.std.proofs.lemmas.Bool.{and_parts, cases_lt, or_parts, not-false}
+use Rattle.opa_io.proofs.Options.{none_is}
 use Rattle.opa_date.specs.declared.TheConstants.{DAYS}
 use Rattle.opa_value.specs.declared.value.Value.{Value}
 use Rattle.opa_model.specs.declared.ids.AttrId.{AttrId}
@@ -43,19 +44,7 @@ same_where_none end f g e d lt = value_exact (f d) (g d) (back (same_value (f d)
     back true h = refl
     back false h = absurd (cc h)
 
-none_is : {X : Type 0} (o : Option X) → is_some o ≡ false → o ≡ None
-none_is None h = refl
-none_is (Some x) h = absurd (cc h)
-
-or_parts : (a b : Bool) → (a || b) ≡ false → (a ≡ false) × (b ≡ false)
-or_parts true b h = absurd (cc h)
-or_parts false b h = (refl, h)
-
-not_false : (b : Bool) → not b ≡ false → b ≡ true
-not_false true h = refl
-not_false false h = absurd (cc h)
-
-any_same : (i : InstanceId) (is : List InstanceId) → list_any (is_same i) is ≡ true → Contains is i
+pub any_same : (i : InstanceId) (is : List InstanceId) → list_any (is_same i) is ≡ true → Contains is i
 any_same i [] h = absurd (cc h)
 any_same i (j ∷ is) h = go (is_same i j) refl (any_same i is)
   where
@@ -66,7 +55,7 @@ any_same i (j ∷ is) h = go (is_same i j) refl (any_same i is)
 module _ (b : Base) (c c' : Facts) where
   same_read : (q : Question) → differs b c c' q ≡ false → SameRead b c c' q
   same_read (question.Attr a i) h = λ d lt. same_where_none DAYS (mean b c a i) (mean b c' a i) (none_is (first_difference DAYS (mean b c a i) (mean b c' a i)) h) d lt
-  same_read (question.Members r i) h = names_exact (c.members r i) (c'.members r i) (not_false (same_names (c.members r i) (c'.members r i)) h)
+  same_read (question.Members r i) h = names_exact (c.members r i) (c'.members r i) (not-false (same_names (c.members r i) (c'.members r i)) h)
 
   same_reads : (qs : List Question) → list_any (differs b c c') qs ≡ false → AllByRecursion (SameRead b c c') qs
   same_reads [] h = tt
@@ -75,6 +64,6 @@ module _ (b : Base) (c c' : Facts) where
   pub clean_stays : IsBase b → AreFacts b.shape c → AreFacts b.shape c' → (a : AttrId) (i : InstanceId) (rule : Rule) → rule_of b.rules a ≡ Some rule → IsLive c' i → is_dirty b c c' a i ≡ false → (d : ℕ) → d < DAYS → mean b c a i d ≡ mean b c' a i d
   clean_stays is are are' a i rule e live' clean =
       let one = or_parts _ _ clean in let two = or_parts _ _ one.1 in
-      let kept = and_parts _ _ (not_false _ one.0) in
-      let same : reads_of b c a i ≡ reads_of b c' a i = lists_exact same_question question_exact (reads_of b c a i) (reads_of b c' a i) (not_false _ two.0) in
+      let kept = and_parts _ _ (not-false _ one.0) in
+      let same : reads_of b c a i ≡ reads_of b c' a i = lists_exact same_question question_exact (reads_of b c a i) (reads_of b c' a i) (not-false _ two.0) in
       reads_fix_holds b c c' is are are' a i rule e (any_same i c.instances kept.0) live' same (subst (AllByRecursion (SameRead b c c')) (sym same) (same_reads (reads_of b c' a i) two.1))

@@ -1,7 +1,7 @@
 -- What a point rests on lies at live instances.
 use Rattle.std.proofs.Common.{◌≡◌, ℕ, true, ◌==◌, List, [], ◌∷◌, Option, None, Some, Contains, refl}
 use Rattle.std.specs.List.{AllByRecursion}
-use Rattle.std.proofs.lemmas.Bool.{and_parts, eq-eqb}
+use Rattle.std.proofs.lemmas.Bool.{and_parts, eq-eqb, and_from}
 use Rattle.opa_model.specs.declared.ids.AttrId.{AttrId}
 use Rattle.opa_model.specs.declared.ids.RelId.{RelId}
 use Rattle.opa_cells.specs.Instances.{named}
@@ -30,7 +30,6 @@ use Rattle.opa_mean.proofs.Determining.{mentioned_in}
 use Rattle.opa_mean.proofs.Fitting.{live_in, in_live}
 use Rattle.opa_mean.proofs.LawsOver.{base, facts}
 use Rattle.opa_mean.proofs.Lying.{Lies, uses_lie}
-use Rattle.opa_mean.proofs.SameBoth.{both_true}
 
 module _ (r : Rulebase) (c : CaseView) (is : IsOf r c) where
   abbrev Live : InstanceId → Type 0
@@ -47,10 +46,10 @@ module _ (r : Rulebase) (c : CaseView) (is : IsOf r c) where
 
   placed : (a : AttrId) (rule : Rule) → rule_of r.rules a ≡ Some rule → (u : Use) → Lies (shape_of r.model) fresh Live places listed (mentioned rule.expr) u → IsPlaced r c u × IsLower r a u
   placed a rule e (Point m i d) h = (
-    both_true (is_live c.live i) (i.entity.0 == owner_of (shape_of r.model) m) (in_live c i h.1.0) (eq-eqb i.entity.0 (owner_of (shape_of r.model) m) h.1.1),
+    and_from (is_live c.live i) (i.entity.0 == owner_of (shape_of r.model) m) (in_live c i h.1.0) (eq-eqb i.entity.0 (owner_of (shape_of r.model) m) h.1.1),
     (base r c is).falls a m (mentioned_in r.rules a rule e m h.0),
   )
-  placed a rule e (Listed q i) h = (both_true (is_live c.live i) (i.entity.0 == (shape_of r.model).source q) (in_live c i h.0) (eq-eqb i.entity.0 ((shape_of r.model).source q) h.1), tt)
+  placed a rule e (Listed q i) h = (and_from (is_live c.live i) (i.entity.0 == (shape_of r.model).source q) (in_live c i h.0) (eq-eqb i.entity.0 ((shape_of r.model).source q) h.1), tt)
 
   used_placed : (a : AttrId) (i : InstanceId) (d : ℕ) (u : Use) → IsLive c i → Contains (uses_of (base_of r) (facts_of c) (Point a i d)) u → IsPlaced r c u × IsLower r a u
   used_placed a i d u live h = go (rule_of r.rules a) refl h

@@ -25,10 +25,6 @@ module _ {X : Type 0} (P : X → Type 0) where
       at (inl e) rest = subst P e h.0
       at (inr in_rest) rest = rest in_rest
 
-pub all_weaker : {X : Type 0} (P Q : X → Type 0) → ((x : X) → P x → Q x) → (xs : List X) → AllByRecursion P xs → AllByRecursion Q xs
-all_weaker P Q f [] h = tt
-all_weaker P Q f (x ∷ xs) h = (f x h.0, all_weaker P Q f xs h.1)
-
 pub in_map : {X Y : Type 0} (f : X → Y) (xs : List X) (x : X) → Contains xs x → Contains (map f xs) (f x)
 in_map f [] x h = absurd (none_in x h)
 in_map f (y ∷ xs) x h = at (contains_cases y x xs h) (in_map f xs x)

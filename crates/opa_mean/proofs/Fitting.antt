@@ -4,7 +4,8 @@ use Rattle.std.specs.Prelude.{map, nat_lt, ◌||◌, ◌&&◌}
 use Rattle.std.specs.List.{list_any, list_all, AllByRecursion}
 use Rattle.std.specs.Option.{option_map, option_or}
 use Rattle.std.specs.FinMap.{get}
-use Rattle.std.proofs.lemmas.Bool.{and_parts, lt-ltb}
+use Rattle.std.proofs.lemmas.Bool.{and_parts, lt-ltb, or_right, or_left}
+use Rattle.opa_io.proofs.Lists.{each_weaker}
 use Rattle.opa_model.specs.declared.ids.RelId.{RelId}
 use Rattle.opa_cells.specs.declared.instance.InstanceId.{InstanceId}
 use Rattle.opa_cells.specs.Instances.{is_same, is_text, global, named}
@@ -13,10 +14,9 @@ use Rattle.opa_case.specs.Cases.{CaseView, stored, list_of}
 use Rattle.opa_case.specs.Fits.{Fits}
 use Rattle.opa_case.specs.Live.{Names, Population, live_of, is_live, container_of, walk}
 use Rattle.opa_case.specs.Shapes.{Shape, IsShape}
-use Rattle.opa_case.proofs.Lively.{or_left, or_right}
 use Rattle.opa_case.proofs.Losing.{every_at, get-every, is_every}
-use Rattle.opa_case.proofs.Stands.{either_has, container_found, in_upto, has_live, lookup_found, text_itself}
-use Rattle.opa_case.proofs.Walks.{walk_live, same_walk}
+use Rattle.opa_case.proofs.Stands.{either_has, container_found, in_upto, has_live, lookup_found}
+use Rattle.opa_case.proofs.Walks.{walk_live, same_walk, each_listed}
 use Rattle.opa_tree.proofs.Members.{none_in, contains_head, contains_tail, contains_cases}
 use Rattle.opa_mean.specs.Completion.{IsContained, AreFacts}
 use Rattle.opa_mean.specs.Given.{facts_of}
@@ -55,17 +55,6 @@ in_live c i h = go (contains_cases global i (map (λ (p : InstanceId × Instance
 all_tested : (p : List ℕ → Bool) (names : Names) → list_all p names ≡ true → AllByRecursion (λ n. p n ≡ true) names
 all_tested p [] h = tt
 all_tested p (n ∷ names) h = let both = and_parts _ _ h in (both.0, all_tested p names both.1)
-
-all_named : (names : Names) → AllByRecursion (λ n. list_any (is_text n) names ≡ true) names
-all_named names = go names names (λ n h. h)
-  where
-    go : (some whole : Names) → ((n : List ℕ) → list_any (is_text n) some ≡ true → list_any (is_text n) whole ≡ true) → AllByRecursion (λ n. list_any (is_text n) whole ≡ true) some
-    go [] whole h = tt
-    go (n ∷ some) whole h = (h n (or_left (is_text n n) (list_any (is_text n) some) (text_itself n)), go some whole (λ m k. h m (or_right (is_text m n) (list_any (is_text m) some) k)))
-
-weaken : {X : Type 0} (P Q : X → Type 0) → ((x : X) → P x → Q x) → (xs : List X) → AllByRecursion P xs → AllByRecursion Q xs
-weaken P Q f [] h = tt
-weaken P Q f (x ∷ xs) h = (f x h.0, weaken P Q f xs h.1)
 
 module _ (s : Shape) (shape : IsShape s) (declared : (r : RelId) → s.every r ≡ true → r.0 < s.relations) (ruled : List Bool) (c : CaseView) (fits : Fits s ruled c) where
   abbrev Alive : InstanceId → Type 0
@@ -115,8 +104,8 @@ module _ (s : Shape) (shape : IsShape s) (declared : (r : RelId) → s.every r �
       go true e =
           let own = shape.no_other r e in let bounds = shape.target_in r e in
           let at : i.entity.0 ≡ s.parent (s.target r) = fits.sound.source r i names g ∙ ap s.source own ∙ shape.source (s.target r) bounds.0 bounds.1 in
-          weaken (λ n. list_any (is_text n) names ≡ true) (λ n. Alive (named (s.target r) n))
-          (λ n h. from_lists (named (s.target r) n) (has_live s (stored c.lists) shape (s.target r) n i names bounds.0 bounds.1 (by_lists i (fits.listed r i names g)) at (ap (λ q. stored c.lists q i) (sym own) ∙ g) h)) names (all_named names)
+          each_weaker (λ n. list_any (is_text n) names ≡ true) (λ n. Alive (named (s.target r) n))
+          (λ n h. from_lists (named (s.target r) n) (has_live s (stored c.lists) shape (s.target r) n i names bounds.0 bounds.1 (by_lists i (fits.listed r i names g)) at (ap (λ q. stored c.lists q i) (sym own) ∙ g) h)) names (each_listed names)
 
   -- a list of all instances has what the Walk has
   abbrev walked : RelId → Option (List InstanceId)
@@ -189,6 +178,6 @@ module _ (s : Shape) (shape : IsShape s) (declared : (r : RelId) → s.every r �
     only_global = λ i live e. only_global i (in_live c i live) e;
     uncontained = uncontained;
     contained = λ i live pos. contained i (in_live c i live) pos;
-    listed = λ r i names h. weaken (λ n. Alive (named (s.target r) n)) (λ n. Contains (facts_of c).instances (named (s.target r) n)) (λ n k. live_in c (named (s.target r) n) k) names (listed r i names h);
+    listed = λ r i names h. each_weaker (λ n. Alive (named (s.target r) n)) (λ n. Contains (facts_of c).instances (named (s.target r) n)) (λ n k. live_in c (named (s.target r) n) k) names (listed r i names h);
     every = every;
   }

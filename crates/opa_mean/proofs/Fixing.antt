@@ -2,6 +2,7 @@
 use Rattle.std.proofs.Common.{◌≡◌, ℕ, List, [], ◌∷◌, ◌++◌, Bool, true, false, cond, Option, None, Some, refl, sym, ◌∙◌, ap, subst}
 use Rattle.std.specs.Prelude.{map, find, flat_map, pos, ◌||◌}
 use Rattle.std.specs.List.{list_any, AllByRecursion}
+use Rattle.opa_io.proofs.Bools.{or_true}
 use Rattle.opa_value.specs.declared.value.Value.TheVariants.{Bool as Truth, Num}
 use Rattle.opa_value.specs.Truth.{is_true, is_false, all_of, any_of, not_of, strict, unless_open}
 use Rattle.opa_value.specs.declared.value.Value.{Value}
@@ -30,10 +31,6 @@ use Rattle.opa_mean.proofs.Everywhere.{all_parts}
 use Rattle.opa_mean.proofs.Resting.{all_same, chosen, tested, at_date_same, in_window_same, rolling_same}
 use Rattle.opa_mean.proofs.UseLaws.{row_uses, uses-roll, row_uses-is}
 use Rattle.opa_mean.proofs.Levels.{row_value, value-roll, row_value-is}
-
-or_true : (b : Bool) → (b || true) ≡ true
-or_true true = refl
-or_true false = refl
 
 -- what is fixed at instances that pass `Live`, where the enclosing instances pass `Within`
 module _ (s : Shape) (l l' : Look) (Within Live : InstanceId → Type 0)

@@ -3,6 +3,7 @@ use Rattle.std.proofs.Common.{◌≡◌, ℕ, Bool, true, false, ℤ, pos, neg_�
 use Rattle.std.proofs.Math.IntN.{+ℤ_assoc, +ℤ_idl}
 use Rattle.std.proofs.Math.Nat.{add-mul}
 use Rattle.std.proofs.Math.Seq.{drop-cons}
+use Rattle.opa_io.proofs.Numbers.{sum_above, sum_below}
 use Rattle.opa_value.specs.declared.value.Value.{Value}
 use Rattle.opa_value.specs.Truth.{is_true}
 use Rattle.opa_window.specs.Folds.{count_of, total, true_ahead, longest}
@@ -17,12 +18,6 @@ pub record Summing (whole rest : List Value) (sum : ℤ) : Type 0 where
   pub whole_sum : sum +ℤ total rest ≡ total whole
   pub below : neg_ℤ (pos ((length whole - length rest) * 10 ^ 17)) ≤ℤ sum
   pub above : sum ≤ℤ pos ((length whole - length rest) * 10 ^ 17)
-
-lower : (a b : ℕ) (x y : ℤ) → (neg_ℤ (pos a) ≤ℤ x) → (neg_ℤ (pos b) ≤ℤ y) → (neg_ℤ (pos (a + b)) ≤ℤ (x +ℤ y))
-lower a b x y h k = grind (arith, h, k)
-
-upper : (a b : ℕ) (x y : ℤ) → (x ≤ℤ pos a) → (y ≤ℤ pos b) → ((x +ℤ y) ≤ℤ pos (a + b))
-upper a b x y h k = grind (arith, h, k)
 
 pub sum_start : (whole : List Value) → Summing whole whole (pos 0)
 sum_start whole = let e : length whole - length whole ≡ 0 = omega arith in record {
@@ -45,8 +40,8 @@ sum_step whole rs new v sum more sum' is s value lo hi next =
     record {
       fewer = omega (arith, f);
       whole_sum = ap (λ z. z +ℤ total new) (next ∙ ap (λ z. sum +ℤ z) value) ∙ +ℤ_assoc sum (count_of v) (total new) ∙ t;
-      below = rw (← k) (rw next (lower ((length whole - (length new + 1)) * 10 ^ 17) (1 * 10 ^ 17) sum more below lo));
-      above = rw (← k) (rw next (upper ((length whole - (length new + 1)) * 10 ^ 17) (1 * 10 ^ 17) sum more above hi));
+      below = rw (← k) (rw next (sum_above ((length whole - (length new + 1)) * 10 ^ 17) (1 * 10 ^ 17) sum more below lo));
+      above = rw (← k) (rw next (sum_below ((length whole - (length new + 1)) * 10 ^ 17) (1 * 10 ^ 17) sum more above hi));
     }
 
 -- the run ahead and the longest, from a place on

@@ -4,6 +4,7 @@ use Rattle.std.specs.Prelude.{map, flat_map, nat_lt, ◌&&◌, ◌+◌, ◌-◌}
 use Rattle.std.specs.List.{list_any, AllZip, AllByRecursion}
 use Rattle.std.proofs.lemmas.Bool.{and_parts}
 use Rattle.std.proofs.lemmas.List.Elements.{length_all_zip}
+use Rattle.opa_io.proofs.Lists.{each_weaker}
 use Rattle.opa_date.specs.declared.TheConstants.{DAYS}
 use Rattle.opa_value.specs.declared.value.Value.TheVariants.{Unknown, Uncertain, Bool as Truth, Num, Words, Day}
 use Rattle.opa_value.specs.Below.{IsBelow}
@@ -35,7 +36,7 @@ use Rattle.opa_mean.specs.Meaning.{Meaning, RowMeaning, tree_step, value, each, 
 use Rattle.opa_mean.specs.Operations.{op_of}
 use Rattle.opa_mean.specs.Places.{owner_of, place, chain}
 use Rattle.opa_mean.proofs.Chains.{chain_same, place_live as at_live, places_same}
-use Rattle.opa_mean.proofs.Everywhere.{all_weaker, all_parts}
+use Rattle.opa_mean.proofs.Everywhere.{all_parts}
 use Rattle.opa_mean.proofs.Freedom.{Good, good_parts, good_rows, GoodRow}
 use Rattle.opa_mean.proofs.Levels.{row_value, row_free, row_mentions, value-roll, free-roll, mentioned-roll, row_value-is}
 
@@ -124,7 +125,7 @@ module _ (s : Shape) (Live : InstanceId → Type 0) (Ok : AttrId → Type 0) (l 
   AllLive is = AllByRecursion Live is
 
   pub place_same : (enclosing : List InstanceId) → AllLive enclosing → (e : ℕ) → place l'.container enclosing e ≡ place l.container enclosing e
-  place_same enclosing live e = places_same l.container l'.container enclosing (all_weaker Live (λ i. chain l'.container i ≡ chain l.container i) (chain_same l.container Live c.above l'.container c.container) enclosing live) e
+  place_same enclosing live e = places_same l.container l'.container enclosing (each_weaker Live (λ i. chain l'.container i ≡ chain l.container i) (chain_same l.container Live c.above l'.container c.container) enclosing live) e
 
   pub place_live : (enclosing : List InstanceId) → AllLive enclosing → (e : ℕ) (i : InstanceId) → place l.container enclosing e ≡ Some i → Live i
   place_live = at_live l.container Live c.above

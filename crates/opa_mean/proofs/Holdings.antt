@@ -5,6 +5,7 @@ use Rattle.std.specs.List.{AllByRecursion}
 use Rattle.std.specs.Option.{option_copied}
 use Rattle.std.specs.FinMap.{get}
 use Rattle.std.proofs.lemmas.Bool.{eq-eqb}
+use Rattle.opa_io.proofs.Lists.{each_weaker}
 use Rattle.opa_date.specs.declared.TheConstants.{DAYS}
 use Rattle.opa_value.specs.declared.value.Value.{Value}
 use Rattle.opa_value.specs.declared.value.Value.TheVariants.{Unknown}
@@ -29,7 +30,7 @@ use Rattle.opa_mean.specs.Rulebases.{IsOf, value_at}
 use Rattle.opa_mean.proofs.Chains.{place_live}
 use Rattle.opa_mean.proofs.Completing.{above_live}
 use Rattle.opa_mean.proofs.Determining.{determined}
-use Rattle.opa_mean.proofs.Everywhere.{all_weaker, all_of_each}
+use Rattle.opa_mean.proofs.Everywhere.{all_of_each}
 use Rattle.opa_mean.proofs.Fitting.{live_in, in_live}
 use Rattle.opa_mean.proofs.LawsOver.{base, facts}
 use Rattle.opa_mean.proofs.Reading.{reads_fix, Alike}
@@ -72,7 +73,7 @@ module _ (r : Rulebase) (c : CaseView) (is : IsOf r c) where
   pub over_held : (e : Expr) (enclosing : List InstanceId) → AllByRecursion (IsLive c) enclosing → (d : ℕ) → d < DAYS → value (shape_of r.model) (held_look r c) e enclosing d ≡ value (shape_of r.model) (look_of (facts_of c) (mean (base_of r) (facts_of c))) e enclosing d
   over_held e enclosing lives d lt =
       reads_fix (shape_of r.model) (held_look r c) (look_of (facts_of c) (mean (base_of r) (facts_of c))) Live Live (λ enclosing w e. refl) live (λ k i names _ e e'. (facts r c is).listed k i names e) e enclosing
-      (all_weaker (IsLive c) Live (λ i h. live_in c i h) enclosing lives) refl
+      (each_weaker (IsLive c) Live (λ i h. live_in c i h) enclosing lives) refl
       (all_of_each _ (reads (shape_of r.model) (facts_of c).members (facts_of c).container e enclosing) (λ q _. alike q)) d lt
 
 pub held_answer : {E : Type 0} (r : Rulebase) (c : CaseView) (e : Expr) (enclosing enclosing' : List InstanceId) (d : ℕ) (o : Result Value E) → IsOf r c → d < DAYS → AllByRecursion (IsLive c) enclosing → enclosing' ≡ enclosing

@@ -2,6 +2,7 @@
 use Rattle.std.proofs.Common.{◌≡◌, ℕ, ◌<◌, List, [], ◌∷◌, Some, sym, ◌∙◌, ap, subst}
 use Rattle.std.specs.Prelude.{is_some}
 use Rattle.std.specs.List.{AllByRecursion}
+use Rattle.opa_io.proofs.Lists.{each_weaker}
 use Rattle.opa_date.specs.declared.TheConstants.{DAYS}
 use Rattle.opa_model.specs.declared.ids.AttrId.{AttrId}
 use Rattle.opa_model.specs.declared.ids.RelId.{RelId}
@@ -23,7 +24,6 @@ use Rattle.opa_mean.proofs.Chains.{places_same, place_live}
 use Rattle.opa_mean.proofs.Completing.{known_stays, above_live}
 use Rattle.opa_mean.proofs.Deciding.{unknown_has_need, only_needs_decide}
 use Rattle.opa_mean.proofs.Determining.{determined}
-use Rattle.opa_mean.proofs.Everywhere.{all_weaker}
 use Rattle.opa_mean.proofs.Fixing.{value_fixed, Agrees}
 use Rattle.opa_mean.proofs.Lineages.{same_lineage}
 use Rattle.opa_mean.proofs.Reading.{reads_fix, Alike, lineage, both_met}
@@ -47,7 +47,7 @@ relevant_holds b c c' is are are' more a i d free live un open_ = only_needs_dec
 pub uses_fix_holds : UsesFix
 uses_fix_holds s l l' e enclosing d chains same =
     value_fixed s l l' (λ i. chain l'.container i ≡ chain l.container i) (λ i. Unit {0}) (λ enclosing w e. places_same l.container l'.container enclosing w e) (λ enclosing w e i is. tt) e enclosing chains d
-    (all_weaker (SameUse s l l') _ told (uses s l e enclosing d) same)
+    (each_weaker (SameUse s l l') _ told (uses s l e enclosing d) same)
   where
     told : (u : Use) → SameUse s l l' u → Agrees s l l' (λ i. chain l'.container i ≡ chain l.container i) (λ i. Unit {0}) (λ enclosing w e. places_same l.container l'.container enclosing w e) (λ enclosing w e i is. tt) u
     told (Point a i d) h = λ _. h
@@ -59,10 +59,10 @@ module _ (b : Base) (c c' : Facts) (is : IsBase b) (are : AreFacts b.shape c) (a
   Both i = IsLive c i × IsLive c' i
 
   met : (enclosing : List InstanceId) → AllByRecursion Both enclosing → (e : ℕ) → is_some (place c.container enclosing e) ≡ is_some (place c'.container enclosing e)
-  met enclosing w e = both_met c.container c'.container enclosing (all_weaker Both (λ i. lineage c'.container i ≡ lineage c.container i) (λ i h. same_lineage b.shape c c' are are' i h.0 h.1) enclosing w) e
+  met enclosing w e = both_met c.container c'.container enclosing (each_weaker Both (λ i. lineage c'.container i ≡ lineage c.container i) (λ i h. same_lineage b.shape c c' are are' i h.0 h.1) enclosing w) e
 
   live : (enclosing : List InstanceId) → AllByRecursion Both enclosing → (e : ℕ) (i : InstanceId) → place c.container enclosing e ≡ Some i → IsLive c i
-  live enclosing w = place_live c.container (IsLive c) (above_live b.shape c are) enclosing (all_weaker Both (IsLive c) (λ i h. h.0) enclosing w)
+  live enclosing w = place_live c.container (IsLive c) (above_live b.shape c are) enclosing (each_weaker Both (IsLive c) (λ i h. h.0) enclosing w)
 
   listed_within : (r : RelId) (i : InstanceId) (names : List (List ℕ)) → IsLive c i → c.members r i ≡ Some names → c'.members r i ≡ Some names → AllByRecursion (λ n. Both (named (b.shape.target r) n)) names
   listed_within r i names _ e e' = both names (are.listed r i names e) (are'.listed r i names e')
@@ -79,7 +79,7 @@ module _ (b : Base) (c c' : Facts) (is : IsBase b) (are : AreFacts b.shape c) (a
       → reads b.shape c.members c.container rule.expr (i ∷ []) ≡ reads b.shape c'.members c'.container rule.expr (i ∷ []) → AllByRecursion (SameRead b c c') (reads b.shape c.members c.container rule.expr (i ∷ [])) → (d : ℕ) → d < DAYS → mean b c a i d ≡ mean b c' a i d
   line_fixed a i rule e lives lives' same h d lt =
       determined b c is.falls a i d ∙ ap (λ o. concluded o (c.answer a i d) (λ e. fitted b.shape a (value b.shape (look_of c (mean b c)) e (i ∷ []) d))) e
-      ∙ ap (fitted b.shape a) (reads_fix b.shape (look_of c (mean b c)) (look_of c' (mean b c')) Both (IsLive c) met live listed_within rule.expr (i ∷ []) ((lives, lives'), tt) same (all_weaker (SameRead b c c') _ read_as _ h) d lt)
+      ∙ ap (fitted b.shape a) (reads_fix b.shape (look_of c (mean b c)) (look_of c' (mean b c')) Both (IsLive c) met live listed_within rule.expr (i ∷ []) ((lives, lives'), tt) same (each_weaker (SameRead b c c') _ read_as _ h) d lt)
       ∙ sym (ap (λ o. concluded o (c'.answer a i d) (λ e. fitted b.shape a (value b.shape (look_of c' (mean b c')) e (i ∷ []) d))) e) ∙ sym (determined b c' is.falls a i d)
 
 pub reads_fix_holds : ReadsFix

@@ -43,3 +43,6 @@ pub mod Filtered
 pub mod HeldFresh
 pub mod SlotCounts
 pub mod ConeLying
+pub mod AttributeLists
+pub mod UsesAt
+pub mod Owned

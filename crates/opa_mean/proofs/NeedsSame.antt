@@ -2,6 +2,7 @@
 use Rattle.std.proofs.Common.{◌≡◌, ℕ, ◌-◌, ◌+◌, cond, List, [], ◌∷◌, ◌++◌, Option, None, Some, refl, sym, ◌∙◌, ap, subst}
 use Rattle.std.specs.Prelude.{map, flat_map, nat_lt, ◌&&◌, if◌then◌else◌}
 use Rattle.std.specs.List.{AllByRecursion}
+use Rattle.opa_io.proofs.Lists.{each_weaker}
 use Rattle.opa_date.specs.declared.TheConstants.{DAYS}
 use Rattle.opa_value.specs.declared.value.Value.{Value}
 use Rattle.opa_value.specs.declared.value.Value.TheVariants.{Day}
@@ -29,7 +30,7 @@ use Rattle.opa_mean.specs.Needs.{if_unknown, cond_needs, over_needs, needs}
 use Rattle.opa_mean.specs.Places.{owner_of, place}
 use Rattle.opa_mean.specs.Uses.{Use, Uses, at_place_uses, on_date_uses, in_window_uses}
 use Rattle.opa_mean.proofs.Agreeing.{value_same}
-use Rattle.opa_mean.proofs.Everywhere.{all_parts, all_weaker}
+use Rattle.opa_mean.proofs.Everywhere.{all_parts}
 use Rattle.opa_mean.proofs.Levels.{row_mentions, mentioned-roll, row_mentions-is}
 use Rattle.opa_mean.specs.PartNeeds.{open_needs, member_needs, span_needs, rows_needs}
 use Rattle.opa_mean.proofs.NeedsLaws.{needs-Const, needs-Attr, needs-All, needs-Any, needs-Not, needs-Op, needs-Certain, needs-Known, needs-Over, needs-Window, needs-Rolling, needs-Table}
@@ -88,7 +89,7 @@ module _ (s : Shape) (c : Facts) (f g : AttrId → InstanceId → ℕ → Value)
   Mentioned ps = AllAgree (flat_map (λ x. x) (map mentioned (map (λ p. p.0) ps)))
 
   valued : (e : Expr) → AllAgree (mentioned e) → (enclosing : List InstanceId) (d : ℕ) → value s l e enclosing d ≡ value s k e enclosing d
-  valued e h enclosing d = ap (λ m. m enclosing d) (value_same s l k refl refl e (all_weaker Agrees (λ a. f a ≡ g a) (λ a both. both.0) (mentioned e) h))
+  valued e h enclosing d = ap (λ m. m enclosing d) (value_same s l k refl refl e (each_weaker Agrees (λ a. f a ≡ g a) (λ a both. both.0) (mentioned e) h))
 
   own_same : (x : Part Same) → AllAgree (mentioned x.0) → (enclosing : List InstanceId) (d : ℕ) → our_own x.0 enclosing d ≡ their_own x.0 enclosing d
   own_same x h enclosing d = ap (λ v. if_unknown v (ours x.0 enclosing d)) (valued x.0 h enclosing d) ∙ ap (λ us. if_unknown (value s k x.0 enclosing d) us) (x.1 h enclosing d)

@@ -2,6 +2,7 @@
 use Rattle.std.proofs.Common.{◌≡◌, ◌≢◌, ℕ, zero, suc, ◌+◌, ◌<◌, List, [], ◌∷◌, Bool, true, false, cond, Option, None, Some, refl, sym, ◌∙◌, ap, arith}
 use Rattle.std.specs.Prelude.{find}
 use Rattle.std.specs.List.{AllByRecursion}
+use Rattle.opa_io.proofs.Numbers.{found_passes}
 use Rattle.opa_date.specs.declared.TheConstants.{DAYS}
 use Rattle.opa_value.specs.declared.value.Value.{Value}
 use Rattle.opa_value.specs.declared.value.Value.TheVariants.{Unknown}
@@ -18,14 +19,6 @@ use Rattle.opa_mean.specs.Uses.{Use}
 use Rattle.opa_mean.proofs.Cleaning.{none_of}
 use Rattle.opa_mean.proofs.Deciding.{unknown_has_need}
 use Rattle.opa_mean.proofs.Unknowns.{unknown_is}
-
-found_passes : (p : ℕ → Bool) (ds : List ℕ) (d : ℕ) → find p ds ≡ Some d → p d ≡ true
-found_passes p [] d e = absurd (cc e)
-found_passes p (k ∷ ds) d e = go (p k) refl (found_passes p ds d)
-  where
-    go : (b : Bool) → p k ≡ b → (find p ds ≡ Some d → p d ≡ true) → p d ≡ true
-    go true q rest = let same : k ≡ d = cc (e, ap (λ b. cond b (Some k) (find p ds)) q) in sym (ap p same) ∙ q
-    go false q rest = rest (sym (ap (λ b. cond b (Some k) (find p ds)) q) ∙ e)
 
 module _ (f : ℕ → Value) where
   known_where_none : (end : ℕ) → first_unknown end f ≡ None → (d : ℕ) → d < end → f d ≢ Unknown

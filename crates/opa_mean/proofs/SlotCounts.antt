@@ -2,6 +2,7 @@
 use Rattle.std.proofs.Common.{◌≡◌, ℕ, zero, suc, ◌+◌, ◌-◌, ◌<◌, Bool, true, false, cond, ◌==◌, List, [], ◌∷◌, ◌++◌, map, filter, flat_map, length, Contains, is_some, refl, sym, ◌∙◌, ap, subst, arith}
 use Rattle.std.specs.Prelude.{◌&&◌, nat_lt}
 use Rattle.std.proofs.lemmas.Bool.{eqb-true, ne_eqb, lt-ltb}
+use Rattle.opa_io.proofs.Lists.{length_map}
 use Rattle.opa_model.specs.declared.ids.AttrId.{AttrId}
 use Rattle.opa_cells.specs.declared.instance.InstanceId.{InstanceId}
 use Rattle.opa_cells.specs.Instances.{is_same, global}
@@ -10,7 +11,7 @@ use Rattle.opa_case.specs.Live.{Population, members, live_of}
 use Rattle.opa_case.specs.Shapes.{shape_of}
 use Rattle.opa_case.specs.Steps as step
 use Rattle.opa_case.proofs.Stands.{lookup_found, in_upto}
-use Rattle.opa_case.proofs.Weighing.{occurs, some_counted, weigh, weigh-append}
+use Rattle.opa_case.proofs.Weighing.{occurs, some_counted, weigh, weigh-append, weigh-filter}
 use Rattle.opa_tree.specs.declared.rulebase.Rulebase.{Rulebase}
 use Rattle.opa_tree.specs.Rules.{rule_of}
 use Rattle.opa_tree.specs.Trees.{highest}
@@ -65,18 +66,6 @@ length-flat f (x ∷ xs) = more (f x) (flat_map f xs) ∙ ap (λ n. length (f x)
     more : {Y : Type 0} (ys zs : List Y) → length (ys ++ zs) ≡ length ys + length zs
     more [] zs = omega arith
     more (y ∷ ys) zs = let rest = more ys zs in omega (arith, rest)
-
-length-map : {X Y : Type 0} (f : X → Y) (xs : List X) → length (map f xs) ≡ length xs
-length-map f [] = refl
-length-map f (x ∷ xs) = let rest = length-map f xs in omega (arith, rest)
-
-weigh-filter : {X : Type 0} (w : X → ℕ) (p : X → Bool) (xs : List X) → weigh w (filter p xs) ≡ weigh (λ x. cond (p x) (w x) 0) xs
-weigh-filter w p [] = refl
-weigh-filter w p (x ∷ xs) = go (p x) (weigh-filter w p xs)
-  where
-    go : (b : Bool) → weigh w (filter p xs) ≡ weigh (λ x. cond (p x) (w x) 0) xs → weigh w (cond b (x ∷ filter p xs) (filter p xs)) ≡ cond b (w x) 0 + weigh (λ x. cond (p x) (w x) 0) xs
-    go true h = ap (λ n. w x + n) h
-    go false h = omega (arith, h)
 
 weigh-sum : {X : Type 0} (v w u : X → ℕ) → ((x : X) → v x + w x ≡ u x) → (xs : List X) → weigh v xs + weigh w xs ≡ weigh u xs
 weigh-sum v w u h [] = refl
@@ -145,5 +134,5 @@ slots_counted r c is =
   where
     each : (a : AttrId) → a.0 < (shape_of r.model).attributes → cond (is_some (rule_of r.rules a)) (length (with_each r c a)) 0 ≡ step.slots_of (shape_of r.model) r.ruled c.live a
     each a lt =
-        ap (λ (n : ℕ). cond (is_some (rule_of r.rules a)) n 0) (length-map (λ (i : InstanceId). (a, i)) (filter (is_of (owner_of (shape_of r.model) a)) (facts_of c).instances) ∙ ap length (owned_are_members r c is (owner_of (shape_of r.model) a)))
+        ap (λ (n : ℕ). cond (is_some (rule_of r.rules a)) n 0) (length_map (λ (i : InstanceId). (a, i)) (filter (is_of (owner_of (shape_of r.model) a)) (facts_of c).instances) ∙ ap length (owned_are_members r c is (owner_of (shape_of r.model) a)))
         ∙ ap (λ (t : Bool). cond t (length (members (owner_of (shape_of r.model) a) c.live)) 0) (sym (r.ruled_by.by_rules a lt))

@@ -1,7 +1,7 @@
 -- The slots of a case: exactly the live ones, each once, in order.
 use Rattle.std.proofs.Common.{◌≡◌, ◌≢◌, ◌⊎◌, inl, inr, ℕ, zero, suc, ◌-◌, ◌<◌, ◌≤◌, Bool, true, false, cond, ◌==◌, List, [], ◌∷◌, ◌++◌, map, filter, Contains, Option, None, Some, is_some, refl, sym, ◌∙◌, ap, subst, arith}
 use Rattle.std.specs.Prelude.{find, ◌&&◌}
-use Rattle.std.proofs.lemmas.Bool.{and_parts, eqb-true, eq-eqb, cases_eq}
+use Rattle.std.proofs.lemmas.Bool.{and_parts, eqb-true, eq-eqb, cases_eq, and_from}
 use Rattle.std.proofs.lemmas.List.Elements.{Contains-append_left, Contains-append_right, Contains-append_cases}
 use Rattle.opa_model.specs.declared.ids.AttrId.{AttrId}
 use Rattle.opa_model.specs.Models.{HasAttribute}
@@ -31,9 +31,8 @@ use Rattle.opa_mean.proofs.Accepting.{all_found}
 use Rattle.opa_mean.proofs.Everywhere.{in_map}
 use Rattle.opa_mean.proofs.Filtered.{filter_out, filter_in, map_out, Ordered, ordered_pairs, ordered_append, ordered_weaker, ordered_filter, ordered_map, ordered_flat, all_precede}
 use Rattle.opa_mean.proofs.Fitting.{live_in, in_live}
-use Rattle.opa_mean.proofs.SameBoth.{both_true}
 
-in_attributes : (n : ℕ) (a : AttrId) → a.0 < n → Contains (attributes n) a
+pub in_attributes : (n : ℕ) (a : AttrId) → a.0 < n → Contains (attributes n) a
 in_attributes zero a lt = absurd (omega arith)
 in_attributes (suc n) a lt = go (cases_eq n a.0) (λ ne. in_attributes n a (omega (arith, ne)))
   where
@@ -77,7 +76,7 @@ module _ (b : Base) where
   in_below (suc n) a lt has low = go (cases_eq n (b.rank a)) (λ ne. in_below n a lt has (omega (arith, low, ne)))
     where
       go : (n ≡ b.rank a) ⊎ (n ≡ b.rank a → ⊥) → ((n ≡ b.rank a → ⊥) → Contains (below_rank b n) a) → Contains (below_rank b n ++ of_rank b n) a
-      go (inl e) rest = Contains-append_right (below_rank b n) (of_rank b n) a (filter_in (passes n) (attributes b.shape.attributes) a (in_attributes b.shape.attributes a lt) (both_true (is_some (rule_of b.rules a)) (b.rank a == n) has (eq-eqb (b.rank a) n (sym e))))
+      go (inl e) rest = Contains-append_right (below_rank b n) (of_rank b n) a (filter_in (passes n) (attributes b.shape.attributes) a (in_attributes b.shape.attributes a lt) (and_from (is_some (rule_of b.rules a)) (b.rank a == n) has (eq-eqb (b.rank a) n (sym e))))
       go (inr ne) rest = Contains-append_left (below_rank b n) (of_rank b n) a (rest ne)
 
   out_of_rank : (n : ℕ) (a : AttrId) → Contains (of_rank b n) a → (is_some (rule_of b.rules a) ≡ true) × (b.rank a ≡ n)
@@ -171,8 +170,8 @@ slots_are_live r c is a i = (forth, back)
     forth : Contains (slots (base_of r) (facts_of c)) (a, i) → is_slot r c a i ≡ true
     forth h =
         let k = out_slots (base_of r) (facts_of c) (a, i) h in
-        both_true (is_live c.live i && (i.entity.0 == owner_of (shape_of r.model) a)) (is_some (rule_of r.rules a))
-        (both_true (is_live c.live i) (i.entity.0 == owner_of (shape_of r.model) a) (in_live c i k.1.0) (eq-eqb i.entity.0 (owner_of (shape_of r.model) a) k.1.1)) k.0
+        and_from (is_live c.live i && (i.entity.0 == owner_of (shape_of r.model) a)) (is_some (rule_of r.rules a))
+        (and_from (is_live c.live i) (i.entity.0 == owner_of (shape_of r.model) a) (in_live c i k.1.0) (eq-eqb i.entity.0 (owner_of (shape_of r.model) a) k.1.1)) k.0
 
     back : is_slot r c a i ≡ true → Contains (slots (base_of r) (facts_of c)) (a, i)
     back h =

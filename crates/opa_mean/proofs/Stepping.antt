@@ -7,6 +7,7 @@ use Rattle.std.specs.Ordering.{eq_by_cmp}
 use Rattle.std.specs.Cmp.{eq_by_cmp_equiv}
 use Rattle.std.proofs.lemmas.List.{take_more}
 use Rattle.std.proofs.lemmas.Map.Views.{tells_apart}
+use Rattle.opa_io.proofs.Lists.{each_weaker as all_weaker}
 use Rattle.opa_date.specs.declared.TheConstants.{DAYS}
 use Rattle.opa_value.specs.declared.value.Value.{Value}
 use Rattle.opa_value.specs.declared.value.Value.TheVariants.{Unknown, Uncertain}
@@ -27,7 +28,7 @@ use Rattle.opa_mean.specs.Mean.{Base, Facts, look_of, concluded, fitted, mean_by
 use Rattle.opa_mean.specs.Meaning.{value}
 use Rattle.opa_mean.specs.Reads.{reads, reads_of, rule_reads}
 use Rattle.opa_mean.specs.Tables.{table_look, HasLine, AreLines, AddsLine}
-use Rattle.opa_mean.proofs.Everywhere.{all_append, all_weaker}
+use Rattle.opa_mean.proofs.Everywhere.{all_append}
 use Rattle.opa_mean.proofs.Reading.{reads_fix, Alike}
 
 module _ (b : Base) (c : Facts) where

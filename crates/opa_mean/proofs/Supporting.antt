@@ -3,6 +3,7 @@ use Rattle.std.proofs.Common.{◌≡◌, ◌⊎◌, inl, inr, ℕ, zero, suc, �
 use Rattle.std.specs.Prelude.{nat_lt, map}
 use Rattle.std.specs.List.{AllByRecursion}
 use Rattle.std.proofs.lemmas.Bool.{ltb-true, lt-ltb, cases_lt}
+use Rattle.opa_io.proofs.Lists.{each_weaker}
 use Rattle.opa_value.specs.declared.value.Value.{Value}
 use Rattle.opa_model.specs.declared.ids.AttrId.{AttrId}
 use Rattle.opa_model.specs.declared.ids.RelId.{RelId}
@@ -24,7 +25,7 @@ use Rattle.opa_mean.proofs.Agreeing.{value_same}
 use Rattle.opa_mean.proofs.Chains.{chain_live, place_live, places_same, chain_agree}
 use Rattle.opa_mean.proofs.Completing.{above_live}
 use Rattle.opa_mean.proofs.Determining.{determined, mentioned_in}
-use Rattle.opa_mean.proofs.Everywhere.{all_of_each, each_of_all, all_weaker, in_map}
+use Rattle.opa_mean.proofs.Everywhere.{all_of_each, each_of_all, in_map}
 use Rattle.opa_mean.proofs.Fixing.{value_fixed, Agrees as Alike}
 
 module _ (b : Base) (c c' : Facts) (falls : RanksFall b) (are : AreFacts b.shape c) (are' : AreFacts b.shape c') (p : Use) (agrees : Agrees b (InReport b c p) c') where
@@ -50,10 +51,10 @@ module _ (b : Base) (c c' : Facts) (falls : RanksFall b) (are : AreFacts b.shape
   within u i cone own live = (live, chain_agree c.container c'.container i (all_of_each (λ j. c'.container j ≡ c.container j) (chain c.container i) (one_up u i cone own live)))
 
   same : (enclosing : List InstanceId) → AllByRecursion Within enclosing → (e : ℕ) → place c'.container enclosing e ≡ place c.container enclosing e
-  same enclosing w e = places_same c.container c'.container enclosing (all_weaker Within (λ i. chain c'.container i ≡ chain c.container i) (λ i h. h.1) enclosing w) e
+  same enclosing w e = places_same c.container c'.container enclosing (each_weaker Within (λ i. chain c'.container i ≡ chain c.container i) (λ i h. h.1) enclosing w) e
 
   live : (enclosing : List InstanceId) → AllByRecursion Within enclosing → (e : ℕ) (i : InstanceId) → place c.container enclosing e ≡ Some i → IsLive c i
-  live enclosing w = place_live c.container (IsLive c) (above_live b.shape c are) enclosing (all_weaker Within (IsLive c) (λ i h. h.0) enclosing w)
+  live enclosing w = place_live c.container (IsLive c) (above_live b.shape c are) enclosing (each_weaker Within (IsLive c) (λ i h. h.0) enclosing w)
 
   -- the instances of a list are those that the report has
   named_within : (r : RelId) (i : InstanceId) → InCone b c p (Listed r i) → (names : List (List ℕ)) → c.members r i ≡ Some names → AllByRecursion (λ n. Within (named (b.shape.target r) n)) names

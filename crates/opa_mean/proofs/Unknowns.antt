@@ -93,9 +93,9 @@ day_never : (o : Option ℕ) → Never (day_or_not o)
 day_never None e = cc e
 day_never (Some d) e = cc e
 
-years_never : (o : Option ℕ) → Never (years_value o)
-years_never None e = cc e
-years_never (Some k) e = number_never (pos (k * 10000)) e
+pub told_years : (o : Option ℕ) → Never (years_value o)
+told_years None e = cc e
+told_years (Some k) e = number_never (pos (k * 10000)) e
 
 if_never : (b : Bool) (v : Value) → Never v → Never (cond b v Uncertain)
 if_never true v n = n
@@ -184,7 +184,7 @@ op_unknown op.AddDays vs e = absurd (two_never _ (moved_never add_days) vs e)
 op_unknown op.AddMonths vs e = absurd (two_never _ (moved_never add_months) vs e)
 op_unknown op.AddYears vs e = absurd (two_never _ (moved_never add_years) vs e)
 op_unknown op.DaysBetween vs e = absurd (two_never _ (dates_never _ (λ s t. whole_never (pos t -ℤ pos s))) vs e)
-op_unknown op.YearsBetween vs e = absurd (two_never _ (dates_never _ (λ s t. years_never (years_between s t))) vs e)
+op_unknown op.YearsBetween vs e = absurd (two_never _ (dates_never _ (λ s t. told_years (years_between s t))) vs e)
 op_unknown op.YearOf vs e = absurd (one_never _ (date_never _ (λ s. whole_never (date_of s).year)) vs e)
 op_unknown op.MonthOf vs e = absurd (one_never _ (date_never _ (λ s. whole_never (pos (date_of s).month))) vs e)
 op_unknown op.DayOf vs e = absurd (one_never _ (date_never _ (λ s. whole_never (pos (date_of s).day))) vs e)
@@ -242,9 +242,6 @@ told_date f h v e = go (at_date_unknown f v e)
 
 pub told_truth : (b : Bool) → Never (Truth b)
 told_truth b e = cc e
-
-pub told_years : (o : Option ℕ) → Never (years_value o)
-told_years = years_never
 
 -- a function of two dates
 pub in_window_unknown : (fold : List Value → Value) (x : ℕ → Value) (v w : Value) → in_window fold x v w ≡ Unknown → (v ≡ Unknown) ⊎ ((w ≡ Unknown) ⊎ (on_dates (λ s t. fold (over_days x s t)) v w ≡ Unknown))

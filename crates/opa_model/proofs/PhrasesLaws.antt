@@ -1,15 +1,15 @@
 -- The first place of a text among texts.
-use Rattle.std.proofs.Common.{◌≡◌, ◌↔◌, ◌+◌, ◌<◌, ℕ, suc, Bool, true, false, not, cond, nat_lt, List, [], ◌∷◌, ◌++◌, map, length, position, Option, Some, None, IfSome, IsNone, ◌||◌, slice_get, slice_index_or, take, Contains, AllPairs, ◌≢◌, refl, sym, ap, ap₂, ◌∙◌, subst, rules, arith}
+use Rattle.std.proofs.Common.{◌≡◌, ◌↔◌, ◌+◌, ◌<◌, ℕ, suc, Bool, true, false, not, cond, nat_lt, List, [], ◌∷◌, ◌++◌, map, length, position, Option, Some, None, IfSome, IsNone, ◌||◌, slice_get, slice_index_or, take, Contains, AllPairs, ◌≢◌, refl, sym, ap, ap₂, ◌∙◌, subst, arith}
 use Rattle.std.specs.Prelude.{if◌then◌else◌}
 use Rattle.opa_model.specs.Phrases.{is_declared, Declares}
 use Rattle.std.proofs.lemmas.List.{length-map, map-append, length-append, length-take, take-map, get_or-take, get_or-map, get_or_append_left}
 use Rattle.std.proofs.lemmas.Bool.{ltb-false}
 use Rattle.std.specs.Str.{bytes_eq}
 use Rattle.std.specs.List.{prefix_len, position_or_len, list_any}
-use Rattle.std.proofs.lemmas.Slice.Eq.{bytes_eq-Decides}
 use Rattle.std.proofs.lemmas.List.Quantifiers.{position-Some}
 use Rattle.std.proofs.lemmas.List.Sums.{fails_before_first}
 use Rattle.std.proofs.lemmas.Option.{slice_get-get_or}
+use Rattle.opa_io.proofs.Characters.{same_bytes, own_bytes}
 
 module _ {X Y : Type 0} (p : Y → Bool) (f : X → Y) where
   prefix_len-map : (xs : List X) → prefix_len (λ x. not (p (f x))) xs ≡ prefix_len (λ y. not (p y)) (map f xs)
@@ -21,18 +21,12 @@ module _ {X Y : Type 0} (p : Y → Bool) (f : X → Y) where
   position-map xs =
       ap₂ (λ i n. cond (nat_lt i n) (Some i) None) (prefix_len-map xs) (sym (length-map xs f))
 
-same_text : (t u : List ℕ) → bytes_eq t u ≡ true → t ≡ u
-same_text t u e = search (rules, bytes_eq-Decides t u, e)
-
-pub own_text : (t : List ℕ) → bytes_eq t t ≡ true
-own_text t = search (rules, bytes_eq-Decides t t)
-
 -- the text stands at its place
 pub position-found : (t : List ℕ) (ps : List (List ℕ)) (r : Option ℕ) → r ≡ position (bytes_eq t) ps → IfSome r (λ i. slice_get ps i ≡ Some t)
 position-found t ps None e = tt
 position-found t ps (Some i) e =
     let (within, passes, first) = position-Some (bytes_eq t) ps i [] (sym e) in
-    rw (same_text t _ passes) (slice_get-get_or ps i [] within)
+    rw (same_bytes t _ passes) (slice_get-get_or ps i [] within)
 
 -- no place is below the length exactly where no text is this one
 nowhere : (t : List ℕ) (ps : List (List ℕ)) → position (bytes_eq t) ps ≡ None → ¬ (Contains ps t)
@@ -44,13 +38,13 @@ nowhere t ps none (k, within, is) =
     by false e q =
         let past : k < position_or_len (bytes_eq t) ps = omega (arith, ltb-false _ _ e, within) in
         let differs = fails_before_first (bytes_eq t) ps k t past in
-        cc (sym (own_text t) ∙ ap (bytes_eq t) (sym is) ∙ differs)
+        cc (sym (own_bytes t) ∙ ap (bytes_eq t) (sym is) ∙ differs)
 
 pub position-none : (t : List ℕ) (ps : List (List ℕ)) (r : Option ℕ) → r ≡ position (bytes_eq t) ps → IsNone r ↔ ¬ (Contains ps t)
 position-none t ps None e = (λ _. nowhere t ps (sym e), λ _. refl)
 position-none t ps (Some i) e =
     let (within, passes, first) = position-Some (bytes_eq t) ps i t (sym e) in
-    (λ h. cc h, λ missing. absurd (missing (i, within, sym (same_text t _ passes))))
+    (λ h. cc h, λ missing. absurd (missing (i, within, sym (same_bytes t _ passes))))
 
 -- a text that none of these is
 module _ {X : Type 0} (f : X → List ℕ) (t : List ℕ) where
@@ -60,7 +54,7 @@ module _ {X : Type 0} (f : X → List ℕ) (t : List ℕ) where
       by (bytes_eq t (f x)) refl (absent xs (λ there. missing (suc there.0, omega (arith, there.1), there.2)))
     where
       by : (b : Bool) → bytes_eq t (f x) ≡ b → list_any (λ y. bytes_eq t (f y)) xs ≡ false → (b || list_any (λ y. bytes_eq t (f y)) xs) ≡ false
-      by true e rest = absurd (missing (0, omega arith, sym (same_text t (f x) e)))
+      by true e rest = absurd (missing (0, omega arith, sym (same_bytes t (f x) e)))
       by false e rest = rest
 
 list_any-map : {X : Type 0} (f : X → List ℕ) (p : List ℕ → Bool) (xs : List X) → list_any (λ x. p (f x)) xs ≡ list_any p (map f xs)

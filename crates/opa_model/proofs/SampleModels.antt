@@ -1,10 +1,11 @@
 -- The simplest model: bools of the global entity.
-use Rattle.std.proofs.Common.{◌≡◌, ◌≢◌, ◌↔◌, IsTrue, Bool, false, ℕ, zero, suc, ◌+◌, ◌<◌, ◌≤◌, List, [], ◌∷◌, Option, None, Some, All, AllPairs, IfSome, IsSome, slice_get, refl, sym, ap, ◌∙◌, subst, arith}
+use Rattle.std.proofs.Common.{◌≡◌, ◌≢◌, ◌↔◌, IsTrue, Bool, false, ℕ, zero, suc, ◌+◌, ◌<◌, ◌≤◌, List, [], ◌∷◌, Option, None, Some, All, IfSome, IsSome, slice_get, refl, sym, ap, ◌∙◌, subst, arith}
 use Rattle.std.proofs.lemmas.List.Elements.{All-nil, All-cons}
 use Rattle.std.proofs.lemmas.List.Kept.{AllPairs-cons}
 use Rattle.std.proofs.lemmas.Bool.{false≢true}
 use Rattle.std.specs.Str.{bytes_eq}
-use Rattle.opa_model.proofs.PhrasesLaws.{own_text}
+use Rattle.opa_io.proofs.Lists.{no_pairs, All_one}
+use Rattle.opa_io.proofs.Characters.{own_bytes}
 use Rattle.opa_model.specs.declared.ids.AttrId.{AttrId}
 use Rattle.opa_model.specs.declared.things.Attribute.{Attribute}
 use Rattle.opa_model.specs.declared.things.Entity.{Entity}
@@ -18,19 +19,13 @@ use Rattle.opa_model.specs.Lookups.{attribute_at}
 use Rattle.opa_model.specs.Models.{HasEntity, HasAttribute, HasVerb, HasItem, HasDecimals, IsModel, IsContained, IsContainment, IsOverAll}
 use Rattle.opa_model.specs.Samples.{IsGlobalBool}
 
-one : {X : Type 0} (P : X → Type 0) (x : X) → P x → All P (x ∷ [])
-one P x p = All-cons P x [] p (All-nil P)
-
 two : {X : Type 0} (P : X → Type 0) (x y : X) → P x → P y → All P (x ∷ y ∷ [])
-two P x y p q = All-cons P x (y ∷ []) p (one P y q)
-
-no_pairs : {X : Type 0} (R : X → X → Type 0) → AllPairs R []
-no_pairs R i j d lt within = absurd (omega arith)
+two P x y p q = All-cons P x (y ∷ []) p (All_one P y q)
 
 -- texts that a test tells apart
 pub apart_by : (p q x y : List ℕ) → p ≡ x → q ≡ y → bytes_eq x y ≡ false → p ≢ q
 apart_by p q x y p_is q_is differs same =
-    false≢true (sym differs ∙ ap (λ t. bytes_eq t y) (sym p_is ∙ same ∙ q_is) ∙ own_text y)
+    false≢true (sym differs ∙ ap (λ t. bytes_eq t y) (sym p_is ∙ same ∙ q_is) ∙ own_bytes y)
 
 module _ (e : Entity) (a b : Attribute) (v : Verb) where
   abbrev pub small : Lists
@@ -54,16 +49,16 @@ module _ (e : Entity) (a b : Attribute) (v : Verb) where
     has_global = omega arith;
     few = record { entities = omega arith; attributes = omega arith; relations = omega arith; verbs = omega arith; screens = omega arith; goals = omega arith };
     in_range = record {
-      parents = one (λ (x : Entity). HasEntity small x.parent) e (omega (arith, root));
+      parents = All_one (λ (x : Entity). HasEntity small x.parent) e (omega (arith, root));
       owners = two (λ (x : Attribute). HasEntity small x.entity) a b (omega (arith, is_a.of_global)) (omega (arith, is_b.of_global));
       verbs = two (λ (x : Attribute). IfSome x.sentence (HasVerb small)) a b (said a is_a) (said b is_b);
       sources = All-nil (λ (r : Relation). HasEntity small r.source);
       targets = All-nil (λ (r : Relation). HasEntity small r.target);
       items = All-nil (λ (s : Screen). All (HasItem small) s.items);
-      goals = one (HasAttribute small) (record { 0 = 0 }) (omega arith);
+      goals = All_one (HasAttribute small) (record { 0 = 0 }) (omega arith);
     };
-    goals_are_global = one (λ (id : AttrId). IfSome (attribute_at small id) (λ x. x.entity.0 ≡ 0)) (record { 0 = 0 }) is_a.of_global;
-    phrases_differ = AllPairs-cons (λ p q. p ≢ q) a.phrase (b.phrase ∷ []) (one (λ p. a.phrase ≢ p) b.phrase apart) (AllPairs-cons (λ p q. p ≢ q) b.phrase [] (All-nil (λ p. b.phrase ≢ p)) (no_pairs (λ p q. p ≢ q)));
+    goals_are_global = All_one (λ (id : AttrId). IfSome (attribute_at small id) (λ x. x.entity.0 ≡ 0)) (record { 0 = 0 }) is_a.of_global;
+    phrases_differ = AllPairs-cons (λ p q. p ≢ q) a.phrase (b.phrase ∷ []) (All_one (λ p. a.phrase ≢ p) b.phrase apart) (AllPairs-cons (λ p q. p ≢ q) b.phrase [] (All-nil (λ p. b.phrase ≢ p)) (no_pairs (λ p q. p ≢ q)));
     decimals = two HasDecimals a b (decimals_of a is_a) (decimals_of b is_b);
     bools_have_sentences = two (λ (x : Attribute). IsSome x.sentence ↔ (x.kind ≡ kind.Bool)) a b (is_saying a is_a) (is_saying b is_b);
     items_differ = no_pairs (λ i j. i ≢ j);

@@ -10,15 +10,12 @@ use Rattle.std.specs.Cmp.Lexicographic.{slice_cmp, nat_list_cmp_total}
 use Rattle.std.specs.FinMap.{get, insert, remove, entries, len, find, put, from_entries, same_map, empty, get-insert, get-remove, get-from_entries, len-entries, len-empty, entries-insert}
 use Rattle.std.specs.FinMap.Entries.{by_order}
 use Rattle.std.specs.BTreeMap.{is_at}
-use Rattle.std.proofs.Common.{arith, ap, sym, ◌∙◌}
+use Rattle.std.proofs.Common.{ap, sym, ◌∙◌}
 use Rattle.std.proofs.lemmas.Map.Lookups.{exact_bytes}
+use Rattle.opa_io.proofs.Lists.{no_length}
 
 abbrev Name : Type 0
 Name = List ℕ
-
-no_length : {A : Type 0} (xs : List A) → length xs ≡ 0 → xs ≡ []
-no_length [] h = refl
-no_length (x ∷ xs) h = absurd (omega (arith, h))
 
 turned : (k q : Name) → is_at (slice_cmp nat_cmp k) q ≡ eq_by_cmp (slice_cmp nat_cmp) q k
 turned k q = (eq_by_cmp_equiv nat_list_cmp_total).symm k q

@@ -1,30 +1,21 @@
 -- Questions that are added one after another.
 use Rattle.std.proofs.Common.{◌≡◌, ◌↔◌, Bool, true, false, cond, ◌||◌, List, [], ◌∷◌, ◌++◌, Option, Some, refl, sym, ◌∙◌, ap, subst}
-use Rattle.std.specs.Prelude.{map, ◌&&◌}
+use Rattle.std.specs.Prelude.{map}
 use Rattle.std.specs.List.{list_any}
-use Rattle.std.proofs.lemmas.Bool.{eq-eqb}
 use Rattle.std.proofs.lemmas.List.{append_assoc, append-nil}
+use Rattle.opa_io.proofs.Lists.{each_weaker}
 use Rattle.opa_case.specs.declared.question.Question.{Question}
-use Rattle.opa_case.specs.declared.question.Question.TheVariants as question
 use Rattle.opa_tree.specs.FirstOnes.{first_ones, with_new}
 use Rattle.opa_tree.proofs.FirstOnesLaws.{first_ones-push}
 use Rattle.opa_mean.specs.Next.{question_of, first_or}
 use Rattle.opa_mean.specs.Sameness.{same_question}
 use Rattle.opa_mean.specs.Uses.{Use}
-use Rattle.opa_mean.proofs.Everywhere.{all_weaker}
 use Rattle.opa_mean.proofs.Exact.{question_exact}
 use Rattle.opa_need.specs.Finding.{IsFound, AreFound, added}
-use Rattle.opa_cells.proofs.Orders.{same_itself}
-
-both_true : (a b : Bool) → a ≡ true → b ≡ true → (a && b) ≡ true
-both_true a b h k = ap (λ x. x && b) h ∙ k
-
-question_self : (q : Question) → same_question q q ≡ true
-question_self (question.Attr a i) = both_true _ _ (eq-eqb a.0 a.0 refl) (same_itself i)
-question_self (question.Members r i) = both_true _ _ (eq-eqb r.0 r.0 refl) (same_itself i)
+use Rattle.opa_mean.proofs.SameBoth.{question_itself}
 
 tells : (p q : Question) → (same_question p q ≡ true) ↔ (p ≡ q)
-tells p q = (question_exact p q, λ e. subst (λ x. same_question p x ≡ true) e (question_self p))
+tells p q = (question_exact p q, λ e. subst (λ x. same_question p x ≡ true) e (question_itself p))
 
 pub added-append : (found : List Question) (us vs : List Use) → added found (us ++ vs) ≡ added (added found us) vs
 added-append found [] vs = refl
@@ -39,7 +30,7 @@ any_more q (x ∷ xs) ys h = go (same_question q x) h (any_more q xs ys)
     go false h rest = rest h
 
 any_last : (q : Question) (xs : List Question) → list_any (same_question q) (xs ++ q ∷ []) ≡ true
-any_last q [] = ap (λ b. b || false) (question_self q)
+any_last q [] = ap (λ b. b || false) (question_itself q)
 any_last q (x ∷ xs) = go (same_question q x) (any_last q xs)
   where
     go : (b : Bool) → list_any (same_question q) (xs ++ q ∷ []) ≡ true → (b || list_any (same_question q) (xs ++ q ∷ [])) ≡ true
@@ -66,7 +57,7 @@ found_stays found [] v h = h
 found_stays found (u ∷ us) v h = found_stays (with_new same_question found (question_of u)) us v (one_stays found u v h)
 
 pub all_stay : (found : List Question) (us vs : List Use) → AreFound found vs → AreFound (added found us) vs
-all_stay found us vs h = all_weaker (IsFound found) (IsFound (added found us)) (found_stays found us) vs h
+all_stay found us vs h = each_weaker (IsFound found) (IsFound (added found us)) (found_stays found us) vs h
 
 -- what was added is found
 pub all_there : (found : List Question) (us : List Use) → AreFound (added found us) us

@@ -1,9 +1,10 @@
 -- The first day on which a goal is unknown, and the questions of all goals.
-use Rattle.std.proofs.Common.{◌≡◌, ◌≢◌, ◌↔◌, ℕ, zero, suc, ◌+◌, ◌<◌, ◌≤◌, Bool, true, false, cond, List, [], ◌∷◌, length, drop, get_or, Option, None, Some, Bor, is_some, refl, sym, ◌∙◌, ap, subst, arith, add-one}
+use Rattle.std.proofs.Common.{◌≡◌, ◌≢◌, ◌↔◌, ℕ, zero, suc, ◌+◌, ◌<◌, ◌≤◌, Bool, true, false, cond, List, [], ◌∷◌, length, drop, get_or, Option, None, Some, Bor, is_some, refl, sym, ◌∙◌, ap, subst, arith}
 use Rattle.std.specs.Prelude.{find, nat_le, ◌&&◌, ◌||◌, ◌==◌, slice_get}
 use Rattle.std.specs.FinMap.{get}
 use Rattle.std.specs.List.{list_any, AllByRecursion}
 use Rattle.std.proofs.lemmas.Bool.{leb-true, leb-false, le-leb, lt-leb, eq-eqb}
+use Rattle.opa_io.proofs.Places.{drop_at}
 use Rattle.opa_date.specs.declared.TheConstants.{DAYS}
 use Rattle.opa_value.specs.declared.value.Value.{Value}
 use Rattle.opa_value.specs.declared.value.Value.TheVariants.{Unknown}
@@ -132,15 +133,6 @@ known_further l s d next form e not before k begun lt = go (nat_le d k) refl
 
 pub not_open : (o : Option Value) (v : Value) → o ≡ Some v → is_unknown v ≡ false → o ≢ Some Unknown
 not_open o v e f q = let same : v ≡ Unknown = cc (e, q) in absurd (cc (ap is_unknown same, f))
-
-drop_at : (goals : List AttrId) (n : ℕ) (a : AttrId) → slice_get goals n ≡ Some a → drop n goals ≡ a ∷ drop (n + 1) goals
-drop_at [] n a e = absurd (none_there n a e)
-  where
-    none_there : (n : ℕ) (a : AttrId) → slice_get [] n ≡ Some a → ⊥
-    none_there zero a e = cc e
-    none_there (suc n) a e = cc e
-drop_at (b ∷ goals) zero a e = let same : b ≡ a = cc e in ap (λ x. x ∷ goals) same
-drop_at (b ∷ goals) (suc n) a e = drop_at goals n a e ∙ ap (λ m. a ∷ drop m goals) (add-one n) ∙ sym (ap (λ m. a ∷ drop m (b ∷ goals)) (add-one (suc n)))
 
 none_behind : (goals : List AttrId) (n : ℕ) → length goals ≤ n → drop n goals ≡ []
 none_behind [] zero over = refl

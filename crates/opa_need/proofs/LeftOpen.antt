@@ -1,7 +1,7 @@
 -- A goal whose needs, or whose questions, are all left open stays unknown.
-use Rattle.std.proofs.Common.{◌≡◌, ℕ, Bool, true, false, cond, ◌||◌, List, [], ◌∷◌, Some, refl, sym, ◌∙◌, ap, subst}
-use Rattle.std.specs.Prelude.{find}
+use Rattle.std.proofs.Common.{◌≡◌, ℕ, Bool, true, false, ◌||◌, List, [], ◌∷◌, Some, refl, sym, ◌∙◌, ap, subst}
 use Rattle.std.specs.List.{list_any, AllByRecursion}
+use Rattle.opa_io.proofs.Numbers.{found_passes}
 use Rattle.opa_date.specs.declared.TheConstants.{DAYS}
 use Rattle.opa_value.specs.declared.value.Value.{Value}
 use Rattle.opa_value.specs.declared.value.Value.TheVariants.{Unknown}
@@ -26,14 +26,6 @@ use Rattle.opa_mean.proofs.Unknowns.{unknown_is}
 use Rattle.opa_need.specs.Completions.{OnlyNeedsDecide, OnlyTheseDecide, IsLeftOpen}
 use Rattle.opa_need.specs.Finding.{IsFound, AreFound, added}
 use Rattle.opa_need.proofs.Adding.{all_there, from_none}
-
-found_passes : (p : ℕ → Bool) (ds : List ℕ) (d : ℕ) → find p ds ≡ Some d → p d ≡ true
-found_passes p [] d e = absurd (cc e)
-found_passes p (k ∷ ds) d e = go (p k) refl (found_passes p ds d)
-  where
-    go : (b : Bool) → p k ≡ b → (find p ds ≡ Some d → p d ≡ true) → p d ≡ true
-    go true q rest = let same : k ≡ d = cc (e, ap (λ b. cond b (Some k) (find p ds)) q) in sym (ap p same) ∙ q
-    go false q rest = rest (sym (ap (λ b. cond b (Some k) (find p ds)) q) ∙ e)
 
 first_is : (f : ℕ → Value) (d : ℕ) → Some d ≡ first_unknown DAYS f → f d ≡ Unknown
 unfolding first_unknown

@@ -9,6 +9,7 @@ use Rattle.opa_need.specs.Dates.{date_in}
 use Rattle.opa_need.specs.declared.steps.Step.TheVariants as step
 use Rattle.std.specs.List.{AllByRecursion}
 use Rattle.std.proofs.lemmas.List.{append_assoc, append-nil, take_more}
+use Rattle.std.proofs.lemmas.Grind.{flat_map-append}
 use Rattle.opa_case.specs.Cases.{CaseView, IsLive}
 use Rattle.opa_tree.specs.declared.rulebase.Rulebase.{Rulebase}
 use Rattle.opa_mean.specs.Uses.{Use, on_date_uses, in_window_uses}
@@ -22,14 +23,10 @@ use Rattle.opa_tree.specs.declared.kinds.Quant.TheVariants as quant
 use Rattle.opa_need.specs.Steps.{part_needs, part_value, member_needs, span_needs, step_needs, claim, IsReady, StandFor, Adds}
 use Rattle.opa_need.specs.declared.steps.Step.{Step}
 
-pub flat_append : {X Y : Type 0} (f : X → List Y) (xs ys : List X) → flat_map f (xs ++ ys) ≡ flat_map f xs ++ flat_map f ys
-flat_append f [] ys = refl
-flat_append f (x ∷ xs) ys = ap (λ zs. f x ++ zs) (flat_append f xs ys) ∙ sym (append_assoc (f x) (flat_map f xs) (flat_map f ys))
-
 -- one item more of those that are gone through
 pub flat_more : {X Y : Type 0} (f : X → List Y) (xs : List X) (i : ℕ) (x : X) → i < length xs → x ≡ get_or xs i x → flat_map f (take (i + 1) xs) ≡ flat_map f (take i xs) ++ f x
 flat_more f xs i x within is =
-    ap (flat_map f) (take_more xs i x within) ∙ flat_append f (take i xs) (get_or xs i x ∷ []) ∙ ap (λ ys. flat_map f (take i xs) ++ ys) (append-nil (f (get_or xs i x)) ∙ ap f (sym is))
+    ap (flat_map f) (take_more xs i x within) ∙ flat_map-append f (take i xs) (get_or xs i x ∷ []) ∙ ap (λ ys. flat_map f (take i xs) ++ ys) (append-nil (f (get_or xs i x)) ∙ ap f (sym is))
 
 no_date : (u : ℕ → List Use) (v : Value) → None ≡ date_in v → on_date_uses u v ≡ []
 no_date u (Day k) e = go (nat_lt k DAYS) e
@@ -87,7 +84,7 @@ module _ (r : Rulebase) (c : CaseView) where
 
   pub both_stand : (us vs : List Use) (xs ys : List Step) → StandFor r c us xs → StandFor r c vs ys → StandFor r c (us ++ vs) (xs ++ ys)
   both_stand us vs xs ys h k = record {
-    asking = flat_append (step_needs r c) xs ys ∙ ap (λ ws. ws ++ flat_map (step_needs r c) ys) h.asking ∙ ap (λ ws. us ++ ws) k.asking;
+    asking = flat_map-append (step_needs r c) xs ys ∙ ap (λ ws. ws ++ flat_map (step_needs r c) ys) h.asking ∙ ap (λ ws. us ++ ws) k.asking;
     plain = all_append (λ s. claim r c s ≡ []) xs ys h.plain k.plain;
     ready = all_append (IsReady r c) xs ys h.ready k.ready;
   }

@@ -1,12 +1,14 @@
 -- What is found, and what is left to be looked at, step by step.
 use Rattle.std.proofs.Common.{◌≡◌, ℕ, zero, suc, ◌+◌, ◌-◌, ◌<◌, ◌≤◌, max, Bool, true, false, cond, List, [], ◌∷◌, ◌++◌, ◌⊎◌, inl, inr, Option, None, Some, Bor, refl, sym, ◌∙◌, ap, subst, arith, reverse}
-use Rattle.std.specs.Prelude.{flat_map, nat_lt, nat_le, find, ◌&&◌, length, unwrap_or, Result, Ok, Err, IfOk}
+use Rattle.std.specs.Prelude.{flat_map, nat_lt, nat_le, find, ◌&&◌, length, unwrap_or}
 use Rattle.std.proofs.lemmas.Bool.{ltb-true, ltb-false, leb-true, and_parts}
 use Rattle.std.specs.List.{AllByRecursion}
 use Rattle.std.specs.FinMap.{FinMap, get, insert, empty, get-insert, get-empty}
 use Rattle.std.specs.Ordering.{eq_by_cmp}
-use Rattle.std.proofs.lemmas.List.{append_assoc, append-nil, reverse-append}
+use Rattle.std.proofs.lemmas.List.{append_assoc, append-nil}
 use Rattle.std.proofs.lemmas.Map.Views.{tells_apart}
+use Rattle.std.proofs.lemmas.Grind.{flat_map-append}
+use Rattle.opa_io.proofs.Lists.{each_weaker, reverse_push}
 use Rattle.opa_date.specs.declared.TheConstants.{DAYS}
 use Rattle.opa_model.specs.declared.ids.AttrId.{AttrId}
 use Rattle.opa_model.specs.declared.ids.RelId.{RelId}
@@ -28,7 +30,7 @@ use Rattle.opa_mean.specs.Next.{question_of, first_or}
 use Rattle.opa_mean.specs.Rulebases.{IsOf}
 use Rattle.opa_mean.specs.Sameness.{same_question}
 use Rattle.opa_mean.specs.Uses.{Use, Point, Listed}
-use Rattle.opa_mean.proofs.Everywhere.{all_append, all_weaker}
+use Rattle.opa_mean.proofs.Everywhere.{all_append}
 use Rattle.opa_mean.proofs.LawsOver.{base}
 use Rattle.opa_need.specs.Finding.{AreFound, added}
 use Rattle.opa_need.specs.Steps.{IsKnownUntil, part_value, tree_needs, part_needs, point_needs, days_needs, step_needs, claim, AreSound, IsReady, StandFor, IsRun, AreRuns, IsOnTheWay, IsSettled, Settles, IsRunOf, LeadsOn, PutsOn}
@@ -37,16 +39,12 @@ use Rattle.opa_need.specs.declared.steps.Step.{Step}
 use Rattle.opa_need.specs.declared.steps.Step.TheVariants as step
 use Rattle.opa_need.proofs.Adding.{added-append, all_stay, all_there, nothing_new, first_stays}
 use Rattle.opa_need.proofs.GoalLaws.{known_is}
-use Rattle.opa_need.proofs.OpeningLaws.{flat_append}
 use Rattle.opa_mean.proofs.ByRule.{by_its_rule}
-
-pub reversed : {X : Type 0} (xs : List X) (x : X) → reverse (xs ++ x ∷ []) ≡ x ∷ reverse xs
-reversed xs x = reverse-append xs (x ∷ [])
 
 -- one thing is moved from the end of one list to the end of another
 pub moved : {X : Type 0} (from from' to to' : List X) (x : X) → from ≡ from' ++ x ∷ [] → to' ≡ to ++ x ∷ [] → from' ++ reverse to' ≡ from ++ reverse to
 moved from from' to to' x e f =
-    ap (λ xs. from' ++ reverse xs) f ∙ ap (λ xs. from' ++ xs) (reversed to x) ∙ sym (append_assoc from' (x ∷ []) (reverse to)) ∙ ap (λ xs. xs ++ reverse to) (sym e)
+    ap (λ xs. from' ++ reverse xs) f ∙ ap (λ xs. from' ++ xs) (reverse_push to x) ∙ sym (append_assoc from' (x ∷ []) (reverse to)) ∙ ap (λ xs. xs ++ reverse to) (sym e)
 
 -- days on which nothing new is needed are passed over
 pub passed : (f : ℕ → List Use) (found : List Question) (n s end : ℕ) → ((k : ℕ) → s ≤ k → k < s + n → AreFound found (f k)) → added found (flat_map f (days s (end - s))) ≡ added found (flat_map f (days (s + n) (end - (s + n))))
@@ -71,10 +69,6 @@ find_is p P (y ∷ xs) x e h = go (p y) refl e (λ q. find_is p P xs x q h.1)
     go true f e rest = let same : y ≡ x = cc e in (sym (ap p same) ∙ f, subst P same h.0)
     go false f e rest = rest e
 
-pub ok_weaker : {X E : Type 0} (P Q : X → Type 0) (o : Result X E) → ((x : X) → P x → Q x) → IfOk o P → IfOk o Q
-ok_weaker P Q (Ok x) f h = f x h
-ok_weaker P Q (Err e) f h = tt
-
 module _ (r : Rulebase) (c : CaseView) where
   abbrev On : List Question → List Question → FinMap cell_cmp (List Run) → List Step → Type 0
   On = IsOnTheWay r c
@@ -87,7 +81,7 @@ module _ (r : Rulebase) (c : CaseView) where
   -- a step gives way to those that stand for its needs
   pub replaced : (total found : List Question) (runs : FinMap cell_cmp (List Run)) (s : Step) (new rest : List Step) → StandFor r c (step_needs r c s) new → IsOnTheWay r c total found runs (s ∷ rest) → IsOnTheWay r c total found runs (new ++ rest)
   replaced total found runs s new rest stand h = record {
-    whole = ap (added found) (flat_append (step_needs r c) new rest ∙ ap (λ us. us ++ flat_map (step_needs r c) rest) stand.asking) ∙ h.whole;
+    whole = ap (added found) (flat_map-append (step_needs r c) new rest ∙ ap (λ us. us ++ flat_map (step_needs r c) rest) stand.asking) ∙ h.whole;
     sound = sound_onto found new rest stand.plain (subst (λ us. AreSound r c (added found us) rest) (sym stand.asking) h.sound.1);
     ready = all_append (IsReady r c) new rest stand.ready h.ready.1;
     found_on = h.found_on;
@@ -107,7 +101,7 @@ module _ (r : Rulebase) (c : CaseView) where
       }
 
   runs_stay : (found : List Question) (us : List Use) (runs : FinMap cell_cmp (List Run)) → AreRuns r c found runs → AreRuns r c (added found us) runs
-  runs_stay found us runs h a i own at = all_weaker (IsRun r c found a i) (IsRun r c (added found us) a i) (λ run is k low high. all_stay found us (point_needs r c a i k) (is k low high)) own (h a i own at)
+  runs_stay found us runs h a i own at = each_weaker (IsRun r c found a i) (IsRun r c (added found us) a i) (λ run is k low high. all_stay found us (point_needs r c a i k) (is k low high)) own (h a i own at)
 
   -- a single question is added
   pub one_asked : (total found found' : List Question) (runs : FinMap cell_cmp (List Run)) (s : Step) (u : Use) (rest : List Step) → step_needs r c s ≡ u ∷ [] → found' ≡ with_new same_question found (question_of u) → IsOnTheWay r c total found runs (s ∷ rest) → IsOnTheWay r c total found' runs rest
@@ -199,7 +193,7 @@ module _ (r : Rulebase) (c : CaseView) where
   pub entered_on : IsOf r c → (found : List Question) (runs : FinMap cell_cmp (List Run)) (a : AttrId) (i i' : InstanceId) (d : ℕ) (rule : Rule) (e : Bor Expr) (es : List InstanceId) (old mid new : List Step) → mid ≡ old ++ step.AfterPoint a i' d ∷ [] → new ≡ mid ++ step.Tree e es d ∷ []
       → Some rule ≡ rule_of r.rules a → e.now ≡ rule.expr → es ≡ i ∷ [] → i' ≡ i → LeadsOn r c (step.Point a i d) found runs old found runs new
   entered_on is found runs a i i' d rule e es old mid new f g ruled at alone same total h =
-      subst (IsOnTheWay r c total found runs) (sym (ap reverse g ∙ reversed mid (step.Tree e es d) ∙ ap (λ xs. step.Tree e es d ∷ reverse xs) f ∙ ap (λ xs. step.Tree e es d ∷ xs) (reversed old (step.AfterPoint a i' d))))
+      subst (IsOnTheWay r c total found runs) (sym (ap reverse g ∙ reverse_push mid (step.Tree e es d) ∙ ap (λ xs. step.Tree e es d ∷ reverse xs) f ∙ ap (λ xs. step.Tree e es d ∷ xs) (reverse_push old (step.AfterPoint a i' d))))
       (entered is total found runs a i i' d rule e es (reverse old) ruled at alone same h)
 
   pub put_steps : (found : List Question) (runs : FinMap cell_cmp (List Run)) (s : Step) (us : List Use) (old steps : List Step) → us ≡ step_needs r c s → PutsOn r c us old steps → LeadsOn r c s found runs old found runs steps
@@ -219,7 +213,7 @@ module _ (r : Rulebase) (c : CaseView) where
   pub days_begin : (found : List Question) (runs : FinMap cell_cmp (List Run)) (e : Bor Expr) (es es' es'' : List InstanceId) (first end : ℕ) (old mid new : List Step) → first < end → es' ≡ es → es'' ≡ es → mid ≡ old ++ step.AfterDay e es'' first end ∷ [] → new ≡ mid ++ step.Part e es' first ∷ []
       → LeadsOn r c (step.Days e es first end) found runs old found runs new
   days_begin found runs e es es' es'' first end old mid new lt same same' f g total h =
-      subst (IsOnTheWay r c total found runs) (sym (ap reverse g ∙ reversed mid (step.Part e es' first) ∙ ap (λ xs. step.Part e es' first ∷ reverse xs) f ∙ ap (λ xs. step.Part e es' first ∷ xs) (reversed old (step.AfterDay e es'' first end))))
+      subst (IsOnTheWay r c total found runs) (sym (ap reverse g ∙ reverse_push mid (step.Part e es' first) ∙ ap (λ xs. step.Part e es' first ∷ reverse xs) f ∙ ap (λ xs. step.Part e es' first ∷ xs) (reverse_push old (step.AfterDay e es'' first end))))
       (first_day total found runs e es es' es'' first end (reverse old) lt same same' h)
 
   -- days on which the part is known are passed over
@@ -243,7 +237,7 @@ module _ (r : Rulebase) (c : CaseView) where
   pub days_go_on : (found : List Question) (runs : FinMap cell_cmp (List Run)) (e : Bor Expr) (es es' : List InstanceId) (d end until from : ℕ) (old new : List Step) → es' ≡ es → from ≡ max until (d + 1) → Settles r c found runs (part_needs r c e.now es) d until
       → new ≡ old ++ step.Days e es' from end ∷ [] → LeadsOn r c (step.AfterDay e es d end) found runs old found runs new
   days_go_on found runs e es es' d end until from old new same at settled g total h =
-      subst (IsOnTheWay r c total found runs) (sym (ap reverse g ∙ reversed old (step.Days e es' from end)))
+      subst (IsOnTheWay r c total found runs) (sym (ap reverse g ∙ reverse_push old (step.Days e es' from end)))
       (next_day total found runs e es es' d end until from (reverse old) same (at ∙ (let turned : max until (d + 1) ≡ max (d + 1) until = omega arith in turned)) (settled h.found_on h.sound.0) h)
 
   -- a run more of a point

@@ -3,6 +3,7 @@ use Rattle.std.proofs.Common.{◌≡◌, ℕ, zero, suc, ◌+◌, ◌<◌, ◌�
 use Rattle.std.specs.Prelude.{flat_map, Result, IfOk}
 use Rattle.std.specs.FinMap.{FinMap}
 use Rattle.std.proofs.lemmas.List.{append-nil, take_all}
+use Rattle.opa_io.proofs.Results.{if_ok_then}
 use Rattle.opa_value.specs.declared.value.Value.{Value}
 use Rattle.opa_value.specs.declared.value.Value.TheVariants.{Unknown, Bool as Truth}
 use Rattle.opa_value.specs.Truth.{is_true, is_false, is_unknown}
@@ -31,7 +32,6 @@ use Rattle.opa_need.specs.Finding.{AreFound}
 use Rattle.opa_need.specs.Steps.{AreRuns, IsSettled, Settles, HasUntil, tree_needs, part_needs, part_value, member_needs, quantifier_needs, span_needs, rows_needs}
 use Rattle.opa_need.specs.declared.runs.Run.{Run}
 use Rattle.opa_need.proofs.OpeningLaws.{member_single}
-use Rattle.opa_need.proofs.Pursuing.{ok_weaker}
 use Rattle.opa_need.proofs.Settling.{settled_both, settled_steady, settled_while, settles_alike, settles_as, settles_always, settles_nothing}
 
 -- a list that begins with one of two, or two of three
@@ -193,7 +193,7 @@ module _ (r : Rulebase) (c : CaseView) where
     pub table_settles : {E : Type 0} (o : Result ℕ E) (e : Expr) (rows rows' : List Row) (x y z : Expr) (es : List InstanceId) (d after : ℕ) → e ≡ V.Table rows x → rows' ≡ rows → y ≡ x → z ≡ x → Settles r c found runs (tree_needs r c y es) d after
         → IfOk o (λ until. Settles r c found runs (tree_needs r c z es) d after → Settles r c found runs (rows_needs r c rows' z es) d until) → IfOk o (Settles r c found runs (tree_needs r c e es) d)
     table_settles o e rows rows' x y z es d after is same last last' settles h = settles_alike r c o found runs (rows_needs r c rows' z es) (tree_needs r c e es) d (table_is e rows rows' x z es is same last')
-        (ok_weaker (λ until. Settles r c found runs (tree_needs r c z es) d after → Settles r c found runs (rows_needs r c rows' z es) d until) (Settles r c found runs (rows_needs r c rows' z es) d) o
+        (if_ok_then (λ until. Settles r c found runs (tree_needs r c z es) d after → Settles r c found runs (rows_needs r c rows' z es) d until) (Settles r c found runs (rows_needs r c rows' z es) d) o
         (λ until own. own (subst (λ w. Settles r c found runs (tree_needs r c w es) d after) (last ∙ sym last') settles)) h)
 
     -- all are gone through

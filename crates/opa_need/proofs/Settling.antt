@@ -3,6 +3,7 @@ use Rattle.std.proofs.Common.{◌≡◌, ℕ, zero, suc, ◌+◌, ◌-◌, ◌<�
 use Rattle.std.specs.Prelude.{flat_map, nat_lt, Result, IfOk}
 use Rattle.std.specs.FinMap.{FinMap}
 use Rattle.std.proofs.lemmas.Bool.{ltb-true, ltb-false}
+use Rattle.opa_io.proofs.Results.{if_ok_then}
 use Rattle.opa_value.specs.declared.value.Value.{Value}
 use Rattle.opa_value.specs.Truth.{is_unknown}
 use Rattle.opa_model.specs.declared.ids.AttrId.{AttrId}
@@ -28,7 +29,7 @@ use Rattle.opa_need.specs.declared.runs.Run.{Run}
 use Rattle.opa_cells.specs.Keys.{cell_cmp}
 use Rattle.opa_mean.proofs.NeedsLaws as law
 use Rattle.opa_need.proofs.OpeningLaws.{flat_more}
-use Rattle.opa_need.proofs.Pursuing.{unruled, ok_weaker}
+use Rattle.opa_need.proofs.Pursuing.{unruled}
 
 -- the same needs are settled alike
 pub settled_as : (f g : ℕ → List Use) (found : List Question) (d until : ℕ) → ((k : ℕ) → f k ≡ g k) → IsSettled f found d until → IsSettled g found d until
@@ -129,7 +130,7 @@ module _ (r : Rulebase) (c : CaseView) where
   settles_as found runs f g d until same own right there = settled_as f g found d until same (own right (subst (AreFound found) (sym (same d)) there))
 
   pub settles_alike : {E : Type 0} (o : Result ℕ E) (found : List Question) (runs : FinMap cell_cmp (List Run)) (f g : ℕ → List Use) (d : ℕ) → ((k : ℕ) → f k ≡ g k) → IfOk o (Settles r c found runs f d) → IfOk o (Settles r c found runs g d)
-  settles_alike o found runs f g d same h = ok_weaker (Settles r c found runs f d) (Settles r c found runs g d) o (λ until own. settles_as found runs f g d until same own) h
+  settles_alike o found runs f g d same h = if_ok_then (Settles r c found runs f d) (Settles r c found runs g d) o (λ until own. settles_as found runs f g d until same own) h
 
   pub settles_nothing : (found : List Question) (runs : FinMap cell_cmp (List Run)) (f : ℕ → List Use) (d until : ℕ) → ((k : ℕ) → f k ≡ []) → Settles r c found runs f d until
   settles_nothing found runs f d until none right there = settled_none f found d until none
@@ -149,7 +150,7 @@ module _ (r : Rulebase) (c : CaseView) where
   pub open_settles : {E : Type 0} (o : Result ℕ E) (found : List Question) (runs : FinMap cell_cmp (List Run)) (e : Expr) (es : List InstanceId) (d until : ℕ) (v : Value) → HasUntil r c e es d until v → d < until → is_unknown v ≡ true
       → IfOk o (Settles r c found runs (tree_needs r c e es) d) → IfOk o (Settles r c found runs (part_needs r c e es) d)
   open_settles o found runs e es d until v stays lt un h =
-      ok_weaker (Settles r c found runs (tree_needs r c e es) d) (Settles r c found runs (part_needs r c e es) d) o (λ own settles right there k low high. go k (is_unknown (part_value r c e es k)) (settles right (at_day there) k low high)) h
+      if_ok_then (Settles r c found runs (tree_needs r c e es) d) (Settles r c found runs (part_needs r c e es) d) o (λ own settles right there k low high. go k (is_unknown (part_value r c e es k)) (settles right (at_day there) k low high)) h
     where
       at_day : AreFound found (part_needs r c e es d) → AreFound found (tree_needs r c e es d)
       at_day there = subst (λ b. AreFound found (cond b (tree_needs r c e es d) [])) (ap is_unknown (stays d (omega arith) lt) ∙ un) there

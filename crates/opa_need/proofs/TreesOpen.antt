@@ -2,6 +2,7 @@
 use Rattle.std.proofs.Common.{◌≡◌, ℕ, ◌+◌, ◌-◌, Bool, List, [], ◌∷◌, Option, None, Some, Result, IfOk, sym, ◌∙◌, ap, subst}
 use Rattle.std.specs.Prelude.{flat_map}
 use Rattle.std.specs.List.{AllByRecursion}
+use Rattle.opa_io.proofs.Lists.{each_weaker}
 use Rattle.opa_value.specs.declared.value.Value.{Value}
 use Rattle.opa_model.specs.declared.ids.AttrId.{AttrId}
 use Rattle.opa_model.specs.declared.ids.RelId.{RelId}
@@ -24,7 +25,6 @@ use Rattle.opa_mean.specs.Rulebases.{IsOf}
 use Rattle.opa_mean.specs.Uses.{Use, at_place_uses}
 use Rattle.opa_mean.proofs.Chains.{place_live}
 use Rattle.opa_mean.proofs.Completing.{above_live}
-use Rattle.opa_mean.proofs.Everywhere.{all_weaker}
 use Rattle.opa_mean.proofs.Fitting.{live_in, in_live}
 use Rattle.opa_mean.proofs.LawsOver.{facts}
 use Rattle.opa_mean.specs.Mean.{IsLive as IsLiveIn}
@@ -41,13 +41,13 @@ module _ (r : Rulebase) (c : CaseView) where
   -- a place is live
   pub placed_live : IsOf r c → (enclosing : List InstanceId) → AllByRecursion (IsLive c) enclosing → (e : ℕ) (i : InstanceId) → Some i ≡ place (container_of c.live) enclosing e → IsLive c i
   placed_live is enclosing live e i h =
-      in_live c i (place_live (facts_of c).container (IsLiveIn (facts_of c)) (above_live (shape_of r.model) (facts_of c) (facts r c is)) enclosing (all_weaker (IsLive c) (IsLiveIn (facts_of c)) (λ i h. live_in c i h) enclosing live) e i (sym h))
+      in_live c i (place_live (facts_of c).container (IsLiveIn (facts_of c)) (above_live (shape_of r.model) (facts_of c) (facts r c is)) enclosing (each_weaker (IsLive c) (IsLiveIn (facts_of c)) (λ i h. live_in c i h) enclosing live) e i (sym h))
 
   -- what is listed is live
   pub listed_live : IsOf r c → (rel : RelId) (i : InstanceId) (names names' : List (List ℕ)) (t : ℕ) → Some names ≡ list_of c rel i → names' ≡ names → t ≡ (shape_of r.model).target rel → AllByRecursion (λ n. IsLive c (named t n)) names'
   listed_live is rel i names names' t e f g =
       subst (λ ns. AllByRecursion (λ n. IsLive c (named t n)) ns) (sym f) (subst (λ t. AllByRecursion (λ n. IsLive c (named t n)) names) (sym g)
-      (all_weaker (λ n. IsLiveIn (facts_of c) (named ((shape_of r.model).target rel) n)) (λ n. IsLive c (named ((shape_of r.model).target rel) n)) (λ n h. in_live c (named ((shape_of r.model).target rel) n) h) names ((facts r c is).listed rel i names (sym e))))
+      (each_weaker (λ n. IsLiveIn (facts_of c) (named ((shape_of r.model).target rel) n)) (λ n. IsLive c (named ((shape_of r.model).target rel) n)) (λ n h. in_live c (named ((shape_of r.model).target rel) n) h) names ((facts r c is).listed rel i names (sym e))))
 
   module _ (enclosing : List InstanceId) (d : ℕ) (e : Expr) where
     along : {E : Type 0} (o : Result (List Step) E) (us vs : List Use) → us ≡ vs → IfOk o (StandFor r c us) → IfOk o (StandFor r c vs)

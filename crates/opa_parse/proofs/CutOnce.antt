@@ -1,6 +1,7 @@
 -- A text is cut in one way, and a line of a block is one line.
-use Rattle.std.proofs.Common.{◌≡◌, ℕ, ◌-◌, List, [], ◌∷◌, ◌++◌, length, Bool, true, false, Option, Some, None, refl, sym, ap, subst, ◌∙◌}
+use Rattle.std.proofs.Common.{◌≡◌, ℕ, ◌-◌, List, [], ◌∷◌, ◌++◌, length, true, false, Option, Some, None, refl, sym, ap, subst, ◌∙◌}
 use Rattle.std.specs.Str.{chars}
+use Rattle.opa_io.proofs.Bools.{never_both}
 use Rattle.opa_words.specs.declared.kinds.TokenKind.{TokenKind}
 use Rattle.opa_words.specs.Characters.{width, is_blank}
 use Rattle.opa_words.specs.Kinds.{IsLongest, BeginsNone}
@@ -23,26 +24,23 @@ pub ruleset cut_laws = (one_cut_holds, cut_or_stuck_holds)
 
 -- ---- one place at which no token begins
 
-apart : (b : Bool) → b ≡ true → b ≡ false → ⊥
-apart b p q = let e : true ≡ false = sym p ∙ q in absurd (cc e)
-
 module _ (total : ℕ) where
   abbrev At : List ℕ → ℕ → Type 0
   At cs p = (q : ℕ) → Stuck total cs q → p ≡ q
 
   here_at : (x : ℕ) (cs : List ℕ) → is_blank x ≡ false → BeginsNone (x ∷ cs) → At (x ∷ cs) (total - width (x ∷ cs))
   here_at x cs b none q (c.Stuck.here b' is) = refl
-  here_at x cs b none q (c.Stuck.blank b' d) = absurd (apart (is_blank x) b' b)
+  here_at x cs b none q (c.Stuck.blank b' d) = absurd (never_both (is_blank x) b' b)
   here_at x cs b none q (c.Stuck.cut k rest b' is d) = absurd (none k is.front rest is.split is.token)
 
   blank_at : (x : ℕ) (cs : List ℕ) (p : ℕ) → is_blank x ≡ true → At cs p → At (x ∷ cs) p
-  blank_at x cs p b at q (c.Stuck.here b' is) = absurd (apart (is_blank x) b b')
+  blank_at x cs p b at q (c.Stuck.here b' is) = absurd (never_both (is_blank x) b b')
   blank_at x cs p b at q (c.Stuck.blank b' d) = at q d
-  blank_at x cs p b at q (c.Stuck.cut k rest b' is d) = absurd (apart (is_blank x) b b')
+  blank_at x cs p b at q (c.Stuck.cut k rest b' is d) = absurd (never_both (is_blank x) b b')
 
   cut_at : (x : ℕ) (cs : List ℕ) (p : ℕ) (k : TokenKind) (rest : List ℕ) → is_blank x ≡ false → IsLongest (x ∷ cs) k rest → At rest p → At (x ∷ cs) p
   cut_at x cs p k rest b is at q (c.Stuck.here b' none) = absurd (none k is.front rest is.split is.token)
-  cut_at x cs p k rest b is at q (c.Stuck.blank b' d) = absurd (apart (is_blank x) b' b)
+  cut_at x cs p k rest b is at q (c.Stuck.blank b' d) = absurd (never_both (is_blank x) b' b)
   cut_at x cs p k rest b is at q (c.Stuck.cut l left b' is' d) = at q (subst (λ r. Stuck total r q) (sym (one_longest_holds (x ∷ cs) k l rest left is is').1) d)
 
   pub one_place : {cs : List ℕ} {p : ℕ} → Stuck total cs p → At cs p

@@ -1,5 +1,6 @@
 -- The tree that a group says has its form, and isn't too deep.
-use Rattle.std.proofs.Common.{◌≡◌, ℕ, ◌+◌, ◌≤◌, min, max, nat_le, List, [], ◌∷◌, ◌++◌, length, map, Bool, true, false, ◌&&◌, if◌then◌else◌, Option, Some, None, slice_get, option_map, refl, sym, ap, subst, ◌∙◌, arith}
+use Rattle.std.proofs.Common.{◌≡◌, ℕ, ◌+◌, ◌≤◌, min, max, nat_le, List, [], ◌∷◌, ◌++◌, length, map, Bool, true, false, ◌&&◌, if◌then◌else◌, Option, Some, None, slice_get, option_map, refl, sym, ap, subst, ◌∙◌, arith, leb-true}
+use Rattle.std.proofs.lemmas.Bool.{and_from}
 use Rattle.opa_model.specs.declared.ids.RelId.{RelId}
 use Rattle.opa_tree.specs.declared.kinds.Quant.{Quant}
 use Rattle.opa_tree.specs.declared.kinds.Quant.TheVariants as quant
@@ -11,6 +12,7 @@ use Rattle.opa_tree.proofs.DepthLaws.{depth-All, depth-Any, depth-Not, depth-Ove
 use Rattle.opa_tree.proofs.FormLaws.{row_has_form, form-of_row, form-Table}
 use Rattle.opa_sentence.specs.declared.measure.Measure.{Measure}
 use Rattle.opa_io.specs.declared.limits.TheConstants.{MOST_DEPTH, MOST_NODES, MOST_NESTING}
+use Rattle.opa_io.proofs.Bools.{and_first, and_second}
 use Rattle.opa_sentence.specs.declared.names.Names.{Names}
 use Rattle.opa_sentence.specs.declared.names.Member.{Member}
 use Rattle.opa_sentence.specs.declared.names.Relation.{Relation}
@@ -24,7 +26,7 @@ use Rattle.opa_sentence.specs.Readings as says
 use Rattle.opa_sentence.specs.Readings.{with_tree}
 use Rattle.opa_sentence.specs.Grammar.{Part, LINE}
 use Rattle.opa_sentence.specs.Spelling.{IsSpelling}
-use Rattle.opa_sentence.proofs.MeasureLaws.{is_measured_holds}
+use Rattle.opa_sentence.proofs.MeasureLaws.{is_measured_holds, deepest_last}
 use Rattle.opa_parse.specs.declared.group.Cases.{Cases}
 use Rattle.opa_parse.specs.declared.group.Group.{Group}
 use Rattle.opa_parse.specs.declared.group.Joint.{Joint}
@@ -37,25 +39,14 @@ use Rattle.opa_parse.specs.declared.line.Line.{Line}
 use Rattle.opa_parse.specs.Groups as g
 use Rattle.opa_parse.specs.Groups.{Item, Grouped, More, Case, MoreCases, AllCases}
 use Rattle.opa_parse.specs.Sayings.{of_line, head_reading, joined, row_of, with_row, row_measure, cases_measure, with_case, table_of, table_measure, tabled}
-use Rattle.opa_parse.proofs.LineForms.{both, below, Form, OfForm, KeepsForm, formed, formed_last, length_last, all_form, any_form, listed_form, not_form, MemberForm, MembersForm, AreReal, form_of}
+use Rattle.opa_parse.proofs.LineForms.{below, Form, OfForm, KeepsForm, formed, formed_last, length_last, all_form, any_form, listed_form, not_form, MemberForm, MembersForm, AreReal, form_of}
 
 -- ---- measures that fit
 
-and_right : (a b : Bool) → (a && b) ≡ true → b ≡ true
-and_right true b h = h
-and_right false b h = absurd (cc h)
-
-and_left : (a b : Bool) → (a && b) ≡ true → a ≡ true
-and_left true b h = refl
-and_left false b h = absurd (cc h)
-
-within : (m k : ℕ) → nat_le m k ≡ true → m ≤ k
-within m k h = grind (arith, h)
-
 pub fits_deep : (m : Measure) → fits m ≡ true → m.depth ≤ 64
 fits_deep m h =
-    let r = and_right (m.named && m.short) (nat_le m.depth MOST_DEPTH && (nat_le m.nodes MOST_NODES && nat_le m.nesting MOST_NESTING)) h in
-    within m.depth MOST_DEPTH (and_left (nat_le m.depth MOST_DEPTH) (nat_le m.nodes MOST_NODES && nat_le m.nesting MOST_NESTING) r)
+    let r = and_second (m.named && m.short) (nat_le m.depth MOST_DEPTH && (nat_le m.nodes MOST_NODES && nat_le m.nesting MOST_NESTING)) h in
+    leb-true m.depth MOST_DEPTH (and_first (nat_le m.depth MOST_DEPTH) (nat_le m.nodes MOST_NODES && nat_le m.nesting MOST_NESTING) r)
 
 -- ---- a tree, and trees beside one another
 
@@ -69,10 +60,6 @@ Sound r = SoundAt r.measure r.tree
 abbrev pub SoundAll : ℕ → Measure → Option (List Expr) → Type 0
 SoundAll n m None = Unit {0}
 SoundAll n m (Some es) = (length es ≡ n) × (formed es ≡ true) × (highest (map depth es) ≤ m.depth)
-
-deepest_last : (es : List Expr) (e : Expr) → highest (map depth (es ++ e ∷ [])) ≡ max (highest (map depth es)) (depth e)
-deepest_last [] e = omega arith
-deepest_last (x ∷ es) e = omega (arith, deepest_last es e)
 
 -- ---- lines
 
@@ -212,15 +199,15 @@ SoundRows m None = Unit {0}
 SoundRows m (Some rows) = (rows_formed rows ≡ true) × (highest (map row_depth rows) ≤ m.depth)
 
 rows_last : (rows : List Row) (r : Row) → rows_formed rows ≡ true → row_has_form r false ≡ true → rows_formed (rows ++ r ∷ []) ≡ true
-rows_last [] r h k = both (row_has_form r false) true k refl
-rows_last (x ∷ rows) r h k = both (row_has_form x false) (rows_formed (rows ++ r ∷ [])) (and_left (row_has_form x false) (rows_formed rows) h) (rows_last rows r (and_right (row_has_form x false) (rows_formed rows) h) k)
+rows_last [] r h k = and_from (row_has_form r false) true k refl
+rows_last (x ∷ rows) r h k = and_from (row_has_form x false) (rows_formed (rows ++ r ∷ [])) (and_first (row_has_form x false) (rows_formed rows) h) (rows_last rows r (and_second (row_has_form x false) (rows_formed rows) h) k)
 
 deepest_row : (rows : List Row) (r : Row) → highest (map row_depth (rows ++ r ∷ [])) ≡ max (highest (map row_depth rows)) (row_depth r)
 deepest_row [] r = omega arith
 deepest_row (x ∷ rows) r = omega (arith, deepest_row rows r)
 
 row_form : (c v : Expr) → has_form c false ≡ true → has_form v false ≡ true → row_has_form (row_of c v) false ≡ true
-row_form c v h k = below false _ _ (form-of_row (row_of c v)) (both (has_form c false) (has_form v false) h k)
+row_form c v h k = below false _ _ (form-of_row (row_of c v)) (and_from (has_form c false) (has_form v false) h k)
 
 case_sound : (sm cm vm : Measure) (rows : Option (List Row)) (c v : Option Expr) (k : Bool) → fits (capped (beside sm (row_measure cm vm))) ≡ k → SoundRows sm rows → SoundAt cm c → SoundAt vm v
     → SoundRows (capped (beside sm (row_measure cm vm))) (if k then with_row rows c v else None)
@@ -241,7 +228,7 @@ table_sound sm vm None v true h s q = tt
 table_sound sm vm (Some rows) None true h s q = tt
 table_sound sm vm (Some rows) (Some v) true h s q =
     let fit = fits_deep (capped (above (capped (beside sm vm)))) h in
-    (below true _ _ (form-Table rows v) (both (rows_formed rows) (has_form v false) s.0 (q.0 false)), omega (arith, fit, depth-Table rows v, s.1, q.1))
+    (below true _ _ (form-Table rows v) (and_from (rows_formed rows) (has_form v false) s.0 (q.0 false)), omega (arith, fit, depth-Table rows v, s.1, q.1))
 
 abbrev pub SoundSaid : Said → Type 0
 SoundSaid s = SoundTop s.reading.measure s.reading.tree

@@ -1,5 +1,5 @@
 -- What the table of groups reads is spelled by the grammar.
-use Rattle.std.proofs.Common.{◌≡◌, ◌⊎◌, inl, inr, ℕ, ◌+◌, List, [], ◌∷◌, Bool, true, false, ◌==◌, Option, Some, None, if◌then◌else◌, nat_lt, refl, sym, subst, arith}
+use Rattle.std.proofs.Common.{◌≡◌, ◌⊎◌, inl, inr, ℕ, ◌+◌, List, [], ◌∷◌, Bool, true, false, ◌==◌, Option, Some, None, if◌then◌else◌, nat_lt, refl, sym, subst, eqb-true}
 use Rattle.opa_sentence.specs.declared.names.Names.{Names}
 use Rattle.opa_sentence.specs.declared.reading.Reading.{Reading}
 use Rattle.opa_sentence.specs.Moves.{fail, done, next, call, stops, moves, goes}
@@ -22,9 +22,6 @@ use Rattle.opa_parse.specs.Groups.{is_deeper, is_above, written, Item, Grouped, 
 use Rattle.opa_parse.specs.Groups as g
 use Rattle.opa_parse.specs.GroupTable.{Step, Reads, items, ended, extended, go_on, after_line, line_item, head_item, item, connector, after_group, case_line, last_line, production, resume}
 use Rattle.opa_parse.specs.Sayings.{of_line, headed, takes, one_item, with_item, single, several, no_cases, tabled}
-
-level_is : (m n : ℕ) → (m == n) ≡ true → m ≡ n
-level_is m n p = grind (arith, p)
 
 module _ (ns : Names) where
   -- items from a front on are a group
@@ -120,8 +117,8 @@ module _ (ns : Names) where
 
   item_branches : (i : Items) (l : Line) (ls : List Line) (a b : Bool) → (l.level == i.level) ≡ a → is_deeper i.level ls ≡ b → Explains (sort.Item i) (l ∷ ls) (if a then (if b then head_item i l l.ending l.head ls else line_item i l l.says ls) else fail)
   item_branches i l ls false b p q = tt
-  item_branches i l ls true true p q = head_explains i l ls l.ending l.head (level_is l.level i.level p) refl refl
-  item_branches i l ls true false p q = line_item_explains i l ls l.says (level_is l.level i.level p) q refl
+  item_branches i l ls true true p q = head_explains i l ls l.ending l.head (eqb-true l.level i.level p) refl refl
+  item_branches i l ls true false p q = line_item_explains i l ls l.says (eqb-true l.level i.level p) q refl
 
   item_explains : (i : Items) (ls : List Line) → Explains (sort.Item i) ls (item i ls)
   item_explains i [] = tt
@@ -145,7 +142,7 @@ module _ (ns : Names) where
   after_branches i s l ls true b c p q r = inl (p, refl, refl)
   after_branches i s l ls false false c p q r = tt
   after_branches i s l ls false true false p q r = tt
-  after_branches i s l ls false true true p q r = connector_explains i s l.ending l ls (level_is l.level i.level q) r refl
+  after_branches i s l ls false true true p q r = connector_explains i s l.ending l ls (eqb-true l.level i.level q) r refl
 
   after_explains : (i : Items) (s : Said) (ls : List Line) → Explains (sort.After i s) ls (after_group i s ls)
   after_explains i s [] = inl (refl, refl, refl)
@@ -180,11 +177,11 @@ module _ (ns : Names) where
 
   next_branches : (cs : Cases) (l : Line) (ls : List Line) (a : Bool) → (l.level == 1) ≡ a → Explains (sort.Case cs) (l ∷ ls) (if a then last_line cs l l.ending l.says ls else fail)
   next_branches cs l ls false p = tt
-  next_branches cs l ls true p = last_explains cs l ls l.ending l.says (level_is l.level 1 p) refl refl
+  next_branches cs l ls true p = last_explains cs l ls l.ending l.says (eqb-true l.level 1 p) refl refl
 
   first_branches : (l : Line) (ls : List Line) (a : Bool) → (l.level == 1) ≡ a → Explains sort.FirstCase (l ∷ ls) (if a then case_line no_cases l l.ending l.says ls else fail)
   first_branches l ls false p = tt
-  first_branches l ls true p = first_explains l ls l.ending l.says (level_is l.level 1 p) refl refl
+  first_branches l ls true p = first_explains l ls l.ending l.says (eqb-true l.level 1 p) refl refl
 
   -- ---- all sorts
 

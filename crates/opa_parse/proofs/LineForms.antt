@@ -30,6 +30,7 @@ use Rattle.opa_sentence.specs.declared.reading.Arguments.{Arguments}
 use Rattle.opa_sentence.specs.Functions.{argument_at, function_named}
 use Rattle.std.specs.Prelude.{codes}
 use Rattle.std.specs.Str.{bytes_eq}
+use Rattle.std.proofs.lemmas.Bool.{and_from}
 use Rattle.opa_words.specs.declared.kinds.Token.{Token}
 use Rattle.opa_words.specs.declared.kinds.TokenKind.{TokenKind}
 use Rattle.opa_words.specs.declared.kinds.TokenKind.TheVariants as kind
@@ -50,9 +51,6 @@ use Rattle.opa_parse.proofs.CallLines.{lines_before, lines_in, step, complete, n
 
 -- ---- tests
 
-pub both : (a b : Bool) → a ≡ true → b ≡ true → (a && b) ≡ true
-both a b p q = ap (λ x. x && b) p ∙ q
-
 -- ---- trees and lists of trees
 
 -- a tree has its form at the top of a rule and below, where there is one
@@ -69,8 +67,8 @@ Forms n None = Unit {0}
 Forms n (Some es) = (length es ≡ n) × (formed es ≡ true)
 
 pub formed_last : (es : List Expr) (e : Expr) → formed es ≡ true → has_form e false ≡ true → formed (es ++ e ∷ []) ≡ true
-formed_last [] e h k = both (has_form e false) true k refl
-formed_last (x ∷ es) e h k = both (has_form x false) (formed (es ++ e ∷ [])) (left (has_form x false) (formed es) h) (formed_last es e (right (has_form x false) (formed es) h) k)
+formed_last [] e h k = and_from (has_form e false) true k refl
+formed_last (x ∷ es) e h k = and_from (has_form x false) (formed (es ++ e ∷ [])) (left (has_form x false) (formed es) h) (formed_last es e (right (has_form x false) (formed es) h) k)
   where
     left : (a b : Bool) → (a && b) ≡ true → a ≡ true
     left true b p = refl
@@ -104,19 +102,19 @@ many : (n : ℕ) → 2 ≤ n → nat_le 2 n ≡ true
 many n h = grind (arith, h)
 
 pub all_form : (n : ℕ) → 2 ≤ n → OfForm n (λ es. expr.All es)
-all_form n h es e k top = below top _ _ (form-All es) (both (nat_le 2 (length (map has_form es))) (formed es) (ap (nat_le 2) (length-map es has_form ∙ e) ∙ many n h) k)
+all_form n h es e k top = below top _ _ (form-All es) (and_from (nat_le 2 (length (map has_form es))) (formed es) (ap (nat_le 2) (length-map es has_form ∙ e) ∙ many n h) k)
 
 pub any_form : (n : ℕ) → 2 ≤ n → OfForm n (λ es. expr.Any es)
-any_form n h es e k top = below top _ _ (form-Any es) (both (nat_le 2 (length (map has_form es))) (formed es) (ap (nat_le 2) (length-map es has_form ∙ e) ∙ many n h) k)
+any_form n h es e k top = below top _ _ (form-Any es) (and_from (nat_le 2 (length (map has_form es))) (formed es) (ap (nat_le 2) (length-map es has_form ∙ e) ∙ many n h) k)
 
 pub op_form : (o : OpKind) → OfForm (op_arity o) (λ es. expr.Op o es)
-op_form o es e k top = below top _ _ (form-Op o es) (both (length (map has_form es) == op_arity o) (formed es) (eq-eqb (length (map has_form es)) (op_arity o) (length-map es has_form ∙ e)) k)
+op_form o es e k top = below top _ _ (form-Op o es) (and_from (length (map has_form es) == op_arity o) (formed es) (eq-eqb (length (map has_form es)) (op_arity o) (length-map es has_form ∙ e)) k)
 
 pub listed_form : (q : Quant) (r : RelId) → OfForm (quant_arity q) (λ es. expr.Over q r es)
-listed_form q r es e k top = below top _ _ (form-Over q r es) (both (length (map has_form es) == quant_arity q) (formed es) (eq-eqb (length (map has_form es)) (quant_arity q) (length-map es has_form ∙ e)) k)
+listed_form q r es e k top = below top _ _ (form-Over q r es) (and_from (length (map has_form es) == quant_arity q) (formed es) (eq-eqb (length (map has_form es)) (quant_arity q) (length-map es has_form ∙ e)) k)
 
 window_form : (w : WinKind) → OfForm (window_arity w) (λ es. expr.Window w es)
-window_form w es e k top = below top _ _ (form-Window w es) (both (length (map has_form es) == window_arity w) (formed es) (eq-eqb (length (map has_form es)) (window_arity w) (length-map es has_form ∙ e)) k)
+window_form w es e k top = below top _ _ (form-Window w es) (and_from (length (map has_form es) == window_arity w) (formed es) (eq-eqb (length (map has_form es)) (window_arity w) (length-map es has_form ∙ e)) k)
 
 pub not_form : KeepsForm (λ e. expr.Not e)
 not_form e h top = below top _ _ (form-Not e) (h false)
@@ -144,7 +142,7 @@ days_within None = refl
 days_within (Some n) = days_of_count_within n
 
 rolling_form : (always : Bool) (n : Option ℤ) → KeepsForm (λ e. expr.Rolling always (days n) e)
-rolling_form always n e h top = below top _ _ (form-Rolling always (days n) e) (both (nat_le (days n) 36600) (has_form e false) (days_within n) (h false))
+rolling_form always n e h top = below top _ _ (form-Rolling always (days n) e) (and_from (nat_le (days n) 36600) (has_form e false) (days_within n) (h false))
 
 module _ (b : Bounds) where
   kept_form : (m : Measure) (t : Option Expr) → Form t → Form (kept b m t)

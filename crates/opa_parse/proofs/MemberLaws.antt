@@ -1,9 +1,8 @@
 -- Membership blocks are taken one after another.
-use Rattle.std.proofs.Common.{◌≡◌, ℕ, ◌+◌, min, List, [], ◌∷◌, ◌++◌, Bool, true, false, not, ◌||◌, nat_lt, length, if◌then◌else◌, Option, Some, None, refl, sym, ap, ap₂, subst, ◌∙◌, append_assoc, arith, rules}
+use Rattle.std.proofs.Common.{◌≡◌, ℕ, ◌+◌, min, List, [], ◌∷◌, ◌++◌, Bool, true, false, not, ◌||◌, nat_lt, length, if◌then◌else◌, Option, Some, None, refl, sym, ap, ap₂, subst, ◌∙◌, append_assoc, arith}
 use Rattle.std.specs.Prelude.{is_none}
 use Rattle.std.specs.Str.{bytes_eq}
 use Rattle.std.proofs.lemmas.List.{append-nil}
-use Rattle.std.proofs.lemmas.Slice.Eq.{bytes_eq-Decides}
 use Rattle.opa_model.specs.declared.lists.Lists.{Lists}
 use Rattle.opa_model.specs.Phrases.{is_declared, Declares}
 use Rattle.opa_layout.specs.declared.block.Block.{Block}
@@ -18,6 +17,8 @@ use Rattle.opa_parse.specs.declared.block.BlockSort.TheVariants as block_sort
 use Rattle.opa_parse.specs.declared.block.MemberBlock.{MemberBlock}
 use Rattle.opa_parse.specs.declared.block.Membership.{Membership}
 use Rattle.opa_io.specs.declared.limits.TheConstants.{MOST_PHRASE}
+use Rattle.opa_io.proofs.Characters.{same_bytes}
+use Rattle.opa_io.proofs.Bools.{not_twice}
 use Rattle.opa_parse.specs.declared.members.Gathered.{Gathered}
 use Rattle.opa_parse.specs.RuleFaults.{fault_at, when, marked}
 use Rattle.opa_parse.specs.Rules.{IsPassed}
@@ -25,7 +26,7 @@ use Rattle.opa_parse.specs.MemberFaults.{is_taken, membership_faults, spelled_fa
 use Rattle.opa_parse.specs.Memberships as x
 use Rattle.opa_parse.specs.Memberships.{IsMemberBlock, AreMemberBlocks, inferred_by, inferred_in, declared_texts, member_faults, names_alone, AreInferences, AreRefused}
 use Rattle.opa_parse.specs.MemberRuns.{nodes_in, phrases_in, AreSame, IsGathered, Gathers, Goes, IsRun, GathersAll}
-use Rattle.opa_parse.proofs.RuleLaws.{no_faults, none_before, passes_same}
+use Rattle.opa_parse.proofs.RuleLaws.{no_faults, none_before, passes_same, next_number}
 
 pub nothing_more : (xs : List Inferred) → xs ++ [] ≡ xs
 nothing_more xs = append-nil xs
@@ -40,14 +41,8 @@ taken_append (x ∷ xs) ys t = ap (λ b. bytes_eq t x || b) (taken_append xs ys 
     or_assoc true b c = refl
     or_assoc false b c = refl
 
-same_text : (t u : List ℕ) → bytes_eq t u ≡ true → t ≡ u
-same_text t u e = search (rules, bytes_eq-Decides t u, e)
-
 pub same_more : (xs ys zs : List (List ℕ)) → AreSame xs ys → AreSame (xs ++ zs) (ys ++ zs)
 same_more xs ys zs h t = taken_append xs zs t ∙ ap (λ b. b || is_taken zs t) (h t) ∙ sym (taken_append ys zs t)
-
-or_true : (a : Bool) → a ≡ true → (b : Bool) → a ≡ (a || b)
-or_true a e b = e ∙ ap (λ x. x || b) (sym e)
 
 or_same : (a b : Bool) → (b ≡ true → a ≡ true) → a ≡ (a || b)
 or_same true b h = refl
@@ -56,7 +51,7 @@ or_same false false h = refl
 
 declared_at : (old new : List (List ℕ)) (p : List ℕ) (b : Bool) → is_taken old p ≡ b → new ≡ (if b then old else old ++ p ∷ []) → AreSame new (old ++ p ∷ [])
 declared_at old new p true e is t =
-    ap (λ xs. is_taken xs t) is ∙ or_same (is_taken old t) (is_taken (p ∷ []) t) (λ h. ap (is_taken old) (same_text t p (one h)) ∙ e) ∙ sym (taken_append old (p ∷ []) t)
+    ap (λ xs. is_taken xs t) is ∙ or_same (is_taken old t) (is_taken (p ∷ []) t) (λ h. ap (is_taken old) (same_bytes t p (one h)) ∙ e) ∙ sym (taken_append old (p ∷ []) t)
   where
     one : is_taken (p ∷ []) t ≡ true → bytes_eq t p ≡ true
     one h = sym (or_false (bytes_eq t p)) ∙ h
@@ -68,10 +63,6 @@ declared_at old new p false e is t = ap (λ xs. is_taken xs t) is
 
 pub declared_same : (old new : List (List ℕ)) (p : List ℕ) (is_new : Bool) → Declares old new p is_new → AreSame new (old ++ p ∷ [])
 declared_same old new p is_new d = declared_at old new p (is_declared old p) refl d.new_is
-
-not_twice : (b : Bool) → not (not b) ≡ b
-not_twice true = refl
-not_twice false = refl
 
 pub was_taken : (old new : List (List ℕ)) (p : List ℕ) (is_new : Bool) → Declares old new p is_new → not is_new ≡ is_taken old p
 was_taken old new p is_new d = ap not d.is_new_is ∙ not_twice (is_taken old p)
@@ -138,9 +129,6 @@ pub record IsNext (b : MemberBlock) (t u : Gathered) : Type 0 where
   pub inferences_are : is_none u.first ≡ true → u.inferences ≡ t.inferences ++ inferred_by b.membership
   pub texts_are : AreSame u.texts (t.texts ++ phrase_by b.membership)
   pub nodes_are : u.nodes ≡ min (t.nodes + membership_nodes b.membership) (MOST_NODES + 1)
-
-next_number : (n k m x y z : ℕ) → x ≡ min n (m + 1) → y ≡ min (x + k) (m + 1) → z ≡ n + k → y ≡ min z (m + 1)
-next_number n k m x y z p q r = omega (arith, p, q, r)
 
 pub gathers : (b : MemberBlock) (t u : Gathered) → IsNext b t u → Gathers b t u
 gathers b t u n declared found h =

@@ -1,8 +1,7 @@
 -- Names, attribute by attribute and relation by relation.
-use Rattle.std.proofs.Common.{◌≡◌, ℕ, zero, suc, ◌+◌, List, [], ◌∷◌, ◌++◌, drop, length, map, flat_map, slice_get, Some, true, false, All, IfSome, refl, sym, ap, ◌∙◌, subst, append_assoc, arith}
+use Rattle.std.proofs.Common.{◌≡◌, ℕ, ◌+◌, List, [], ◌∷◌, ◌++◌, drop, length, map, flat_map, slice_get, Some, true, false, IfSome, refl, sym, ap, ◌∙◌, append_assoc}
 use Rattle.std.proofs.lemmas.List.{append-nil}
-use Rattle.std.proofs.lemmas.Option.{slice_get_within, get_or_from_slice_get}
-use Rattle.std.proofs.lemmas.List.Elements.{All-get_or}
+use Rattle.opa_io.proofs.Places.{All_at, drop_whole, drop_at}
 use Rattle.opa_model.specs.declared.lists.Lists.{Lists}
 use Rattle.opa_model.specs.declared.things.Attribute.{Attribute}
 use Rattle.opa_model.specs.declared.things.Relation.{Relation as Declared}
@@ -14,18 +13,6 @@ use Rattle.opa_model.specs.declared.ids.RelId.{RelId}
 use Rattle.opa_parse.specs.Naming.{operand, meanings_from, declared_from}
 use Rattle.opa_verbs.specs.Phrasing.{denials, texts_of}
 
-each : {X : Type 0} (P : X → Type 0) (xs : List X) (n : ℕ) (x : X) → slice_get xs n ≡ Some x → All P xs → P x
-each P xs n x at all = subst P (get_or_from_slice_get xs n x x at) (All-get_or P xs n x (slice_get_within xs n x at) all)
-
-drop_at : {X : Type 0} (xs : List X) (n : ℕ) (x : X) → slice_get xs n ≡ Some x → drop n xs ≡ x ∷ drop (n + 1) xs
-drop_at [] n x e = absurd (cc e)
-drop_at (y ∷ ys) zero x e = let f : y ≡ x = cc e in ap (λ z. z ∷ ys) f
-drop_at (y ∷ ys) (suc n) x e = drop_at ys n x e ∙ ap (λ k. x ∷ drop k (y ∷ ys)) (let f : suc (n + 1) ≡ suc n + 1 = omega arith in f)
-
-past_end : {X : Type 0} (xs : List X) → drop (length xs) xs ≡ []
-past_end [] = refl
-past_end (x ∷ xs) = past_end xs
-
 -- one more of what a list is made of
 one_more : {X Y : Type 0} (f : List X → List Y) (g : X → List Y) (xs : List X) (n : ℕ) (x : X) (old new all : List Y) → ((y : X) (ys : List X) → f (y ∷ ys) ≡ g y ++ f ys) → slice_get xs n ≡ Some x → new ≡ old ++ g x → old ++ f (drop n xs) ≡ all
     → new ++ f (drop (n + 1) xs) ≡ all
@@ -33,11 +20,11 @@ one_more f g xs n x old new all h at e inv =
     ap (λ y. y ++ f (drop (n + 1) xs)) e ∙ append_assoc old (g x) (f (drop (n + 1) xs)) ∙ ap (λ y. old ++ y) (sym (h x (drop (n + 1) xs))) ∙ ap (λ y. old ++ f y) (sym (drop_at xs n x at)) ∙ inv
 
 all_made : {X Y : Type 0} (f : List X → List Y) (xs : List X) (n : ℕ) (old all : List Y) → f [] ≡ [] → n ≡ length xs → old ++ f (drop n xs) ≡ all → old ≡ all
-all_made f xs n old all h e inv = sym (append-nil old) ∙ ap (λ y. old ++ y) (sym h) ∙ ap (λ y. old ++ f y) (sym (past_end xs)) ∙ ap (λ k. old ++ f (drop k xs)) (sym e) ∙ inv
+all_made f xs n old all h e inv = sym (append-nil old) ∙ ap (λ y. old ++ y) (sym h) ∙ ap (λ y. old ++ f y) (sym (drop_whole xs)) ∙ ap (λ k. old ++ f (drop k xs)) (sym e) ∙ inv
 
 module _ (m : Lists) where
   pub has_verb : (n : ℕ) (a : Attribute) → IsModel m → slice_get m.attributes n ≡ Some a → IfSome a.sentence (HasVerb m)
-  has_verb n a form at = each (λ x. IfSome x.sentence (HasVerb m)) m.attributes n a at form.in_range.verbs
+  has_verb n a form at = All_at (λ x. IfSome x.sentence (HasVerb m)) m.attributes n a at form.in_range.verbs
 
   pub more_texts : (n : ℕ) (a : Attribute) (old new all : List (List ℕ)) → slice_get m.attributes n ≡ Some a → new ≡ old ++ texts_of m a → old ++ flat_map (texts_of m) (drop n m.attributes) ≡ all → new ++ flat_map (texts_of m) (drop (n + 1) m.attributes) ≡ all
   more_texts n a old new all at e inv = one_more (flat_map (texts_of m)) (texts_of m) m.attributes n a old new all (λ y ys. refl) at e inv

@@ -105,7 +105,7 @@ pub record IsNext (b : RuleBlock) (t u : Taken) : Type 0 where
   pub count_is : u.count ≡ min (t.count + 1) (MOST_RULES + 1)
   pub nodes_are : u.nodes ≡ min (t.nodes + statement_nodes b.statement) (MOST_NODES + 1)
 
-next_number : (n k m x y z : ℕ) → x ≡ min n (m + 1) → y ≡ min (x + k) (m + 1) → z ≡ n + k → y ≡ min z (m + 1)
+pub next_number : (n k m x y z : ℕ) → x ≡ min n (m + 1) → y ≡ min (x + k) (m + 1) → z ≡ n + k → y ≡ min z (m + 1)
 next_number n k m x y z p q r = omega (arith, p, q, r)
 
 pub takes : (b : RuleBlock) (t u : Taken) → IsNext b t u → Takes b t u

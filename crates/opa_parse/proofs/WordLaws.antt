@@ -13,7 +13,7 @@ use Rattle.opa_model.specs.declared.lists.Lists.{Lists}
 use Rattle.opa_parse.specs.declared.block.Opening.TheVariants as opens
 use Rattle.opa_parse.specs.Openings.{begins_with_word, front_words, concluded, by_equals, opening_at, opening}
 
-ending_at : (ts : List Lexeme) (t : Lexeme) → ending_of (ts ++ t ∷ []) ≡ ending_word t.text
+pub ending_at : (ts : List Lexeme) (t : Lexeme) → ending_of (ts ++ t ∷ []) ≡ ending_word t.text
 ending_at [] t = refl
 ending_at (u ∷ []) t = refl
 ending_at (u ∷ v ∷ ts) t = ending_at (v ∷ ts) t

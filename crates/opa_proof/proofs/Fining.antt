@@ -1,6 +1,6 @@
 -- What rules conclude can be printed, where their constants and the answers can.
 use Rattle.std.proofs.Common.{◌≡◌, ℕ, zero, suc, ◌*◌, ◌%◌, ℤ, pos, ◌+ℤ◌, ◌-ℤ◌, ◌*ℤ◌, neg_ℤ, Bool, true, false, cond, List, [], ◌∷◌, ◌++◌, filter, map, length, Option, None, Some, refl, sym, ◌∙◌, ap, subst, arith}
-use Rattle.std.specs.Prelude.{nat_lt, nat_le, not, ◌&&◌, ◌||◌, unsigned_abs}
+use Rattle.std.specs.Prelude.{nat_lt, nat_le, not, ◌&&◌, unsigned_abs}
 use Rattle.std.specs.FinMap.{get}
 use Rattle.std.specs.List.{list_all, list_any, AllByRecursion}
 use Rattle.std.specs.Option.{option_map, option_and_then}
@@ -59,7 +59,7 @@ use Rattle.opa_mean.specs.Rulebases.{IsOf, value_at}
 use Rattle.opa_mean.proofs.Levels.{row_value, value-roll, row_value-is}
 use Rattle.opa_kinds.proofs.LawsHold.{values_have_kinds_holds}
 use Rattle.opa_case.specs.Clean.{is_clean_answer, is_clean_value}
-use Rattle.opa_spelled.proofs.Cleanness.{quoted_from}
+use Rattle.opa_spelled.proofs.Cleanness.{quoted_from, none_both}
 use Rattle.opa_proof.specs.Fine.{IsHeld, IsFine, AreFine, together, constants_step, constants_row, constants, IsPrintableBase, IsPrintableCase}
 
 -- ---- single values
@@ -131,14 +131,6 @@ round_fine m n h k = cond_fine (counts_decimals n) _ value.Uncertain (rounded_ra
 truth_fine : (o : Option Bool) → IsFine (truth o)
 truth_fine None = tt
 truth_fine (Some b) = tt
-
-none_both : (xs ys : List ℕ) → list_any is_control xs ≡ false → list_any is_control ys ≡ false → list_any is_control (xs ++ ys) ≡ false
-none_both [] ys h k = k
-none_both (x ∷ xs) ys h k = go (is_control x) h (λ e. none_both xs ys e k)
-  where
-    go : (b : Bool) → (b || list_any is_control xs) ≡ false → (list_any is_control xs ≡ false → list_any is_control (xs ++ ys) ≡ false) → (b || list_any is_control (xs ++ ys)) ≡ false
-    go true e f = absurd (cc e)
-    go false e f = f e
 
 quoted_both : (s t : List ℕ) → CanBeQuoted s → CanBeQuoted t → CanBeQuoted (s ++ t)
 quoted_both s t h k = record {

@@ -3,10 +3,12 @@ use Rattle.std.proofs.Common.{◌≡◌, ℕ, zero, suc, ◌+◌, ◌<◌, ◌�
 use Rattle.std.specs.Prelude.{◌&&◌, codes, position, slice_get, unwrap_or}
 use Rattle.std.specs.Option.{option_map, option_and_then}
 use Rattle.std.specs.Str.{bytes_eq}
-use Rattle.std.specs.Cmp.Lexicographic.{bytes_decides}
 use Rattle.std.specs.List.{AllByRecursion}
 use Rattle.std.specs.Fmt.{decimal}
 use Rattle.std.proofs.lemmas.Bool.{and_parts}
+use Rattle.std.proofs.lemmas.Option.{same_Some, cond_some}
+use Rattle.opa_io.proofs.Characters.{same_bytes}
+use Rattle.opa_io.proofs.Options.{cond_none_parts}
 use Rattle.opa_date.specs.declared.TheConstants.{DAYS}
 use Rattle.opa_date.specs.Texts.{day_text}
 use Rattle.opa_value.specs.declared.value.Value.{Value}
@@ -39,17 +41,11 @@ use Rattle.opa_spelled.specs.Dated.{IsDated}
 use Rattle.opa_spelled.specs.Printed.{name_part, spot_text, origin_text, days_text, numbered_line, lines_text, end_line, head_line}
 use Rattle.opa_proof.specs.Naming.{instance_for, is_printed_so, point_line, point_at, list_at, member_line, asked_point, named_point, named_members, named_member, named_line, AreNamed}
 
-some_same : {X : Type 0} (x y : X) → Some x ≡ Some y → x ≡ y
-some_same x y e = cc e
-
-bytes_same : (xs ys : List ℕ) → bytes_eq xs ys ≡ true → xs ≡ ys
-bytes_same xs ys h = (bytes_decides xs ys).0 h
-
 -- ---- what is looked up
 
 got : {X : Type 0} (f : X → List ℕ) (d : X) (xs : List X) (n : ℕ) (t : List ℕ) → slice_get (map f xs) n ≡ Some t → (f (unwrap_or (slice_get xs n) d) ≡ t) × (n < length xs)
 got f d [] n t e = absurd (cc e)
-got f d (x ∷ xs) zero t e = (some_same (f x) t e, omega arith)
+got f d (x ∷ xs) zero t e = (same_Some (f x) t e, omega arith)
 got f d (x ∷ xs) (suc n) t e = let rest = got f d xs n t e in (rest.0, omega (arith, rest.1))
 
 module _ (m : Lists) where
@@ -59,7 +55,7 @@ module _ (m : Lists) where
       go : (o : Option ℕ) → position (bytes_eq t) (attribute_phrases m) ≡ o → option_map (λ n. let x : AttrId = record { 0 = n } in x) o ≡ Some a → ((attribute_or m a).phrase ≡ t) × HasAttribute m a
       go None f g = absurd (cc g)
       go (Some n) f g =
-          subst (λ (x : AttrId). ((attribute_or m x).phrase ≡ t) × HasAttribute m x) (some_same (record { 0 = n }) a g)
+          subst (λ (x : AttrId). ((attribute_or m x).phrase ≡ t) × HasAttribute m x) (same_Some (record { 0 = n }) a g)
           (got (λ x. x.phrase) no_attribute m.attributes n t (position-found t (attribute_phrases m) (Some n) (sym f)))
 
   relation_is : (t : List ℕ) (r : RelId) → relation_named m t ≡ Some r → ((relation_or m r).phrase ≡ t) × HasRelation m r
@@ -68,7 +64,7 @@ module _ (m : Lists) where
       go : (o : Option ℕ) → position (bytes_eq t) (relation_phrases m) ≡ o → option_map (λ n. let x : RelId = record { 0 = n } in x) o ≡ Some r → ((relation_or m r).phrase ≡ t) × HasRelation m r
       go None f g = absurd (cc g)
       go (Some n) f g =
-          subst (λ (x : RelId). ((relation_or m x).phrase ≡ t) × HasRelation m x) (some_same (record { 0 = n }) r g)
+          subst (λ (x : RelId). ((relation_or m x).phrase ≡ t) × HasRelation m x) (same_Some (record { 0 = n }) r g)
           (got (λ x. x.phrase) no_relation m.relations n t (position-found t (relation_phrases m) (Some n) (sym f)))
 
 not_global : (e : ℕ) (n : List ℕ) → is_same (named (suc e) n) global ≡ false
@@ -80,10 +76,10 @@ not_global e n = go (is_same (named (suc e) n) global) refl
 
 -- the name of an instance is printed so
 part_is : (e : ℕ) (name : Option (List ℕ)) (i : InstanceId) → instance_for e name ≡ Some i → instance_part i ≡ name_part name
-part_is zero None i e = subst (λ (x : InstanceId). instance_part x ≡ []) (some_same global i e) (ap (λ b. cond b [] (codes " of " ++ quoted [])) (same_itself global))
+part_is zero None i e = subst (λ (x : InstanceId). instance_part x ≡ []) (same_Some global i e) (ap (λ b. cond b [] (codes " of " ++ quoted [])) (same_itself global))
 part_is zero (Some n) i e = absurd (cc e)
 part_is (suc k) None i e = absurd (cc e)
-part_is (suc k) (Some n) i e = subst (λ (x : InstanceId). instance_part x ≡ codes " of " ++ quoted n) (some_same (named (suc k) n) i e) (ap (λ b. cond b [] (codes " of " ++ quoted n)) (not_global k n))
+part_is (suc k) (Some n) i e = subst (λ (x : InstanceId). instance_part x ≡ codes " of " ++ quoted n) (same_Some (named (suc k) n) i e) (ap (λ b. cond b [] (codes " of " ++ quoted n)) (not_global k n))
 
 spot_is : (p : Spot) (phrase : List ℕ) (e : ℕ) (i : InstanceId) → phrase ≡ p.phrase → instance_for e p.name ≡ Some i → point_text phrase i ≡ spot_text p
 spot_is p phrase e i q f = ap (λ t. t ++ instance_part i) q ∙ ap (λ t. p.phrase ++ t) (part_is e p.name i f)
@@ -95,15 +91,7 @@ found_both f (Some x) y e = (x, (refl, e))
 
 found_map : {X Y : Type 0} (f : X → Y) (o : Option X) (y : Y) → option_map f o ≡ Some y → (x : X) × ((o ≡ Some x) × (f x ≡ y))
 found_map f None y e = absurd (cc e)
-found_map f (Some x) y e = (x, (refl, some_same (f x) y e))
-
-found_if : {X : Type 0} (b : Bool) (x y : X) → cond b (Some x) None ≡ Some y → (b ≡ true) × (x ≡ y)
-found_if true x y e = (refl, some_same x y e)
-found_if false x y e = absurd (cc e)
-
-found_when : {X : Type 0} (b : Bool) (o : Option X) (y : X) → cond b o None ≡ Some y → (b ≡ true) × (o ≡ Some y)
-found_when true o y e = (refl, e)
-found_when false o y e = absurd (cc e)
+found_map f (Some x) y e = (x, (refl, same_Some (f x) y e))
 
 -- the text of a line, and that it can be printed
 abbrev pub IsLine : Rulebase → Printed → ReportLine → Type 0
@@ -126,12 +114,12 @@ module _ (b : Rulebase) where
       let one = found_both (λ x. point_line b x.0 x.1 s t k v o) (asked_point b p) l e in
       let a = one.0.0 in let i = one.0.1 in
       let asked = asked_is p a i one.1.0 in
-      let two = found_if (is_printed_so b a k v o) (line.Point a i s t v) l one.1.1 in
+      let two = cond_some (is_printed_so b a k v o) (line.Point a i s t v) l one.1.1 in
       let own = has_kind (attribute_or b.model a).kind v in
       let shown = bytes_eq (value_text (attribute_or b.model a).kind v) (value_text k v) in
       let both = and_parts (own && shown) (bytes_eq (told.origin_text b.files (rule_of b.rules a) v) (origin_text o)) two.0 in
-      let value = bytes_same (value_text (attribute_or b.model a).kind v) (value_text k v) (and_parts own shown both.0).1 in
-      let place = bytes_same (told.origin_text b.files (rule_of b.rules a) v) (origin_text o) both.1 in
+      let value = same_bytes (value_text (attribute_or b.model a).kind v) (value_text k v) (and_parts own shown both.0).1 in
+      let place = same_bytes (told.origin_text b.files (rule_of b.rules a) v) (origin_text o) both.1 in
       subst (IsLine b (printed.Point p s t k v o)) two.1 (
         λ n. ap (λ x. decimal n ++ (codes " " ++ ((x ++ (codes ", " ++ (days_text s t ++ (codes ": " ++ (value_text (attribute_or b.model a).kind v ++ (codes ", " ++ told.origin_text b.files (rule_of b.rules a) v)))))) ++ 10 ∷ []))) asked.0
             ∙ ap (λ x. decimal n ++ (codes " " ++ ((spot_text p ++ (codes ", " ++ (days_text s t ++ (codes ": " ++ (x ++ (codes ", " ++ told.origin_text b.files (rule_of b.rules a) v)))))) ++ 10 ∷ []))) value
@@ -159,7 +147,7 @@ module _ (b : Rulebase) where
   member_is p name l e =
       let one = found_both (λ r. member_line b.model r p name) (relation_named b.model p.phrase) l e in
       let r = one.0 in
-      let two = found_when (relation_or b.model r).contains (option_map (λ k. line.Member r k (named (relation_or b.model r).target.0 name)) (list_at b.model r p)) l one.1.1 in
+      let two = cond_none_parts (relation_or b.model r).contains (option_map (λ k. line.Member r k (named (relation_or b.model r).target.0 name)) (list_at b.model r p)) l one.1.1 in
       let three = found_map (λ k. line.Member r k (named (relation_or b.model r).target.0 name)) (list_at b.model r p) l two.1 in
       let is = relation_is b.model p.phrase r one.1.0 in
       subst (IsLine b (printed.Member p name)) three.1.1 (
@@ -189,7 +177,7 @@ module _ (b : Rulebase) where
 pub line_days : (b : Rulebase) (x : Printed) (a : AttrId) (i : InstanceId) (s t : ℕ) (v : Value) → IsDated x → named_line b x ≡ Some (line.Point a i s t v) → (s ≤ t) × (t < DAYS)
 line_days b (printed.Point p s' t' k v' o) a i s t v d e =
     let one = found_both (λ x. point_line b x.0 x.1 s' t' k v' o) (asked_point b p) (line.Point a i s t v) e in
-    let two = found_if (is_printed_so b one.0.0 k v' o) (line.Point one.0.0 one.0.1 s' t' v') (line.Point a i s t v) one.1.1 in
+    let two = cond_some (is_printed_so b one.0.0 k v' o) (line.Point one.0.0 one.0.1 s' t' v') (line.Point a i s t v) one.1.1 in
     let first : s' ≡ s = cc two.1 in let last : t' ≡ t = cc two.1 in
     subst (λ (n : ℕ). (n ≤ t) × (t < DAYS)) first (subst (λ (n : ℕ). (s' ≤ n) × (n < DAYS)) last (d.0, d.1.0))
 line_days b (printed.Members p names) a i s t v d e =
@@ -199,6 +187,6 @@ line_days b (printed.Members p names) a i s t v d e =
 line_days b (printed.Member p n) a i s t v d e =
     let one = found_both (λ r. member_line b.model r p n) (relation_named b.model p.phrase) (line.Point a i s t v) e in
     let r = one.0 in
-    let two = found_when (relation_or b.model r).contains (option_map (λ k. line.Member r k (named (relation_or b.model r).target.0 n)) (list_at b.model r p)) (line.Point a i s t v) one.1.1 in
+    let two = cond_none_parts (relation_or b.model r).contains (option_map (λ k. line.Member r k (named (relation_or b.model r).target.0 n)) (list_at b.model r p)) (line.Point a i s t v) one.1.1 in
     let three = found_map (λ k. line.Member r k (named (relation_or b.model r).target.0 n)) (list_at b.model r p) (line.Point a i s t v) two.1 in
     absurd (cc three.1.1)

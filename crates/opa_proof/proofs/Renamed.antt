@@ -14,7 +14,6 @@ use Rattle.opa_model.specs.declared.ids.RelId.{RelId}
 use Rattle.opa_model.specs.declared.things.Attribute.{Attribute}
 use Rattle.opa_model.specs.declared.things.Relation.{Relation}
 use Rattle.opa_model.specs.Lookups.{attribute_phrases, relation_phrases}
-use Rattle.opa_model.proofs.PhrasesLaws.{own_text}
 use Rattle.opa_case.specs.Cases.{CaseView, list_of, stored}
 use Rattle.opa_case.specs.Live.{container_of, is_live}
 use Rattle.opa_case.proofs.Shaped.{shape_is}
@@ -59,6 +58,7 @@ use Rattle.std.specs.List.{list_any}
 use Rattle.std.specs.Prelude.{not, ◌||◌, ◌&&◌}
 use Rattle.std.specs.Str.{IsUtf8}
 use Rattle.std.proofs.lemmas.Bool.{not-true}
+use Rattle.opa_io.proofs.Characters.{own_bytes}
 use Rattle.opa_case.proofs.Losing.{is_every}
 use Rattle.opa_case.proofs.Stands.{either_has, text_is as text_same}
 use Rattle.opa_case.specs.Cases.{are_names, is_empty}
@@ -193,8 +193,8 @@ module _ (s : Rulebase) (c : CaseView) (is : IsOf s c) where
   printed_again a v fits =
       let shown = bytes_eq (value_text (attribute_or s.model a).kind v) (value_text (attribute_or s.model a).kind v) in
       and_from (has_kind (attribute_or s.model a).kind v && shown) (bytes_eq (told.origin_text s.files (rule_of s.rules a) v) (origin_text (origin_by s.files (rule_of s.rules a) v)))
-      (and_from (has_kind (attribute_or s.model a).kind v) shown fits (own_text (value_text (attribute_or s.model a).kind v)))
-      (ap (bytes_eq (told.origin_text s.files (rule_of s.rules a) v)) (sym (origin_is s.files (rule_of s.rules a) v)) ∙ own_text (told.origin_text s.files (rule_of s.rules a) v))
+      (and_from (has_kind (attribute_or s.model a).kind v) shown fits (own_bytes (value_text (attribute_or s.model a).kind v)))
+      (ap (bytes_eq (told.origin_text s.files (rule_of s.rules a) v)) (sym (origin_is s.files (rule_of s.rules a) v)) ∙ own_bytes (told.origin_text s.files (rule_of s.rules a) v))
 
   point_again : (a : AttrId) (i : InstanceId) (f t : ℕ) (v : Value) → a.0 < length s.model.attributes → Belongs (owner_of (base_of s).shape a) i → has_kind (attribute_or s.model a).kind v ≡ true → Named (line.Point a i f t v)
   unfolding Named

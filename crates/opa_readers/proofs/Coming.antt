@@ -2,7 +2,7 @@
 use Rattle.std.proofs.Common.{◌≡◌, ◌⊎◌, ◌↔◌, inl, inr, ℕ, ◌+◌, ◌<◌, Bool, true, false, cond, List, [], ◌∷◌, ◌++◌, length, get_or, take, Contains, None, Some, is_some, refl, sym, ◌∙◌, ap, subst}
 use Rattle.std.specs.Prelude.{◌||◌, ◌&&◌, ◌==◌}
 use Rattle.std.specs.List.{list_any}
-use Rattle.std.proofs.lemmas.Bool.{and_parts, eqb-true}
+use Rattle.std.proofs.lemmas.Bool.{and_parts, eqb-true, and_from}
 use Rattle.std.proofs.lemmas.List.{take_more}
 use Rattle.std.proofs.lemmas.List.Elements.{Contains-append_left, Contains-append_right, Contains-append_cases}
 use Rattle.opa_model.specs.declared.ids.AttrId.{AttrId}
@@ -21,7 +21,6 @@ use Rattle.opa_tree.specs.Rules.{rule_of}
 use Rattle.opa_tree.proofs.Members.{none_in, contains_head, contains_cases}
 use Rattle.opa_mean.specs.Places.{owner_of}
 use Rattle.opa_mean.specs.Slots.{is_slot}
-use Rattle.opa_mean.proofs.SameBoth.{both_true}
 use Rattle.opa_dirty.specs.ByLists.{IsByLists, AreListsTold, ReadsTold}
 use Rattle.opa_dirty.specs.Settling.{AreReaders, IsBegun, SamePair, Shift, Waiting}
 use Rattle.opa_dirty.specs.Slots.{pairs_of}
@@ -267,7 +266,7 @@ module _ (s : Shift) (by : IsByLists s) (readers : Question → Waiting) (exact 
       let owns = i.entity.0 == owner_of (shape_of s.rules.model) a in
       let ruled = is_some (rule_of s.rules.rules a) in
       let both = and_parts (is_live s.new.live i && owns) ruled slot in
-      both_true owns ruled (and_parts (is_live s.new.live i) owns both.0).1 both.1
+      and_from owns ruled (and_parts (is_live s.new.live i) owns both.0).1 both.1
 
   pub list_begun : IsBegun s (slots_of tasks)
   list_begun = lists_begin s by readers exact told are (slots_of tasks) (record {

@@ -4,7 +4,7 @@ use Rattle.std.specs.Prelude.{◌&&◌, flat_map}
 use Rattle.std.specs.FinMap.{get, entries, find, get-entries}
 use Rattle.std.specs.Ordering.{eq_by_cmp}
 use denote.Ref.{Bor}
-use Rattle.std.proofs.lemmas.Bool.{and_parts}
+use Rattle.std.proofs.lemmas.Bool.{and_parts, and_from}
 use Rattle.std.proofs.lemmas.List.{append-nil, take_more}
 use Rattle.std.proofs.lemmas.List.Elements.{filter-append, Contains-append_left, Contains-append_right, Contains-append_cases}
 use Rattle.std.proofs.lemmas.Map.Views.{tells_apart}
@@ -26,7 +26,6 @@ use Rattle.opa_mean.specs.Changes.{first_difference}
 use Rattle.opa_mean.specs.Given.{line_value}
 use Rattle.opa_mean.specs.Rulebases.{IsOf}
 use Rattle.opa_mean.specs.Sameness.{same_names}
-use Rattle.opa_mean.proofs.SameBoth.{both_true}
 use Rattle.opa_tree.specs.Rules.{rule_of}
 use Rattle.opa_tree.specs.declared.rulebase.Rulebase.{Rulebase}
 use Rattle.opa_tree.proofs.Members.{none_in, contains_head, contains_tail, contains_cases, flat_in, flat_out}
@@ -103,7 +102,7 @@ module _ (law : AnswersDiffer) (r : Rulebase) (c c' : CaseView) (is : IsOf r c) 
   answer_in : (a : AttrId) (i : InstanceId) → is_given r (question.Attr a i) ≡ true → is_changed r c c' (question.Attr a i) ≡ true → Contains (answer_told r c c' (a.0, i)) (question.Attr a i)
   answer_in a i g h =
       if_in (not (is_some (rule_of r.rules a)) && is_some (first_difference DAYS (line_value (get c.answers (a.0, i))) (line_value (get c'.answers (a.0, i))))) (question.Attr a i)
-      (both_true (not (is_some (rule_of r.rules a))) _ g (sym (law r c c' is is' a i (not_some (is_some (rule_of r.rules a)) g)) ∙ h))
+      (and_from (not (is_some (rule_of r.rules a))) _ g (sym (law r c c' is is' a i (not_some (is_some (rule_of r.rules a)) g)) ∙ h))
 
   list_out : (k : ℕ × InstanceId) (q : Question) → Contains (list_told c c' k) q → given_too q
   list_out k q h = let one = in_if _ (question.Members (rel_at k.0) k.1) q h in subst given_too one.1 (refl, one.0)

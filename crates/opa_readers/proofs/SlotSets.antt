@@ -1,5 +1,5 @@
 -- The order of slots, and sets of them.
-use Rattle.std.proofs.Common.{◌≡◌, ◌⊎◌, ◌↔◌, inl, inr, ℕ, Bool, true, false, cond, List, [], ◌∷◌, length, Result, Ok, Err, OnOk, Contains, refl, sym, ◌∙◌, ap, subst, arith}
+use Rattle.std.proofs.Common.{◌≡◌, ◌⊎◌, ◌↔◌, inl, inr, ℕ, Bool, true, false, cond, List, [], ◌∷◌, length, Result, OnOk, Contains, refl, sym, ◌∙◌, ap, subst, arith}
 use Rattle.std.specs.Ordering.{nat_cmp, ordering_then, is_eq}
 use Rattle.std.specs.declared.cmp.Ordering.{Ordering}
 use Rattle.std.specs.Cmp.{IsTotalOrder, nat_cmp_total, tied_itself}
@@ -9,6 +9,7 @@ use Rattle.std.specs.BTreeSet.{BTreeSet}
 use Rattle.std.proofs.lemmas.Cmp.{on_total, then_total}
 use Rattle.std.proofs.lemmas.Map.Lookups.{CmpEqualImpliesEq}
 use Rattle.std.proofs.lemmas.Map.Views.{tells_apart, btree_set_contains_iff}
+use Rattle.opa_io.proofs.Results.{always_on_ok}
 use Rattle.opa_model.specs.declared.ids.AttrId.{AttrId}
 use Rattle.opa_cells.specs.Instances.{instance_cmp}
 use Rattle.opa_cells.specs.declared.instance.InstanceId.{InstanceId}
@@ -89,13 +90,9 @@ module _ (old new : BTreeSet Slot) (s : Slot) where
       into true e h = absurd (h.1 (same_pair x e))
       into false e h = ap (λ b. cond b false (sorted.contains slot_cmp old u)) e ∙ (has old u).1 (out_pairs old.keys x h.0)
 
-any_ok : {T E : Type 0} (o : Result T E) (P : Type 0) → P → OnOk o P
-any_ok (Ok x) P h = h
-any_ok (Err e) P h = tt
-
 -- a copy of the slot is added
 pub set_added_ok : {T E : Type 0} (o : Result T E) (old new : BTreeSet Slot) (a : AttrId) (i j : InstanceId) → j ≡ i → let s : Slot = record { attr = a; inst = j } in ((q : Slot) → sorted.contains slot_cmp new q ≡ cond (is_at (slot_cmp s) q) true (sorted.contains slot_cmp old q)) → OnOk o (AddsSlot old.keys new.keys (a, i))
-set_added_ok o old new a i j same adds = any_ok o _ (subst (λ (k : InstanceId). AddsSlot old.keys new.keys (a, k)) same (set_added old new (record { attr = a; inst = j }) adds))
+set_added_ok o old new a i j same adds = always_on_ok o _ (subst (λ (k : InstanceId). AddsSlot old.keys new.keys (a, k)) same (set_added old new (record { attr = a; inst = j }) adds))
 
 pub no_pairs : (xs : List Slot) → length xs ≡ 0 → pairs_of xs ≡ []
 no_pairs [] e = refl

@@ -1,7 +1,7 @@
 -- Slots that are taken out of an index.
 use Rattle.std.proofs.Common.{◌≡◌, ◌⊎◌, ◌↔◌, inl, inr, ℕ, ◌+◌, ◌<◌, Bool, true, false, cond, List, [], ◌∷◌, ◌++◌, length, get_or, take, drop, Option, None, Some, Contains, refl, sym, ◌∙◌, ap, subst}
 use Rattle.std.specs.BTreeSet.{BTreeSet}
-use Rattle.std.specs.Prelude.{◌&&◌, Result, Ok, Err, OnErr}
+use Rattle.std.specs.Prelude.{◌&&◌}
 use Rattle.std.specs.FinMap.{get, insert, remove, get-insert, get-remove}
 use Rattle.std.specs.Ordering.{eq_by_cmp}
 use Rattle.std.specs.Cmp.{eq_by_cmp_equiv}
@@ -162,10 +162,6 @@ reads_some a i xs k old mid new f same q x = (λ h. subst (λ ys. Contains ys x)
     out : Contains (readers_in old q) x ⊎ (SamePair (a, i) x × Contains (take k xs) q) → Contains (readers_in old q) x ⊎ (SamePair (a, i) x × Contains xs q)
     out (inl h) = inl h
     out (inr h) = inr (h.0, taken_in xs k q h.1)
-
-pub on_err : {T E P : Type 0} (r : Result T E) → P → OnErr r P
-on_err (Ok x) p = tt
-on_err (Err e) p = p
 
 -- nothing is added
 pub table_same : (m new : Table) (k : ℕ × InstanceId) (old slots : BTreeSet Slot) → get m k ≡ Some old → new ≡ insert m k slots → slots.keys ≡ old.keys → SameTable m new

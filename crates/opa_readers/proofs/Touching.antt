@@ -4,6 +4,7 @@ use Rattle.std.specs.Prelude.{◌||◌}
 use Rattle.std.specs.List.{list_any}
 use Rattle.std.specs.Map.{lookup}
 use Rattle.std.proofs.lemmas.List.Elements.{Contains-append_left, Contains-append_right}
+use Rattle.std.proofs.lemmas.Bool.{or_parts}
 use Rattle.opa_model.specs.declared.ids.AttrId.{AttrId}
 use Rattle.opa_cells.specs.Instances.{is_same, global}
 use Rattle.opa_cells.specs.declared.instance.InstanceId.{InstanceId}
@@ -45,10 +46,6 @@ none_found {X = X} t (x ∷ xs) h = go (t x.0) h (λ k. none_found t xs k)
     go true h rest = absurd (cc h)
     go false h rest = rest h
 
-neither : (a b : Bool) → (a || b) ≡ false → (a ≡ false) × (b ≡ false)
-neither true b h = absurd (cc h)
-neither false b h = (refl, h)
-
 the_other : (a b : Bool) → a ≡ false → (a || b) ≡ true → b ≡ true
 the_other true b e h = absurd (cc e)
 the_other false b e h = h
@@ -58,7 +55,7 @@ module _ (live next gone come : Population) (j : InstanceId) (turns : Turns live
   comes_among lives dead = go (is_among come i) refl
     where
       two : (is_same i global ≡ false) × (is_among live i ≡ false)
-      two = neither (is_same i global) (is_among live i) dead
+      two = or_parts (is_same i global) (is_among live i) dead
 
       at : (b : Bool) → cond b None (container_of live i) ≡ None
       at true = refl

@@ -6,3 +6,4 @@ mod ReplyLaws
 mod Same
 mod Saving
 mod Settling
+pub mod OneReply

@@ -1,12 +1,11 @@
 -- What a tree uses is declared, where all of the tree is reached from the enclosing entities.
 use Rattle.std.proofs.Common.{◌≡◌, ◌⊎◌, inl, inr, ℕ, ◌+◌, ◌-◌, ◌<◌, Bool, true, false, cond, ◌&&◌, List, [], ◌∷◌, ◌++◌, length, map, Option, None, Some, Contains, refl, sym, ◌∙◌, ap, subst}
-use Rattle.std.specs.Prelude.{find, flat_map, nat_lt, IsTrue}
+use Rattle.std.specs.Prelude.{find, flat_map, IsTrue}
 use Rattle.std.specs.List.{list_all}
-use Rattle.std.specs.Option.{option_map_or}
 use Rattle.std.proofs.lemmas.Bool.{and_parts}
 use Rattle.std.proofs.lemmas.List.Elements.{Contains-append_cases}
 use Rattle.std.proofs.lemmas.Option.{slice_get_within}
-use Rattle.opa_date.specs.declared.TheConstants.{DAYS}
+use Rattle.opa_io.proofs.Options.{there_is}
 use Rattle.opa_value.specs.declared.value.Value.{Value}
 use Rattle.opa_value.specs.declared.value.Value.TheVariants.{Unknown, Uncertain, Bool as Truth, Num, Words, Day}
 use Rattle.opa_value.specs.Truth.{is_true, is_false}
@@ -37,6 +36,7 @@ use Rattle.opa_mean.specs.Meaning.{value}
 use Rattle.opa_mean.specs.Places.{owner_of, place}
 use Rattle.opa_mean.specs.Uses.{Use, Point, Listed, Uses, Used, RowUses, RowUsed, found_or, first_or_all, member_uses, at_place_uses, on_date_uses, in_window_uses, after_cond, item_uses, item_value, over_uses, window_uses, table_uses, uses_step, uses}
 use Rattle.opa_mean.proofs.UseLaws.{row_uses, uses-roll, row_uses-is}
+use Rattle.opa_mean.proofs.UsesAt.{date_in, window_in}
 use Rattle.opa_report.specs.Declares.{IsDeclared}
 
 -- what is used of several is used of one of them
@@ -55,27 +55,6 @@ first_in {X = X} p f xs u h = go xs u (find p xs) (λ x e. found_in xs x e) h
     go xs u None there h = flat_out f xs u h
     go xs u (Some x) there h = (x, (there x refl, h))
 
--- days of windows
-date_in : (f : ℕ → List Use) (v : Value) (u : Use) → Contains (on_date_uses f v) u → (d : ℕ) × Contains (f d) u
-date_in f (Day k) u h = go (nat_lt k DAYS) h
-  where
-    go : (b : Bool) → Contains (cond b (f k) []) u → (d : ℕ) × Contains (f d) u
-    go true h = (k, h)
-    go false h = absurd (none_in u h)
-date_in f Unknown u h = absurd (none_in u h)
-date_in f Uncertain u h = absurd (none_in u h)
-date_in f (Truth b) u h = absurd (none_in u h)
-date_in f (Num n) u h = absurd (none_in u h)
-date_in f (Words t) u h = absurd (none_in u h)
-
-window_in : (f : ℕ → List Use) (v w : Value) (u : Use) → Contains (in_window_uses f v w) u → (d : ℕ) × Contains (f d) u
-window_in f (Day j) (Day k) u h = go (nat_lt j DAYS && nat_lt k DAYS) h
-  where
-    go : (b : Bool) → Contains (cond b (flat_map f (days j (k - j))) []) u → (d : ℕ) × Contains (f d) u
-    go true h = let x = flat_out f (days j (k - j)) u h in (x.0, x.1.1)
-    go false h = absurd (none_in u h)
-window_in f _ _ u h = absurd (none_in u h)
-
 after_in : (v : Value) (us rest : List Use) (u : Use) → Contains (after_cond v us rest) u → Contains us u ⊎ Contains rest u
 after_in (Truth true) us rest u h = inl h
 after_in (Truth false) us rest u h = inr h
@@ -84,11 +63,6 @@ after_in Uncertain us rest u h = absurd (none_in u h)
 after_in (Num n) us rest u h = absurd (none_in u h)
 after_in (Words t) us rest u h = absurd (none_in u h)
 after_in (Day k) us rest u h = absurd (none_in u h)
-
--- what is asked of a thing holds only where there is one
-pub there_is : {X : Type 0} (o : Option X) (f : X → Bool) → IsTrue (option_map_or f o false) → (x : X) × ((o ≡ Some x) × IsTrue (f x))
-there_is None f h = absurd (cc h)
-there_is (Some x) f h = (x, (refl, h))
 
 module _ (m : Lists) (s : Shape) (l : Look) where
   scope-roll : (x : Expr-F Expr Row) → is_reached m (roll-Expr x) ≡ scope_step m (map-Expr Expr Row Scope Scope (is_reached m) (row_is_reached m) x)

@@ -1,21 +1,19 @@
 -- The slots, keys and instances that a report is made from, over the lists of live instances.
-use Rattle.std.proofs.Common.{◌≡◌, ℕ, ◌<◌, Bool, List, [], ◌∷◌, map, filter, flat_map, length, Option, None, Some, IsSome, is_some, Contains, refl, sym, ◌∙◌, ap, subst}
-use Rattle.std.specs.Prelude.{All, slice_get, slice_index_or, unwrap_or, true, ◌&&◌, nat_lt}
+use Rattle.std.proofs.Common.{◌≡◌, ℕ, ◌<◌, Bool, List, [], ◌∷◌, map, filter, flat_map, length, Option, None, Some, IsSome, is_some, Contains, refl, sym, ◌∙◌, ap}
+use Rattle.std.specs.Prelude.{slice_get, slice_index_or, unwrap_or, true, ◌&&◌, nat_lt}
 use Rattle.std.proofs.lemmas.Bool.{and_parts, eqb-true, ltb-true}
-use Rattle.std.proofs.lemmas.List.Elements.{All-get_or}
-use Rattle.std.proofs.lemmas.Option.{slice_get_within, get_or_from_slice_get}
+use Rattle.opa_io.proofs.Places.{All_at}
 use Rattle.opa_date.specs.declared.TheConstants.{DAYS}
 use Rattle.opa_model.specs.declared.ids.AttrId.{AttrId}
 use Rattle.opa_model.specs.declared.ids.RelId.{RelId}
 use Rattle.opa_model.specs.declared.lists.Lists.{Lists}
-use Rattle.opa_model.specs.declared.things.Attribute.{Attribute}
 use Rattle.opa_model.specs.declared.things.Relation.{Relation}
 use Rattle.opa_model.specs.Models.{IsModel, HasEntity}
 use Rattle.opa_cells.specs.declared.instance.InstanceId.{InstanceId}
 use Rattle.opa_case.specs.Cases.{CaseView}
 use Rattle.opa_case.specs.Instances.{AreInstances}
 use Rattle.opa_case.specs.Live.{is_live, members}
-use Rattle.opa_case.specs.Shapes.{attribute_or, relation_or, no_attribute, no_relation, shape_of}
+use Rattle.opa_case.specs.Shapes.{attribute_or, relation_or, no_relation, shape_of}
 use Rattle.opa_tree.specs.declared.rulebase.Rulebase.{Rulebase}
 use Rattle.opa_tree.specs.declared.rules.Rule.{Rule}
 use Rattle.opa_tree.specs.Rules.{rule_of}
@@ -29,6 +27,7 @@ use Rattle.opa_mean.proofs.Fitting.{live_in}
 use Rattle.opa_mean.proofs.LawsOver.{base, facts}
 use Rattle.opa_mean.proofs.SlotCounts.{owned_are_members}
 use Rattle.opa_mean.proofs.SlotsAre.{ruled_declared}
+use Rattle.opa_mean.proofs.Owned.{owner_within}
 use Rattle.opa_report.specs.Promises.{is_point}
 use Rattle.opa_report.specs.ReportLines.{by_rank, relations, of_entity, with_instances, slots, keys}
 use Rattle.opa_report.specs.Reporting.{AreOf, IsPlaced, slots_over, keys_over}
@@ -36,22 +35,12 @@ use Rattle.opa_report.proofs.Living.{all_live}
 use Rattle.opa_report.proofs.Ordering.{are_slots}
 use Rattle.opa_report.proofs.Placing.{placed}
 
-of_all : {X : Type 0} (P : X → Type 0) (xs : List X) (n : ℕ) (x : X) → slice_get xs n ≡ Some x → All P xs → P x
-of_all P xs n x at all = subst P (get_or_from_slice_get xs n x x at) (All-get_or P xs n x (slice_get_within xs n x at) all)
-
-owner_within : (m : Lists) → IsModel m → (a : AttrId) → owner_of (shape_of m) a < length m.entities
-owner_within m is a = go (slice_get m.attributes a.0) refl
-  where
-    go : (o : Option Attribute) → slice_get m.attributes a.0 ≡ o → (unwrap_or o no_attribute).entity.0 < length m.entities
-    go None e = is.has_global
-    go (Some x) e = of_all (λ (y : Attribute). HasEntity m y.entity) m.attributes a.0 x e is.in_range.owners
-
 source_within : (m : Lists) → IsModel m → (q : RelId) → (shape_of m).source q < length m.entities
 source_within m is q = go (slice_get m.relations q.0) refl
   where
     go : (o : Option Relation) → slice_get m.relations q.0 ≡ o → (unwrap_or o no_relation).source.0 < length m.entities
     go None e = is.has_global
-    go (Some x) e = of_all (λ (y : Relation). HasEntity m y.source) m.relations q.0 x e is.in_range.sources
+    go (Some x) e = All_at (λ (y : Relation). HasEntity m y.source) m.relations q.0 x e is.in_range.sources
 
 module _ (r : Rulebase) (c : CaseView) (is : IsOf r c) (live : List (List InstanceId)) (are : AreInstances (length r.model.entities) c live) where
   -- the list of an entity has its live instances

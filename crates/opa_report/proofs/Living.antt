@@ -6,6 +6,7 @@ use Rattle.std.proofs.lemmas.Grind.{flat_map-append}
 use Rattle.std.proofs.lemmas.List.{append-nil, map-append}
 use Rattle.std.proofs.lemmas.Option.{slice_get-get_or, get_or_from_slice_get}
 use Rattle.std.proofs.lemmas.List.Elements.{Contains-append_cases, filter-append}
+use Rattle.opa_io.proofs.Places.{take_whole}
 use Rattle.opa_cells.specs.Instances.{global, named}
 use Rattle.opa_cells.specs.declared.instance.InstanceId.{InstanceId}
 use Rattle.opa_case.specs.Cases.{CaseView, stored}
@@ -19,7 +20,6 @@ use Rattle.opa_mean.specs.Given.{facts_of}
 use Rattle.opa_mean.specs.Rulebases.{IsOf}
 use Rattle.opa_mean.proofs.Filtered.{filter_none, map_out}
 use Rattle.opa_report.proofs.Firsts.{next_item}
-use Rattle.opa_report.proofs.Parts.{all_taken}
 
 filter_all : {X : Type 0} (p : X → Bool) (xs : List X) → ((x : X) → Contains xs x → p x ≡ true) → filter p xs ≡ xs
 filter_all p [] h = refl
@@ -110,7 +110,7 @@ pub all_live : (r : Rulebase) (c : CaseView) → IsOf r c → (lists : List (Lis
 all_live r c is lists are =
     let s = shape_of r.model in let l = stored c.lists in let n = length r.model.entities in
     let some : 0 < n = (shape_is r.model is.is_model).some in
-    sym (ap (λ (xss : List (List InstanceId)). flat_map (λ xs. xs) xss) (all_taken lists (length lists) (omega arith)))
+    sym (ap (λ (xss : List (List InstanceId)). flat_map (λ xs. xs) xss) (take_whole lists (length lists) (omega arith)))
     ∙ whole_taken lists (length lists) (omega arith)
     ∙ each (length lists) (omega (arith, are.for_each))
     ∙ ap (λ k. flat_map (λ e. members e c.live) (rising k)) (counted some)

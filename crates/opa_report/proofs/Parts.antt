@@ -1,8 +1,7 @@
 -- Uses of trees by their parts.
-use Rattle.std.proofs.Common.{◌≡◌, ◌≤◌, ◌<◌, ◌↔◌, ◌⊎◌, inl, inr, ℕ, Bool, true, false, List, [], ◌∷◌, ◌++◌, map, length, get_or, take, Option, None, Some, Contains, refl, sym, ◌∙◌, ap, subst, arith}
+use Rattle.std.proofs.Common.{◌≡◌, ◌≤◌, ◌<◌, ◌↔◌, ◌⊎◌, inl, inr, ℕ, Bool, true, false, List, [], ◌∷◌, ◌++◌, map, length, get_or, Option, None, Some, Contains, refl, sym, ◌∙◌, ap, subst, arith}
 use Rattle.std.specs.Prelude.{find, flat_map}
 use Rattle.std.specs.List.{AllByRecursion}
-use Rattle.std.proofs.lemmas.List.{take_all}
 use Rattle.std.proofs.lemmas.List.Elements.{Contains-append_left, Contains-append_right, Contains-append_cases}
 use Rattle.opa_date.specs.declared.TheConstants.{DAYS}
 use Rattle.opa_value.specs.declared.value.Value.{Value}
@@ -31,10 +30,6 @@ use Rattle.opa_report.proofs.Combining.{adds_same, adds_both, adds_over, adds_al
 use Rattle.opa_report.proofs.Dating.{date_same, window_same, leads_same, date_low, window_low, on_date, in_window}
 use Rattle.opa_report.proofs.Going.{line_at}
 use Rattle.opa_mean.proofs.UseLaws.{uses-Over}
-
--- all items are taken
-pub all_taken : {X : Type 0} (xs : List X) (n : ℕ) → length xs ≤ n → take n xs ≡ xs
-all_taken xs n le = take_all n xs le
 
 -- lists of one and of two
 pub one_is : (ts : List Expr) (a : Expr) → 1 ≤ length ts → length ts < 2 → a ≡ get_or ts 0 a → ts ≡ a ∷ []

@@ -3,6 +3,7 @@ use Rattle.std.proofs.Common.{◌≡◌, ◌⊎◌, inl, inr, ℕ, ◌<◌, Bool
 use Rattle.std.specs.Prelude.{IsTrue, ◌==◌}
 use Rattle.std.specs.List.{AllByRecursion}
 use Rattle.std.proofs.lemmas.Bool.{and_parts, eqb-true}
+use Rattle.opa_io.proofs.Options.{there_is}
 use Rattle.opa_model.specs.declared.ids.AttrId.{AttrId}
 use Rattle.opa_model.specs.declared.ids.RelId.{RelId}
 use Rattle.opa_model.specs.declared.things.Attribute.{Attribute}
@@ -36,7 +37,7 @@ use Rattle.opa_mean.proofs.LawsOver.{facts}
 use Rattle.opa_report.specs.Declares.{IsDeclared}
 use Rattle.opa_report.specs.ReportLines.{IsOwned}
 use Rattle.opa_report.specs.Reporting.{IsPlaced}
-use Rattle.opa_report.proofs.Declaring.{there_is, uses_declared}
+use Rattle.opa_report.proofs.Declaring.{uses_declared}
 use Rattle.opa_report.proofs.Ordering.{in_slots, in_keys}
 
 module _ (r : Rulebase) (c : CaseView) (is : IsOf r c) where

@@ -1,37 +1,22 @@
 -- The runs of a set of days.
-use Rattle.std.proofs.Common.{◌≡◌, ◌↔◌, ℕ, ℤ, ◌<◌, Bool, true, false, ◌==◌, int_eq, List, [], ◌∷◌, ◌++◌, map, Some, refl, sym, ◌∙◌, ap, subst, arith}
+use Rattle.std.proofs.Common.{◌≡◌, ◌↔◌, ℕ, ◌<◌, Bool, true, false, List, [], ◌∷◌, ◌++◌, map, Some, refl, sym, ◌∙◌, ap, subst}
 use Rattle.std.proofs.lemmas.List.{append_assoc}
+use Rattle.opa_io.proofs.Lists.{map_append}
 use Rattle.opa_date.specs.declared.TheConstants.{DAYS}
 use Rattle.opa_value.specs.declared.value.Value.{Value}
-use Rattle.opa_value.specs.declared.value.Value.TheVariants.{Unknown, Uncertain, Bool as Truth, Num, Words, Day}
 use Rattle.opa_line.specs.Lines.{IsLine, StandsFor, canon}
 use Rattle.opa_line.proofs.LineLaws.{canon_is_the_line}
 use Rattle.opa_model.specs.declared.ids.AttrId.{AttrId}
 use Rattle.opa_cells.specs.declared.instance.InstanceId.{InstanceId}
-use Rattle.opa_case.proofs.Stands.{text_itself}
 use Rattle.opa_days.specs.Spans.{upto}
 use Rattle.opa_mean.proofs.Exact.{value_exact}
 use Rattle.opa_mean.specs.Sameness.{same_value}
+use Rattle.opa_mean.proofs.SameBoth.{value_itself}
 use Rattle.opa_report.specs.declared.mark.Mark.{Mark}
 use Rattle.opa_report.specs.declared.mark.Mark.TheVariants.{Absent, Present}
 use Rattle.opa_report.specs.declared.lines.ReportLine.{ReportLine}
 use Rattle.opa_report.specs.ReportLines.{point_line}
 use Rattle.opa_report.specs.Runs.{run_of, same_mark, mark_of, marked, stretches, runs}
-
-value_itself : (v : Value) → same_value v v ≡ true
-value_itself Unknown = refl
-value_itself Uncertain = refl
-value_itself (Truth true) = refl
-value_itself (Truth false) = refl
-value_itself (Num n) = int_same n
-  where
-    int_same : (n : ℤ) → int_eq n n ≡ true
-    int_same n = grind arith
-value_itself (Words t) = text_itself t
-value_itself (Day d) = number_same d
-  where
-    number_same : (d : ℕ) → (d == d) ≡ true
-    number_same d = grind arith
 
 pub mark_exact : (m n : Mark) → (same_mark m n ≡ true) ↔ (m ≡ n)
 mark_exact Absent Absent = (λ _. refl, λ _. refl)
@@ -57,17 +42,13 @@ same_runs set set' f f' sets values = runs_are set' f' (canon same_mark DAYS (ma
     at : (d : ℕ) → d < DAYS → marked set f d ≡ marked set' f' d
     at d lt = ap (λ b. mark_of b (f d)) (sets d lt) ∙ go (set' d) (f d) (f' d) (values d lt)
 
-map-append : {X Y : Type 0} (f : X → Y) (xs ys : List X) → map f (xs ++ ys) ≡ map f xs ++ map f ys
-map-append f [] ys = refl
-map-append f (x ∷ xs) ys = ap (λ zs. f x ∷ zs) (map-append f xs ys)
-
 -- one run further
 pub run_next : (a : AttrId) (i : InstanceId) (all old new : List ReportLine) (rest later : List (ℕ × Mark)) (p : ℕ × Mark) (end : ℕ) → rest ≡ p ∷ later → end ≡ upto later
     → old ++ map (point_line a i) (stretches rest) ≡ all → new ≡ old ++ map (point_line a i) (run_of p.0 end p.1) → new ++ map (point_line a i) (stretches later) ≡ all
 run_next a i all old new rest later p end front is before next =
     ap (λ ls. ls ++ map (point_line a i) (stretches later)) (next ∙ ap (λ e. old ++ map (point_line a i) (run_of p.0 e p.1)) is)
     ∙ append_assoc old (map (point_line a i) (run_of p.0 (upto later) p.1)) (map (point_line a i) (stretches later))
-    ∙ ap (λ ls. old ++ ls) (sym (map-append (point_line a i) (run_of p.0 (upto later) p.1) (stretches later)) ∙ ap (λ l. map (point_line a i) (stretches l)) (sym front))
+    ∙ ap (λ ls. old ++ ls) (sym (map_append (point_line a i) (run_of p.0 (upto later) p.1) (stretches later)) ∙ ap (λ l. map (point_line a i) (stretches l)) (sym front))
     ∙ before
 
 -- no day, no run

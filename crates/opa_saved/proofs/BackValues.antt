@@ -3,10 +3,9 @@ use Rattle.std.proofs.Common.{◌≡◌, ◌<◌, ◌==◌, ℕ, true, false, co
 use Rattle.std.specs.Prelude.{None, Some, codes}
 use Rattle.std.specs.List.{list_all, AllByRecursion}
 use Rattle.std.specs.Option.{option_map, option_and_then}
-use Rattle.std.specs.Str.{bytes_eq}
 use Rattle.std.proofs.lemmas.Bool.{and_parts, lt-ltb}
-use Rattle.std.proofs.lemmas.Slice.Eq.{bytes_eq-Decides}
 use Rattle.serde_json.specs.Data.{string}
+use Rattle.opa_io.proofs.Characters.{own_bytes}
 use Rattle.opa_date.specs.declared.TheConstants.{DAYS}
 use Rattle.opa_date.specs.Texts.{day_text}
 use Rattle.opa_date.proofs.ReadTexts.{texts_are_read}
@@ -32,9 +31,6 @@ use Rattle.opa_saved.proofs.TextLaws.{after_is}
 
 -- ---- values
 
-same_bytes : (t : List ℕ) → bytes_eq t t ≡ true
-same_bytes t = (bytes_eq-Decides t t).1 refl
-
 typed_number : (t : List ℕ) → typed_value (codes "n:" ++ t) ≡ number_value t
 unfolding typed_value
 typed_number t = ap (λ o. plain_value o (after (codes "t:") (codes "n:" ++ t)) (after (codes "d:") (codes "n:" ++ t))) (after_is (codes "n:") t (codes "n:" ++ t) refl)
@@ -58,7 +54,7 @@ value_back (value.Bool false) is day clear = refl
 value_back (value.Num n) is day clear =
     typed_number (plain_text n)
     ∙ ap (option_and_then (plainly (plain_text n))) (ap number_read (plain_back n is))
-    ∙ ap (λ b. cond b (Some (value.Num n)) None) (same_bytes (plain_text n))
+    ∙ ap (λ b. cond b (Some (value.Num n)) None) (own_bytes (plain_text n))
 value_back (value.Words t) is day clear = typed_text t ∙ ap (option_map (λ u. value.Words u)) (clean_is t clear)
 value_back (value.Day d) is day clear = typed_day (day_text d) ∙ ap (λ r. option_map (λ k. value.Day k) (day_read r)) (texts_are_read d day)
 

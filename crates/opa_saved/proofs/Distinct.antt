@@ -2,16 +2,17 @@
 use Rattle.std.proofs.Common.{◌≡◌, ◌≤◌, ◌<◌, ◌-◌, ◌==◌, ℕ, zero, suc, Bool, true, false, cond, List, [], ◌∷◌, ◌++◌, map, arith, refl, sym, ap, subst, ◌∙◌}
 use Rattle.std.specs.Prelude.{Option, None, Some, filter, flat_map, not, ◌||◌, ◌&&◌}
 use Rattle.std.specs.List.{list_any, AllByRecursion}
-use Rattle.std.proofs.lemmas.Bool.{and_parts, or_parts, eqb-true}
+use Rattle.std.proofs.lemmas.Bool.{and_parts, or_parts, false_from_ne_true as by_cases, or_right, or_left, or_from}
 use Rattle.std.proofs.lemmas.List.Folds.{list_any-append}
 use mathlib.Core.Bool.{true≢false}
+use Rattle.opa_io.proofs.Bools.{never_both}
+use Rattle.opa_io.proofs.Lists.{map_append}
 use Rattle.opa_cells.specs.declared.instance.InstanceId.{InstanceId}
 use Rattle.opa_cells.specs.Instances.{is_same, is_text, global, named}
 use Rattle.opa_cells.proofs.Orders.{same_is, same_itself}
 use Rattle.opa_case.specs.Shapes.{Shape}
 use Rattle.opa_case.specs.Live.{Names, Lists, Population, members, in_container, held, held_names, live_upto, live_of}
 use Rattle.opa_case.specs.Cases.{are_names, is_empty}
-use Rattle.opa_case.proofs.Lively.{or_left, or_right}
 use Rattle.opa_case.proofs.Stands.{text_itself}
 
 -- whether the instance is among these
@@ -22,27 +23,12 @@ abbrev pub Distinct : List InstanceId → Type 0
 Distinct [] = Unit {0}
 Distinct (i ∷ is) = (among i is ≡ false) × Distinct is
 
-pub by_cases : (b : Bool) → (b ≡ true → ⊥) → b ≡ false
-by_cases true h = absurd (h refl)
-by_cases false h = refl
-
-pub never_both : (b : Bool) → b ≡ true → b ≡ false → ⊥
-never_both b h g = true≢false (sym h ∙ g)
-
-pub neither : (a b : Bool) → a ≡ false → b ≡ false → (a || b) ≡ false
-neither true b e g = absurd (true≢false e)
-neither false b e g = g
-
 abbrev firsts : Population → List InstanceId
 firsts pop = map (λ p. p.0) pop
 
-map_append : {A B : Type 0} (f : A → B) (xs ys : List A) → map f (xs ++ ys) ≡ map f xs ++ map f ys
-map_append f [] ys = refl
-map_append f (x ∷ xs) ys = ap (λ zs. f x ∷ zs) (map_append f xs ys)
-
 distinct_append : (xs ys : List InstanceId) → Distinct xs → Distinct ys → AllByRecursion (λ x. among x ys ≡ false) xs → Distinct (xs ++ ys)
 distinct_append [] ys h g a = g
-distinct_append (x ∷ xs) ys h g a = (list_any-append (is_same x) xs ys ∙ neither (among x xs) (among x ys) h.0 a.0, distinct_append xs ys h.1 g a.1)
+distinct_append (x ∷ xs) ys h g a = (list_any-append (is_same x) xs ys ∙ or_from (among x xs) (among x ys) h.0 a.0, distinct_append xs ys h.1 g a.1)
 
 -- ---- some of them
 
@@ -51,7 +37,7 @@ filter_none p i [] h = refl
 filter_none p i (x ∷ xs) h =
     let g = or_parts (is_same i x.0) (among i (firsts xs)) h in
     elim (p x) as (λ b. among i (firsts (cond b (x ∷ filter p xs) (filter p xs))) ≡ false) [
-      | true ↦ neither (is_same i x.0) _ g.0 (filter_none p i xs g.1)
+      | true ↦ or_from (is_same i x.0) _ g.0 (filter_none p i xs g.1)
       | false ↦ filter_none p i xs g.1
     ]
 
@@ -68,20 +54,6 @@ distinct_members e pop h = elim (e == 0) as (λ b. Distinct (cond b (global ∷ 
   | false ↦ distinct_filter (λ p. p.0.entity.0 == e) pop h
 ]
 
--- each member is of the entity
-of_entity : (e : ℕ) (pop : Population) → AllByRecursion (λ i. i.entity.0 ≡ e) (firsts (filter (λ p. p.0.entity.0 == e) pop))
-of_entity e [] = tt
-of_entity e (x ∷ xs) = elim (x.0.entity.0 == e) as (λ b. (x.0.entity.0 == e) ≡ b → AllByRecursion (λ i. i.entity.0 ≡ e) (firsts (cond b (x ∷ filter (λ p. p.0.entity.0 == e) xs) (filter (λ p. p.0.entity.0 == e) xs)))) [
-  | true ↦ λ h. (eqb-true x.0.entity.0 e h, of_entity e xs)
-  | false ↦ λ _. of_entity e xs
-] refl
-
-pub members_of : (e : ℕ) (pop : Population) → AllByRecursion (λ i. i.entity.0 ≡ e) (members e pop)
-members_of e pop = elim (e == 0) as (λ b. (e == 0) ≡ b → AllByRecursion (λ i. i.entity.0 ≡ e) (cond b (global ∷ []) (firsts (filter (λ p. p.0.entity.0 == e) pop)))) [
-  | true ↦ λ h. (sym (eqb-true e 0 h), tt)
-  | false ↦ λ _. of_entity e pop
-] refl
-
 -- ---- names in one container
 
 firsts_in : (e : ℕ) (c : InstanceId) (ns : Names) → firsts (in_container e c ns) ≡ map (named e) ns
@@ -92,7 +64,7 @@ named_none : (e : ℕ) (n : List ℕ) (ns : Names) → list_any (is_text n) ns �
 named_none e n [] h = refl
 named_none e n (k ∷ ks) h =
     let g = or_parts (is_text n k) (list_any (is_text n) ks) h in
-    neither (is_same (named e n) (named e k)) (among (named e n) (map (named e) ks))
+    or_from (is_same (named e n) (named e k)) (among (named e n) (map (named e) ks))
     (by_cases (is_same (named e n) (named e k)) (λ t. never_both (is_text n k) (subst (λ x. is_text n x ≡ true) (ap (λ (i : InstanceId). i.name) (same_is (named e n) (named e k) t)) (text_itself n)) g.0))
     (named_none e n ks g.1)
 

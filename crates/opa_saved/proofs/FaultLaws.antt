@@ -8,6 +8,7 @@ use Rattle.std.specs.Str.{bytes_eq}
 use Rattle.std.proofs.lemmas.Bool.{or_parts, le-ltb, lt-ltb}
 use Rattle.std.proofs.lemmas.List.Folds.{list_any-append}
 use Rattle.std.proofs.lemmas.List.Quantifiers.{position-Some}
+use Rattle.std.proofs.lemmas.Option.{same_Some}
 use mathlib.Core.Bool.{true≢false}
 use Rattle.opa_model.specs.declared.ids.AttrId.{AttrId}
 use Rattle.opa_model.specs.declared.ids.RelId.{RelId}
@@ -24,7 +25,7 @@ use Rattle.opa_case.specs.Live.{Names, Population}
 use Rattle.opa_case.specs.Cases.{are_names}
 use Rattle.opa_case.specs.Steps.{is_full, is_misplaced, cant_name, list_fault, is_unanswerable, has_kind, in_bounds, answer_fault, with_answer}
 use Rattle.opa_case.specs.Fits.{Known}
-use Rattle.opa_case.proofs.Stands.{either_has, some_is}
+use Rattle.opa_case.proofs.Stands.{either_has}
 use Rattle.opa_case.proofs.Kept.{inserted}
 use Rattle.opa_saved.specs.declared.entries.AnswerEntry.{AnswerEntry}
 use Rattle.opa_saved.specs.declared.entries.ListEntry.{ListEntry}
@@ -126,7 +127,7 @@ relation_bound m phrase r h = go (position (bytes_eq phrase) (relation_phrases m
     go None e g = absurd (cc g)
     go (Some n) e g =
         let p = position-Some (bytes_eq phrase) (relation_phrases m) n [] e in
-        let same : n ≡ r.0 = ap (λ (x : RelId). x.0) (some_is (record { 0 = n }) r g) in
+        let same : n ≡ r.0 = ap (λ (x : RelId). x.0) (same_Some (record { 0 = n }) r g) in
         omega (arith, p.0, same, phrases m.relations)
 
 module _ (m : Lists) (live : Population) where

@@ -8,6 +8,7 @@ use Rattle.std.specs.Cmp.{IsTotalOrder, eq_by_cmp_equiv}
 use Rattle.std.specs.Cmp.Lexicographic.{nat_list_cmp_total}
 use Rattle.std.proofs.lemmas.Cmp.{on_total, then_total}
 use Rattle.std.proofs.lemmas.List.{drop_more}
+use Rattle.std.proofs.lemmas.Bool.{and_right}
 use mathlib.Core.Bool.{true≢false}
 use Rattle.opa_cells.specs.declared.instance.InstanceId.{InstanceId}
 use Rattle.opa_cells.specs.Instances.{is_same}
@@ -62,10 +63,6 @@ both_false : (a b : Bool) → a ≡ true → (not a && b) ≡ false
 both_false true b e = refl
 both_false false b e = absurd (true≢false (sym e))
 
-and_false : (a b : Bool) → b ≡ false → (a && b) ≡ false
-and_false true b e = e
-and_false false b e = refl
-
 both_true : (a b : Bool) → a ≡ false → b ≡ true → (not a && b) ≡ true
 both_true true b e h = absurd (true≢false e)
 both_true false b e h = h
@@ -75,7 +72,7 @@ module _ {A : Type 0} (point : A → Point) where
   twice_later : (k : ℕ) (xs : List A) → differ (map point (drop k xs)) ≡ false → differ (map point xs) ≡ false
   twice_later zero xs h = h
   twice_later (suc k) [] h = h
-  twice_later (suc k) (x ∷ xs) h = and_false (not (list_any (is_point (point x)) (map point xs))) (differ (map point xs)) (twice_later k xs h)
+  twice_later (suc k) (x ∷ xs) h = and_right (not (list_any (is_point (point x)) (map point xs))) (differ (map point xs)) (twice_later k xs h)
 
   pub twice_at : (xs : List A) (at : ℕ) (x : A) (has : Bool) → drop (at - 1) xs ≡ x ∷ drop at xs → has ≡ list_any (is_point (point x)) (map point (drop at xs)) → has ≡ true → false ≡ differ (map point xs)
   twice_at xs at x has split is test =

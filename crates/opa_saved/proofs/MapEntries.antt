@@ -7,23 +7,25 @@ use Rattle.std.specs.FinMap.{FinMap, get, insert, empty, same_map, get-insert, g
 use Rattle.std.specs.Ordering.{eq_by_cmp, nat_cmp}
 use Rattle.std.specs.Cmp.{eq_by_cmp_equiv}
 use Rattle.std.specs.Cmp.Lexicographic.{slice_cmp}
-use Rattle.std.proofs.lemmas.Bool.{and_parts}
+use Rattle.std.proofs.lemmas.Bool.{and_parts, false_from_ne_true, or_right, or_left, or_from}
 use Rattle.std.proofs.lemmas.List.Folds.{list_any-append}
 use Rattle.std.proofs.lemmas.Map.Views.{tells_apart}
 use mathlib.Core.Bool.{true≢false}
 use Rattle.serde_json.specs.Data.{Data}
+use Rattle.opa_io.proofs.Bools.{never_both}
+use Rattle.opa_io.proofs.Lists.{each_weaker, map_append, each_append as all_append}
 use Rattle.opa_cells.specs.declared.instance.InstanceId.{InstanceId}
 use Rattle.opa_cells.specs.Instances.{is_same, is_text}
 use Rattle.opa_cells.specs.Keys.{cell_cmp}
 use Rattle.opa_cells.proofs.Orders.{cell_exact, cell_total, same_is, same_itself}
 use Rattle.opa_cells.proofs.Rowed.{parts}
 use Rattle.opa_case.specs.Live.{Population, members}
-use Rattle.opa_case.proofs.Lively.{or_left, or_right}
 use Rattle.opa_case.proofs.Stands.{text_is}
+use Rattle.opa_case.proofs.Among.{members_of}
 use Rattle.opa_saved.specs.declared.entries.Point.{Point}
 use Rattle.opa_saved.specs.Forms.{each, point_at, is_point, differ}
 use Rattle.opa_saved.specs.Saved.{entry_of}
-use Rattle.opa_saved.proofs.Distinct.{among, Distinct, distinct_members, members_of, by_cases, never_both, neither}
+use Rattle.opa_saved.proofs.Distinct.{among, Distinct, distinct_members}
 
 -- ---- lists
 
@@ -41,18 +43,6 @@ has_right : {E : Type 0} (e : E) (xs ys : List E) → Has e ys → Has e (xs ++ 
 unfolding Has
 has_right e [] ys h = h
 has_right e (x ∷ xs) ys h = inr (has_right e xs ys h)
-
-all_append : {A : Type 0} (P : A → Type 0) (xs ys : List A) → AllByRecursion P xs → AllByRecursion P ys → AllByRecursion P (xs ++ ys)
-all_append P [] ys a b = b
-all_append P (x ∷ xs) ys a b = (a.0, all_append P xs ys a.1 b)
-
-all_weaker : {A : Type 0} (P Q : A → Type 0) → ((x : A) → P x → Q x) → (xs : List A) → AllByRecursion P xs → AllByRecursion Q xs
-all_weaker P Q f [] h = tt
-all_weaker P Q f (x ∷ xs) h = (f x h.0, all_weaker P Q f xs h.1)
-
-map_append : {A B : Type 0} (f : A → B) (xs ys : List A) → map f (xs ++ ys) ≡ map f xs ++ map f ys
-map_append f [] ys = refl
-map_append f (x ∷ xs) ys = ap (λ zs. f x ∷ zs) (map_append f xs ys)
 
 nothing_of : {B : Type 0} (b : List B) → Some [] ≡ Some b → [] ≡ b
 nothing_of b e = cc e
@@ -79,7 +69,7 @@ point_exact p q h =
 
 none_is : (p : Point) (qs : List Point) → AllByRecursion (λ q. p ≢ q) qs → list_any (is_point p) qs ≡ false
 none_is p [] h = refl
-none_is p (q ∷ qs) h = neither (is_point p q) (list_any (is_point p) qs) (by_cases (is_point p q) (λ t. h.0 (point_exact p q t))) (none_is p qs h.1)
+none_is p (q ∷ qs) h = or_from (is_point p q) (list_any (is_point p) qs) (false_from_ne_true (is_point p q) (λ t. h.0 (point_exact p q t))) (none_is p qs h.1)
 
 differ_cons : (p : Point) (qs : List Point) → AllByRecursion (λ q. p ≢ q) qs → differ qs ≡ true → differ (p ∷ qs) ≡ true
 differ_cons p qs h d = ap (λ b. not b && differ qs) (none_is p qs h) ∙ d
@@ -88,7 +78,7 @@ differ_append : (ps qs : List Point) → differ ps ≡ true → differ qs ≡ tr
 differ_append [] qs h g a = g
 differ_append (p ∷ ps) qs h g a =
     let d = and_parts (not (list_any (is_point p) ps)) (differ ps) h in
-    ap (λ b. not b && differ (ps ++ qs)) (list_any-append (is_point p) ps qs ∙ neither (list_any (is_point p) ps) (list_any (is_point p) qs) (turned (list_any (is_point p) ps) d.0) (none_is p qs a.0)) ∙ differ_append ps qs d.1 g a.1
+    ap (λ b. not b && differ (ps ++ qs)) (list_any-append (is_point p) ps qs ∙ or_from (list_any (is_point p) ps) (list_any (is_point p) qs) (turned (list_any (is_point p) ps) d.0) (none_is p qs a.0)) ∙ differ_append ps qs d.1 g a.1
   where
     turned : (b : Bool) → not b ≡ true → b ≡ false
     turned true e = absurd (true≢false (sym e))
@@ -193,7 +183,7 @@ module _ {V E : Type 0} (make : Point → V → E) (phrase : ℕ → List ℕ) (
         go None rest = rest
         go (Some v) rest =
             ap (λ q. differ (q ∷ map point (made_of n is))) (pointed (point_at (phrase n) i.name) v)
-            ∙ differ_cons (point_at (phrase n) i.name) (map point (made_of n is)) (map_all (λ q. point_at (phrase n) i.name ≢ q) (made_of n is) (all_weaker (IsOf n is) _ apart (made_of n is) (of_made n is))) rest
+            ∙ differ_cons (point_at (phrase n) i.name) (map point (made_of n is)) (map_all (λ q. point_at (phrase n) i.name ≢ q) (made_of n is) (each_weaker (IsOf n is) _ apart (made_of n is) (of_made n is))) rest
 
     -- the phrase of an earlier number
     IsEarlier : ℕ → E → Type 0
@@ -210,10 +200,10 @@ module _ {V E : Type 0} (make : Point → V → E) (phrase : ℕ → List ℕ) (
         ap differ (map_append point (upto k) (at_number k))
         ∙ differ_append (map point (upto k)) (map point (at_number k)) (differ_upto k (λ n j lt l. apart n j lt (omega (arith, l))) d)
         (differ_made k (members (owner k) live) (distinct_members (owner k) live d) (members_of (owner k) live))
-        (map_all (λ p. AllByRecursion (λ q. p ≢ q) (map point (at_number k))) (upto k) (all_weaker (IsEarlier k) _ others (upto k) (earlier k)))
+        (map_all (λ p. AllByRecursion (λ q. p ≢ q) (map point (at_number k))) (upto k) (each_weaker (IsEarlier k) _ others (upto k) (earlier k)))
       where
         others : (e : E) → IsEarlier k e → AllByRecursion (λ q. point e ≢ q) (map point (at_number k))
-        others e x = map_all (λ q. point e ≢ q) (at_number k) (all_weaker (IsOf k (members (owner k) live)) _ (λ f y h. apart x.0 k x.1 (omega arith) (sym x.2 ∙ ap (λ (p : Point). p.phrase) (h ∙ y.2))) (at_number k) (of_made k (members (owner k) live)))
+        others e x = map_all (λ q. point e ≢ q) (at_number k) (each_weaker (IsOf k (members (owner k) live)) _ (λ f y h. apart x.0 k x.1 (omega arith) (sym x.2 ∙ ap (λ (p : Point). p.phrase) (h ∙ y.2))) (at_number k) (of_made k (members (owner k) live)))
 
   -- ---- what is written is read as these
 

@@ -13,6 +13,7 @@ use Rattle.std.proofs.lemmas.Map.Views.{tells_apart}
 use mathlib.Core.Bool.{true≢false}
 use Rattle.serde_json.specs.Data.{Data}
 use Rattle.serde_json.specs.Find.{get as find_in}
+use Rattle.opa_io.proofs.Options.{bound_parts, mapped_parts}
 use Rattle.opa_model.specs.declared.ids.AttrId.{AttrId}
 use Rattle.opa_model.specs.declared.ids.RelId.{RelId}
 use Rattle.opa_model.specs.declared.lists.Lists.{Lists}
@@ -188,12 +189,6 @@ module _ {E V : Type 0} (point : E → Point) (key : E → Option (ℕ × Instan
       go k None e (Some v) f = absurd (let g : ◌≡◌ {A = Option V} None (Some v) = sym e ∙ one_way ys xs a (λ x. (h x).1) b k v f in cc g)
 
 -- ---- lists and answers
-
-relation_id : ℕ → RelId
-relation_id n = record { 0 = n }
-
-attribute_id : ℕ → AttrId
-attribute_id n = record { 0 = n }
 
 module _ (m : Lists) where
   phrase_found : (ps : List (List ℕ)) (t : List ℕ) (n : ℕ) → position (bytes_eq t) ps ≡ Some n → slice_get ps n ≡ Some t
@@ -380,14 +375,6 @@ any_order m ruled f g a b lists answers =
 
 -- ---- entries that are read are apart
 
-bound : {A B : Type 0} (f : A → Option B) (o : Option A) (y : B) → option_and_then f o ≡ Some y → (x : A) × (o ≡ Some x) × (f x ≡ Some y)
-bound f None y h = absurd (cc h)
-bound f (Some x) y h = (x, refl, h)
-
-mapped : {A B : Type 0} (f : A → B) (o : Option A) (y : B) → option_map f o ≡ Some y → (x : A) × (o ≡ Some x) × (f x ≡ y)
-mapped f None y h = absurd (cc h)
-mapped f (Some x) y h = (x, refl, cc h)
-
 passed : {A : Type 0} (b : Bool) (x y : A) → ◌≡◌ {A = Option A} (cond b (Some x) None) (Some y) → (b ≡ true) × (x ≡ y)
 passed true x y h = (refl, cc h)
 passed false x y h = absurd (cc h)
@@ -399,25 +386,25 @@ tested false o y h = absurd (cc h)
 answers_differ : (v : Version) (d : Data) (es : List AnswerEntry) → answers_in v d ≡ Some es → differ (answer_points es) ≡ true
 unfolding answers_in
 answers_differ v d es h =
-    let a = bound answers_apart (option_and_then (each (answer_in v)) (items_in d)) es h in
+    let a = bound_parts answers_apart (option_and_then (each (answer_in v)) (items_in d)) es h in
     let p = passed (differ (answer_points a.0)) a.0 es a.2 in
     ap (λ x. differ (answer_points x)) (sym p.1) ∙ p.0
 
 lists_differ : (d : Data) (es : List ListEntry) → lists_in d ≡ Some es → differ (list_points es) ≡ true
 unfolding lists_in
 lists_differ d es h =
-    let a = bound lists_apart (option_and_then (each list_in) (items_in d)) es h in
+    let a = bound_parts lists_apart (option_and_then (each list_in) (items_in d)) es h in
     let p = passed (differ (list_points a.0)) a.0 es a.2 in
     ap (λ x. differ (list_points x)) (sym p.1) ∙ p.0
 
 pub read_apart : ReadApart
 unfolding file_in
 read_apart d f h =
-    let a = bound (λ v. file_of v d) (version_in d) f (tested (says_format d) (option_and_then (λ v. file_of v d) (version_in d)) f h) in
-    let b = bound (λ es. option_map (file_at a.0 es) (member_in (codes "lists") lists_in d)) (member_in (codes "answers") (answers_in a.0) d) f a.2 in
-    let c = mapped (file_at a.0 b.0) (member_in (codes "lists") lists_in d) f b.2 in
-    let x = bound (answers_in a.0) (find_in (codes "answers") d) b.0 b.1 in
-    let y = bound lists_in (find_in (codes "lists") d) c.0 c.1 in
+    let a = bound_parts (λ v. file_of v d) (version_in d) f (tested (says_format d) (option_and_then (λ v. file_of v d) (version_in d)) f h) in
+    let b = bound_parts (λ es. option_map (file_at a.0 es) (member_in (codes "lists") lists_in d)) (member_in (codes "answers") (answers_in a.0) d) f a.2 in
+    let c = mapped_parts (file_at a.0 b.0) (member_in (codes "lists") lists_in d) f b.2 in
+    let x = bound_parts (answers_in a.0) (find_in (codes "answers") d) b.0 b.1 in
+    let y = bound_parts lists_in (find_in (codes "lists") d) c.0 c.1 in
     record {
       answers = ap (λ (k : File). differ (answer_points k.answers)) (sym c.2) ∙ answers_differ a.0 x.0 b.0 x.2;
       lists = ap (λ (k : File). differ (list_points k.lists)) (sym c.2) ∙ lists_differ y.0 c.0 y.2;

@@ -6,6 +6,7 @@ use Rattle.std.specs.FinMap.{FinMap, get, insert, empty, entries, same_map, get-
 use Rattle.std.specs.Ordering.{eq_by_cmp}
 use Rattle.std.proofs.lemmas.Map.Views.{tells_apart}
 use denote.Ref.{Bor}
+use Rattle.opa_io.proofs.Lists.{each_push}
 use Rattle.opa_model.specs.declared.ids.RelId.{RelId}
 use Rattle.opa_cells.specs.declared.instance.InstanceId.{InstanceId}
 use Rattle.opa_cells.specs.Keys.{cell_cmp}
@@ -132,12 +133,8 @@ module _ (s : Shape) (ruled : List Bool) (shape : IsShape s) (all : FinMap cell_
 
 -- ---- all cells
 
-all_last : {A : Type 0} (P : A → Type 0) (xs : List A) (x : A) → AllByRecursion P xs → P x → AllByRecursion P (xs ++ x ∷ [])
-all_last P [] x h p = (p, tt)
-all_last P (y ∷ ys) x h p = (h.0, all_last P ys x h.1 p)
-
 pub all_step : {A : Type 0} (P Q : A → Type 0) (xs ys : List A) (x : A) → ys ≡ xs ++ x ∷ [] → ((a : A) → P a → Q a) → AllByRecursion P xs → Q x → AllByRecursion Q ys
-all_step P Q xs ys x e f h q = subst (AllByRecursion Q) (sym e) (all_last Q xs x (weaker xs h) q)
+all_step P Q xs ys x e f h q = subst (AllByRecursion Q) (sym e) (each_push Q xs x (weaker xs h) q)
   where
     weaker : (zs : List _) → AllByRecursion P zs → AllByRecursion Q zs
     weaker [] k = tt

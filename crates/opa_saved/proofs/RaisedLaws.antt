@@ -1,10 +1,11 @@
 -- Lines of version 1.
-use Rattle.std.proofs.Common.{◌≡◌, ◌<◌, ◌≤◌, ◌+◌, ◌==◌, ℕ, zero, suc, Bool, true, false, cond, List, [], ◌∷◌, arith, refl, sym, ap, subst, ◌∙◌}
+use Rattle.std.proofs.Common.{◌≡◌, ◌<◌, ◌≤◌, ◌+◌, ◌==◌, ℕ, zero, suc, Bool, true, false, cond, List, [], ◌∷◌, arith, refl, sym, ap, subst, ◌∙◌, le-leb}
 use Rattle.std.specs.Prelude.{Option, None, Some, nat_lt, nat_le, if◌then◌else◌}
 use Rattle.std.specs.Option.{option_map, option_and_then}
 use Rattle.std.proofs.lemmas.Bool.{ltb-true, eqb-true}
 use mathlib.Core.Bool.{true≢false}
 use Rattle.serde_json.specs.Data.{Data}
+use Rattle.opa_io.proofs.Options.{bound_parts, mapped_parts}
 use Rattle.opa_date.specs.declared.TheConstants.{DAYS}
 use Rattle.opa_value.specs.declared.value.Value.{Value}
 use Rattle.opa_line.specs.declared.pairs.LineFault.{LineFault}
@@ -18,14 +19,6 @@ use Rattle.opa_saved.specs.LoadLaws.{written_pair, IsRaised, FirstIsRaised}
 use Rattle.opa_saved.proofs.PartLaws.{line_stands}
 
 -- ---- steps that may fail, backwards
-
-bound : {A B : Type 0} (f : A → Option B) (o : Option A) (y : B) → option_and_then f o ≡ Some y → (x : A) × (o ≡ Some x) × (f x ≡ Some y)
-bound f None y h = absurd (cc h)
-bound f (Some x) y h = (x, refl, h)
-
-mapped : {A B : Type 0} (f : A → B) (o : Option A) (y : B) → option_map f o ≡ Some y → (x : A) × (o ≡ Some x) × (f x ≡ y)
-mapped f None y h = absurd (cc h)
-mapped f (Some x) y h = (x, refl, cc h)
 
 kept : {A : Type 0} (o : Option LineFault) (x y : A) → unless_fault o x ≡ Some y → (o ≡ None) × (x ≡ y)
 kept None x y h = (refl, cc h)
@@ -62,9 +55,9 @@ raised_pair : (ds : List Data) (p : ℕ × Value) → pair_of First ds ≡ Some 
 raised_pair [] p h = absurd (cc h)
 raised_pair (d ∷ []) p h = absurd (cc h)
 raised_pair (d ∷ t ∷ []) p h =
-    let a = bound (λ day. option_map (λ x. (day, x)) (value_in t)) (day_at First d) p h in
-    let b = bound first_day_in (whole d) a.0 a.1 in
-    let c = mapped (λ x. (a.0, x)) (value_in t) p a.2 in
+    let a = bound_parts (λ day. option_map (λ x. (day, x)) (value_in t)) (day_at First d) p h in
+    let b = bound_parts first_day_in (whole d) a.0 a.1 in
+    let c = mapped_parts (λ x. (a.0, x)) (value_in t) p a.2 in
     let day : a.0 ≡ p.0 = ap (λ (q : ℕ × Value). q.0) c.2 in (
       (b.0, c.0),
       ap (option_and_then (λ k. option_map (λ x. (k, x)) (value_in t))) b.1 ∙ ap (option_map (λ x. (b.0, x))) c.1,
@@ -76,9 +69,9 @@ raised_pair (d ∷ t ∷ e ∷ ds) p h = absurd (cc h)
 raised_each : (ds : List Data) (ls : Answer) → each (pair_in First) ds ≡ Some ls → (ws : Answer) × (each (λ p. option_and_then written_pair (items_in p)) ds ≡ Some ws) × AreRaised ws ls
 raised_each [] ls h = ([], refl, subst (AreRaised []) (cc h) none)
 raised_each (d ∷ ds) ls h =
-    let a = bound (λ y. option_map (λ ys. y ∷ ys) (each (pair_in First) ds)) (pair_in First d) ls h in
-    let b = mapped (λ ys. a.0 ∷ ys) (each (pair_in First) ds) ls a.2 in
-    let i = bound (pair_of First) (items_in d) a.0 a.1 in
+    let a = bound_parts (λ y. option_map (λ ys. y ∷ ys) (each (pair_in First) ds)) (pair_in First d) ls h in
+    let b = mapped_parts (λ ys. a.0 ∷ ys) (each (pair_in First) ds) ls a.2 in
+    let i = bound_parts (pair_of First) (items_in d) a.0 a.1 in
     let w = raised_pair i.0 a.0 i.2 in
     let r = raised_each ds b.0 b.1 in
     let this : option_and_then written_pair (items_in d) ≡ Some w.0 = ap (option_and_then written_pair) i.1 ∙ w.1 in (
@@ -98,9 +91,6 @@ split false c e = absurd (true≢false (sym e))
 above : (j d b : ℕ) → Raised j d → b < d → 0 < j
 above zero d b r lt = absurd (omega (arith, r.zero_stays refl, lt))
 above (suc j) d b r lt = omega arith
-
-at_most : (a b : ℕ) → a ≤ b → nat_le a b ≡ true
-at_most a b le = grind (arith, le)
 
 -- ---- values of raised pairs, where all days are above 0
 
@@ -146,8 +136,8 @@ after_from v _ _ (more j e u ws ls r rest) d ge =
     there j lt = grind (arith, lt)
 
     reached : (j e : ℕ) → Raised j e → (d : ℕ) → 219146 ≤ d → nat_le e d ≡ true
-    reached zero e r d ge = let z : e ≡ 0 = r.zero_stays refl in at_most e d (omega (arith, z))
-    reached (suc j) e r d ge = let z : e ≡ suc j + 73049 = r.others_rise (omega arith) in at_most e d (omega (arith, z, r.early, ge))
+    reached zero e r d ge = let z : e ≡ 0 = r.zero_stays refl in le-leb e d (omega (arith, z))
+    reached (suc j) e r d ge = let z : e ≡ suc j + 73049 = r.others_rise (omega arith) in le-leb e d (omega (arith, z, r.early, ge))
 
 -- ---- the whole line
 
@@ -173,8 +163,8 @@ raised_line _ _ line (more j d v ws ls r rest) h e =
 
 pub first_is_raised : FirstIsRaised
 first_is_raised d line h =
-    let a = bound (λ pairs. unless_fault (fault_of pairs) (line_of pairs)) (pairs_in First d) line h in
+    let a = bound_parts (λ pairs. unless_fault (fault_of pairs) (line_of pairs)) (pairs_in First d) line h in
     let k = kept (fault_of a.0) (line_of a.0) line a.2 in
-    let i = bound (each (pair_in First)) (items_in d) a.0 a.1 in
+    let i = bound_parts (each (pair_in First)) (items_in d) a.0 a.1 in
     let r = raised_each i.0 a.0 i.2 in
     (r.0, ap (option_and_then (each (λ p. option_and_then written_pair (items_in p)))) i.1 ∙ r.1, raised_line r.0 a.0 line r.2 k.0 (sym k.1))

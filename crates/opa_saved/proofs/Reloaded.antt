@@ -1,10 +1,10 @@
 -- A case that is saved is loaded as it was.
-use Rattle.std.proofs.Common.{◌≡◌, ◌<◌, ◌+◌, ◌*◌, ◌%◌, ℕ, zero, suc, Bool, true, false, cond, List, [], ◌∷◌, ◌++◌, length, map, arith, refl, sym, ap, subst, ◌∙◌}
+use Rattle.std.proofs.Common.{◌≡◌, ◌<◌, ◌+◌, ◌*◌, ◌%◌, ℕ, zero, suc, Bool, true, false, cond, List, [], ◌∷◌, ◌++◌, length, map, arith, refl, sym, ap, subst, ◌∙◌, eq-eqb}
 use Rattle.std.specs.Prelude.{Option, None, Some, nat_lt, not, ◌||◌, ◌&&◌, flat_map, option_to_list}
 use Rattle.std.specs.List.{list_any, AllByRecursion}
 use Rattle.std.specs.Option.{option_map, option_and_then, option_map_or, option_or}
 use Rattle.std.specs.FinMap.{FinMap, get, insert, empty, len}
-use Rattle.std.proofs.lemmas.Bool.{le-ltb, lt-ltb}
+use Rattle.std.proofs.lemmas.Bool.{le-ltb, lt-ltb, or_from}
 use Rattle.serde_json.specs.Data.{Data}
 use Rattle.opa_model.specs.declared.ids.RelId.{RelId}
 use Rattle.opa_model.specs.declared.lists.Lists.{Lists}
@@ -23,7 +23,6 @@ use Rattle.opa_case.specs.Clean.{IsClean, is_clean_text}
 use Rattle.opa_case.specs.Fits.{Known, Fits}
 use Rattle.opa_case.specs.Steps.{every_of, has_rule, is_unanswerable, is_misplaced, cant_name, stands_elsewhere, list_fault, answer_fault}
 use Rattle.opa_case.proofs.Shaped.{shape_is}
-use Rattle.opa_case.proofs.Stands.{same_number}
 use Rattle.opa_case.proofs.Kept.{stands}
 use Rattle.opa_saved.specs.declared.entries.AnswerEntry.{AnswerEntry}
 use Rattle.opa_saved.specs.declared.entries.ListEntry.{ListEntry}
@@ -36,7 +35,7 @@ use Rattle.opa_saved.specs.Loading.{case_of, living, put_list, put_lists, put_an
 use Rattle.opa_saved.specs.RoundTrip.{HasLines, IsWithin, SavedLoads}
 use Rattle.opa_saved.specs.Saved.{attr, rel, list_data, line_data, names_data, answer_entry, list_entry, answers_of, answers_upto, lists_of, lists_upto, whole_data, saved_data, ReadsAs}
 use Rattle.opa_saved.proofs.BackValues.{line_back, names_back, name_back}
-use Rattle.opa_saved.proofs.Distinct.{among, Distinct, AreApart, distinct_live, neither}
+use Rattle.opa_saved.proofs.Distinct.{among, Distinct, AreApart, distinct_live}
 use Rattle.opa_saved.proofs.MapEntries.{upto, written_upto, all_upto, differ_upto, each_upto, puts, makes_all}
 use Rattle.opa_text.proofs.OwnPhrases.{own_attribute, own_relation}
 use Rattle.opa_saved.proofs.OwnPlaces.{all_at, attributes_apart, relations_apart, live_member, clean_live}
@@ -237,8 +236,8 @@ module _ (m : Lists) (ruled : List Bool) (c : CaseView) (im : IsModel m) (fits :
 
   misplaced : (r : RelId) (i : InstanceId) (v : Names) → Known c.lists r i v → is_misplaced s (living c.live) r i ≡ false
   misplaced r i v h =
-      neither (s.every r || not (is_live c.live i)) _ (neither (s.every r) _ (fits.sound.not_every r i v h) (ap not (fits.listed r i v h)))
-      (ap not (same_number i.entity.0 (s.source r) (fits.sound.source r i v h)))
+      or_from (s.every r || not (is_live c.live i)) _ (or_from (s.every r) _ (fits.sound.not_every r i v h) (ap not (fits.listed r i v h)))
+      (ap not (eq-eqb i.entity.0 (s.source r) (fits.sound.source r i v h)))
 
   free : (r : RelId) (i : InstanceId) (v : Names) → Known c.lists r i v → list_any (cant_name s (living c.live) r i) v ≡ false
   free r i v h = any_false (cant_name s (living c.live) r i) v (λ n g. go n g (s.contains r) refl)
@@ -268,8 +267,8 @@ module _ (m : Lists) (ruled : List Bool) (c : CaseView) (im : IsModel m) (fits :
   answerable : (n : ℕ) (i : InstanceId) (v : Answer) → get c.answers (n, i) ≡ Some v → is_unanswerable s ruled (living c.live) (attr n) i ≡ false
   answerable n i v h =
       let is = fits.answers (attr n) i v h in
-      neither (has_rule ruled (attr n) || not (is_live c.live i)) _ (neither (has_rule ruled (attr n)) _ is.no_rule (ap not (fits.answered (attr n) i v h)))
-      (ap not (same_number i.entity.0 (a_owner n) is.owner))
+      or_from (has_rule ruled (attr n) || not (is_live c.live i)) _ (or_from (has_rule ruled (attr n)) _ is.no_rule (ap not (fits.answered (attr n) i v h)))
+      (ap not (eq-eqb i.entity.0 (a_owner n) is.owner))
 
   answer_free : AllByRecursion (λ e. answer_refusal m ruled c.live (attribute_named m e.point.phrase) e ≡ None) answers
   answer_free =
@@ -304,7 +303,7 @@ module _ (m : Lists) (ruled : List Bool) (c : CaseView) (im : IsModel m) (fits :
       λ k. record { lists = sym lists_made k; every = every k; answers = sym answers_made k; live = alive k }
 
   same_origin : Same ≡ origin_by m (digest m)
-  same_origin = sym (ap (λ b. cond b Same Other) (same_number (digest m) (digest m) refl))
+  same_origin = sym (ap (λ b. cond b Same Other) (eq-eqb (digest m) (digest m) refl))
 
   loads : (bytes : List ℕ) → ReadsAs bytes (saved_data m c) → IsLoaded m ruled bytes c Same
   loads bytes h = record { value = saved_data m c; reads = h; file = file; form = form; faultless = faultless; case = case_is; origin = same_origin }

@@ -1,6 +1,6 @@
 -- A case that fits, as it is saved.
 use Rattle.std.proofs.Common.{◌≡◌, ◌<◌, ◌≤◌, ◌+◌, ◌-◌, ℕ, zero, suc, Bool, true, false, cond, List, [], ◌∷◌, ◌++◌, length, map, refl, sym, ap, subst, ◌∙◌, arith}
-use Rattle.std.specs.Prelude.{Option, Some, None, flat_map, ◌&&◌, ◌||◌}
+use Rattle.std.specs.Prelude.{Option, Some, None, flat_map, ◌||◌}
 use Rattle.std.specs.Option.{option_or}
 use Rattle.std.specs.List.{list_all, AllByRecursion}
 use Rattle.std.specs.FinMap.{get}
@@ -9,8 +9,6 @@ use Rattle.serde_json.specs.Read.{max_depth}
 use Rattle.serde_json.specs.View.{items_of}
 use Rattle.serde_json.specs.Written.{compact_text, has_float, items_have_float}
 use Rattle.opa_value.specs.declared.value.Value.{Value}
-use Rattle.opa_value.specs.declared.value.Value.TheVariants as value
-use Rattle.opa_date.specs.declared.TheConstants.{DAYS}
 use Rattle.opa_model.specs.declared.lists.Lists.{Lists}
 use Rattle.opa_model.specs.declared.things.Kind.{Kind}
 use Rattle.opa_model.specs.Models.{IsModel}
@@ -18,42 +16,28 @@ use Rattle.opa_cells.specs.declared.instance.InstanceId.{InstanceId}
 use Rattle.opa_case.specs.Live.{members, live_of}
 use Rattle.opa_case.specs.Cases.{CaseView, Answer, stored, list_of}
 use Rattle.opa_case.specs.Shapes.{Shape, IsShape, shape_of, attribute_or, relation_or}
-use Rattle.opa_case.specs.Steps.{has_kind, is_date}
+use Rattle.opa_case.specs.Steps.{has_kind}
 use Rattle.opa_case.proofs.Losing.{is_every}
 use Rattle.opa_case.proofs.Lively.{same_live}
 use Rattle.opa_case.proofs.Shaped.{shape_is}
-use Rattle.opa_text.specs.Texts.{IsOfCalendar}
-use Rattle.std.proofs.lemmas.Bool.{ltb-true}
+use Rattle.std.proofs.lemmas.Bool.{and_parts}
+use Rattle.opa_io.proofs.Options.{none_by}
+use Rattle.opa_io.proofs.Lists.{flat_map_same}
+use Rattle.opa_text.proofs.ValueDays.{value_days}
 use Rattle.opa_saved.specs.Digests.{digest}
 use Rattle.opa_saved.specs.Saved.{pair_data, list_data, answer_entry, list_entry, entry_of, rel, attr, lists_of, lists_upto, answers_of, answers_upto, whole_data, saved_data, saved_text}
 use Rattle.opa_saved.specs.Told.{AreOfCalendar, HasDays, FitsModel, lists_told, told_upto}
 
 -- ---- the days of answers
 
-both : (a b : Bool) → (a && b) ≡ true → (a ≡ true) × (b ≡ true)
-both true b h = (refl, h)
-both false b h = absurd (cc h)
-
-value_days : (k : Kind) (v : Value) → has_kind k v ≡ true → IsOfCalendar v
-value_days k value.Unknown h = tt
-value_days k value.Uncertain h = tt
-value_days k (value.Bool b) h = tt
-value_days k (value.Num n) h = tt
-value_days k (value.Words t) h = tt
-value_days k (value.Day d) h = ltb-true d DAYS (both (is_date k) _ h).1
-
 line_days : (k : Kind) (l : Answer) → list_all (λ (p : ℕ × Value). has_kind k p.1) l ≡ true → AreOfCalendar l
 line_days k [] h = tt
-line_days k (p ∷ l) h = let b = both (has_kind k p.1) (list_all (λ (q : ℕ × Value). has_kind k q.1) l) h in (value_days k p.1 b.0, line_days k l b.1)
+line_days k (p ∷ l) h = let b = and_parts (has_kind k p.1) (list_all (λ (q : ℕ × Value). has_kind k q.1) l) h in (value_days k p.1 b.0, line_days k l b.1)
 
 pub fits_days : (m : Lists) (c : CaseView) → FitsModel m c → HasDays c
 fits_days m c f n i l h = line_days ((shape_of m).attribute (attr n)).kind l (f.1.answers (attr n) i l h).kind
 
 -- ---- lists as they are looked up
-
-none_or : {A : Type 0} (o : Option A) → ((x : A) → o ≡ Some x → ⊥) → o ≡ None
-none_or None h = refl
-none_or (Some x) h = absurd (h x refl)
 
 or_none : {A : Type 0} (o p : Option A) → p ≡ None → option_or o p ≡ o
 or_none None p e = e
@@ -61,22 +45,18 @@ or_none (Some x) p e = refl
 
 -- a relation that isn't declared with `every`
 pub list_stored : (m : Lists) (c : CaseView) → FitsModel m c → (n : ℕ) (i : InstanceId) → (shape_of m).every (rel n) ≡ false → list_of c (rel n) i ≡ get c.lists (n, i)
-list_stored m c f n i e = or_none (get c.lists (n, i)) (get c.every (n, i)) (none_or (get c.every (n, i)) never)
+list_stored m c f n i e = or_none (get c.lists (n, i)) (get c.every (n, i)) (none_by (get c.every (n, i)) never)
   where
     never : (ns : List (List ℕ)) → get c.every (n, i) ≡ Some ns → ⊥
     never ns h = absurd (let g : false ≡ true = sym e ∙ is_every (shape_of m) (stored c.lists) n i ns (subst (λ x. get x (n, i) ≡ Some ns) f.1.every h) in cc g)
 
 -- a relation that is has no list there
 no_list : (m : Lists) (c : CaseView) → FitsModel m c → (n : ℕ) (i : InstanceId) → (shape_of m).every (rel n) ≡ true → get c.lists (n, i) ≡ None
-no_list m c f n i e = none_or (get c.lists (n, i)) (λ ns h. absurd (let g : true ≡ false = sym e ∙ f.1.sound.not_every (rel n) i ns h in cc g))
+no_list m c f n i e = none_by (get c.lists (n, i)) (λ ns h. absurd (let g : true ≡ false = sym e ∙ f.1.sound.not_every (rel n) i ns h in cc g))
 
 flat_none : {A B : Type 0} (f : A → List B) → ((x : A) → f x ≡ []) → (xs : List A) → flat_map f xs ≡ []
 flat_none f h [] = refl
 flat_none f h (x ∷ xs) = ap (λ ys. ys ++ flat_map f xs) (h x) ∙ flat_none f h xs
-
-flat_equal : {A B : Type 0} (f g : A → List B) → ((x : A) → f x ≡ g x) → (xs : List A) → flat_map f xs ≡ flat_map g xs
-flat_equal f g h [] = refl
-flat_equal f g h (x ∷ xs) = ap (λ ys. ys ++ flat_map f xs) (h x) ∙ ap (λ ys. g x ++ ys) (flat_equal f g h xs)
 
 told_is : (m : Lists) (c : CaseView) → FitsModel m c → (n : ℕ) → lists_told m c n ≡ lists_of m c n
 told_is m c f n = go (relation_or m (rel n)).every refl
@@ -87,7 +67,7 @@ told_is m c f n = go (relation_or m (rel n)).every refl
     go : (b : Bool) → (relation_or m (rel n)).every ≡ b
         → cond b [] (flat_map (λ i. entry_of (list_entry (relation_or m (rel n)).phrase i) (list_of c (rel n) i)) (members (relation_or m (rel n)).source.0 c.live)) ≡ lists_of m c n
     go true e = sym (flat_none (λ i. entry_of (list_entry (relation_or m (rel n)).phrase i) (get c.lists (n, i))) (λ i. ap (λ o. entry_of (list_entry (relation_or m (rel n)).phrase i) o) (no_list m c f n i e)) (members (relation_or m (rel n)).source.0 c.live))
-    go false e = flat_equal (λ i. entry_of (list_entry (relation_or m (rel n)).phrase i) (list_of c (rel n) i)) (λ i. entry_of (list_entry (relation_or m (rel n)).phrase i) (get c.lists (n, i))) (λ i. ap (λ o. entry_of (list_entry (relation_or m (rel n)).phrase i) o) (list_stored m c f n i e)) (members (relation_or m (rel n)).source.0 c.live)
+    go false e = flat_map_same (λ i. entry_of (list_entry (relation_or m (rel n)).phrase i) (list_of c (rel n) i)) (λ i. entry_of (list_entry (relation_or m (rel n)).phrase i) (get c.lists (n, i))) (λ i. ap (λ o. entry_of (list_entry (relation_or m (rel n)).phrase i) o) (list_stored m c f n i e)) (members (relation_or m (rel n)).source.0 c.live)
 
 pub told_upto_is : (m : Lists) (c : CaseView) → FitsModel m c → (n : ℕ) → told_upto m c n ≡ lists_upto m c n
 unfolding told_upto lists_upto

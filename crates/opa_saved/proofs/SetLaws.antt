@@ -4,6 +4,7 @@ use Rattle.std.specs.Prelude.{Option, None, Some, Ok, Err, not}
 use Rattle.std.specs.List.{list_any}
 use Rattle.std.specs.Option.{option_map_or}
 use Rattle.std.specs.FinMap.{FinMap, get, insert, empty, retain_keys, same_map, get-empty}
+use Rattle.std.proofs.lemmas.Bool.{and_from, or_left}
 use Rattle.opa_model.specs.declared.ids.RelId.{RelId}
 use Rattle.opa_cells.specs.declared.instance.InstanceId.{InstanceId}
 use Rattle.opa_cells.specs.Instances.{is_same, is_text, named}
@@ -15,9 +16,8 @@ use Rattle.opa_case.specs.Live.{Names, Population, live_of, is_live, container_o
 use Rattle.opa_case.specs.Cases.{CaseView, Answer, stored}
 use Rattle.opa_case.specs.Steps.{rel, every_of, stays, settle, cant_name, stands_elsewhere, list_fault, is_full, within, with_list, set_list, listed, unless}
 use Rattle.opa_case.specs.Fits.{Known, Fits}
-use Rattle.opa_case.proofs.Lively.{or_left, same_live}
+use Rattle.opa_case.proofs.Lively.{same_live}
 use Rattle.opa_case.proofs.Stands.{in_upto}
-use Rattle.opa_case.proofs.Settled.{both_hold}
 use Rattle.opa_case.proofs.Kept.{inserted}
 use Rattle.opa_case.proofs.Referring.{reference_set, reference_fine}
 use Rattle.opa_saved.specs.Loading.{case_with, living}
@@ -77,8 +77,8 @@ module _ (s : Shape) (ruled : List Bool) (shape : IsShape s) (all : FinMap cell_
       stay q w h = go (inserted m r i v (rel q.0) q.1 w h)
         where
           go : (◌≡◌ {A = RelId} (rel q.0) r × (q.1 ≡ i) × (v ≡ w)) ⊎ Known m (rel q.0) q.1 w → stays s later after q ≡ true
-          go (inl x) = both_hold (is_live later q.1) _ (ap (is_live later) x.1 ∙ stay_live i alive) (or_left (s.contains (rel q.0)) _ (ap s.contains x.0 ∙ con))
-          go (inr k) = both_hold (is_live later q.1) _ (stay_live q.1 (fits.listed (rel q.0) q.1 w k)) (or_left (s.contains (rel q.0)) _ (only (rel q.0) q.1 w k))
+          go (inl x) = and_from (is_live later q.1) _ (ap (is_live later) x.1 ∙ stay_live i alive) (or_left (s.contains (rel q.0)) _ (ap s.contains x.0 ∙ con))
+          go (inr k) = and_from (is_live later q.1) _ (stay_live q.1 (fits.listed (rel q.0) q.1 w k)) (or_left (s.contains (rel q.0)) _ (only (rel q.0) q.1 w k))
 
       settled_is : settle s after empty ≡ case_with s after empty
       settled_is =

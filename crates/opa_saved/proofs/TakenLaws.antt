@@ -5,7 +5,7 @@ use Rattle.std.specs.List.{list_all, list_any}
 use Rattle.std.specs.FinMap.{FinMap, get, insert, get-insert}
 use Rattle.std.specs.Ordering.{eq_by_cmp}
 use Rattle.std.specs.Cmp.{eq_by_cmp_equiv}
-use Rattle.std.proofs.lemmas.Bool.{or_parts, ltb-false}
+use Rattle.std.proofs.lemmas.Bool.{or_parts, ltb-false, and_from, not-false, or_right, or_left}
 use Rattle.std.proofs.lemmas.Map.Views.{tells_apart, exact_unsigned_eq}
 use mathlib.Core.Bool.{true≢false}
 use Rattle.opa_model.specs.declared.ids.AttrId.{AttrId}
@@ -21,11 +21,9 @@ use Rattle.opa_case.specs.Live.{Names, Lists, Population, live_of, is_live, cont
 use Rattle.opa_case.specs.Cases.{CaseView, Answer, stored, are_names}
 use Rattle.opa_case.specs.Steps.{is_misplaced, cant_name, stands_elsewhere, list_fault, is_full, listed}
 use Rattle.opa_case.specs.Fits.{Known, Answered, AreSound, IsAnswer, Fits}
-use Rattle.opa_case.proofs.Lively.{or_left, or_right}
 use Rattle.opa_case.proofs.Stands.{lookup_found, in_upto, has_live, container_found, text_is, text_itself}
 use Rattle.opa_case.proofs.Among.{live_by_lists}
-use Rattle.opa_case.proofs.Settled.{both_hold}
-use Rattle.opa_case.proofs.Kept.{passes, not_elsewhere, not_false, fault_none, inserted}
+use Rattle.opa_case.proofs.Kept.{passes, not_elsewhere, fault_none, inserted}
 use Rattle.opa_saved.specs.Loading.{case_with, living}
 use Rattle.opa_saved.specs.Building.{AreTaken}
 use Rattle.opa_saved.proofs.Subsequences.{KnowsMore, sub_live, fewer_fit}
@@ -46,7 +44,7 @@ tests_of s c r i v h =
     let d = fault_none (list_any (cant_name s c r i) v) Name _ b.1 in
     let e = fault_none (s.one r && nat_lt 1 (length v)) Range _ d.1 in
     let f = fault_none (list_any (λ n. nat_lt 100 (length n)) v) Limit None e.1 in
-    record { misplaced = a.0; names = not_false (are_names v) b.0; free = d.0; few = e.0; short = f.0 }
+    record { misplaced = a.0; names = not-false (are_names v) b.0; free = d.0; few = e.0; short = f.0 }
 
 no_fault : (b : Bool) (e : Refusal) (x : Option Refusal) → b ≡ false → x ≡ None → cond b (Some e) x ≡ None
 no_fault true e x h k = absurd (true≢false h)
@@ -70,7 +68,7 @@ pub placed_of : (s : Shape) (c : CaseView) (r : RelId) (i : InstanceId) → is_m
 placed_of s c r i h =
     let outer = or_parts _ _ h in
     let inner = or_parts _ _ outer.0 in
-    record { not_every = inner.0; live_there = not_false _ inner.1; source = exact_unsigned_eq i.entity.0 (s.source r) (not_false _ outer.1) }
+    record { not_every = inner.0; live_there = not-false _ inner.1; source = exact_unsigned_eq i.entity.0 (s.source r) (not-false _ outer.1) }
 
 -- the same where another population has the instance
 pub misplaced_by : (s : Shape) (c c' : CaseView) (r : RelId) (i : InstanceId) → is_misplaced s c r i ≡ false → is_live c'.live i ≡ true → is_misplaced s c' r i ≡ false
@@ -181,8 +179,8 @@ module _ (s : Shape) (ruled : List Bool) (shape : IsShape s) (all : FinMap cell_
   names_live r i [] other free = refl
   names_live r i (n ∷ ns) other free =
       let p = or_parts (cant_name s (living live) r i n) _ free in
-      both_hold (is_live live (named (s.target r) n)) _
-      (not_false _ (ap (λ b. cond b (stands_elsewhere live i (named (s.target r) n)) (not (is_live live (named (s.target r) n)))) (sym other) ∙ p.0))
+      and_from (is_live live (named (s.target r) n)) _
+      (not-false _ (ap (λ b. cond b (stands_elsewhere live i (named (s.target r) n)) (not (is_live live (named (s.target r) n)))) (sym other) ∙ p.0))
       (names_live r i ns other p.1)
 
   -- with answers that fit, the case fits

@@ -1,6 +1,7 @@
 -- At most one cut at `=`.
 use Rattle.std.proofs.Common.{◌≡◌, ℕ, List, [], ◌∷◌, ◌++◌, true, false, refl, sym, ap, subst, ◌∙◌}
-use Rattle.std.specs.Prelude.{Option, Some, None, Bool, codes, not, ◌&&◌}
+use Rattle.std.specs.Prelude.{Option, Some, None, codes, not, ◌&&◌}
+use Rattle.std.proofs.lemmas.Bool.{and_parts}
 use Rattle.opa_words.specs.declared.kinds.TokenKind.{TokenKind}
 use Rattle.opa_words.specs.declared.kinds.TokenKind.TheVariants as kind
 use Rattle.opa_words.specs.Reserved.{is_word_kind, is_phrase_kind}
@@ -10,26 +11,19 @@ use Rattle.opa_text.specs.Pointed.{is_run, are_words, name_part, SpellsPoint}
 use Rattle.opa_script.specs.Shapes.{SpellsGiven, is_equals, has_no_equals}
 use Rattle.opa_text.proofs.PointLaws.{one_point}
 
-is_true : true ≡ false → ⊥
-is_true e = absurd (cc e)
-
-both : (a b : Bool) → (a && b) ≡ true → (a ≡ true) × (b ≡ true)
-both true b h = (refl, h)
-both false b h = absurd (cc h)
-
 -- ---- `=`
 
 no_equals_parts : (xs ys : List Piece) → has_no_equals (xs ++ ys) ≡ true → (has_no_equals xs ≡ true) × (has_no_equals ys ≡ true)
 no_equals_parts [] ys h = (refl, h)
 no_equals_parts (x ∷ xs) ys h =
-    let b = both (not (is_equals x.kind x.text)) (has_no_equals (xs ++ ys)) h in
+    let b = and_parts (not (is_equals x.kind x.text)) (has_no_equals (xs ++ ys)) h in
     let r = no_equals_parts xs ys b.1 in
     (ap (λ c. c && has_no_equals xs) b.0 ∙ r.0, r.1)
 
 pub no_equals_more : (xs ys : List Piece) → has_no_equals xs ≡ true → has_no_equals ys ≡ true → has_no_equals (xs ++ ys) ≡ true
 no_equals_more [] ys h k = k
 no_equals_more (x ∷ xs) ys h k =
-    let b = both (not (is_equals x.kind x.text)) (has_no_equals xs) h in
+    let b = and_parts (not (is_equals x.kind x.text)) (has_no_equals xs) h in
     ap (λ c. c && has_no_equals (xs ++ ys)) b.0 ∙ no_equals_more xs ys b.1 k
 
 -- an `=` is one
@@ -49,7 +43,7 @@ one_cut (x ∷ xs) [] cs ds h k e =
 one_cut (x ∷ xs) (y ∷ ys) cs ds h k e =
     let f : x ≡ y = cc e in
     let t : xs ++ symbol (codes "=") ∷ cs ≡ ys ++ symbol (codes "=") ∷ ds = cc e in
-    let r = one_cut xs ys cs ds (both (not (is_equals x.kind x.text)) (has_no_equals xs) h).1 (both (not (is_equals y.kind y.text)) (has_no_equals ys) k).1 t in
+    let r = one_cut xs ys cs ds (and_parts (not (is_equals x.kind x.text)) (has_no_equals xs) h).1 (and_parts (not (is_equals y.kind y.text)) (has_no_equals ys) k).1 t in
     (ap (λ z. z ∷ xs) f ∙ ap (λ zs. y ∷ zs) r.0, r.1)
 
 word_no_equals : (p : Piece) → is_phrase_kind p.kind ≡ true → not (is_equals p.kind p.text) ≡ true
@@ -65,13 +59,13 @@ word_no_equals p h = go p.kind refl
 words_no_equals : (ps : List Piece) → are_words ps ≡ true → has_no_equals ps ≡ true
 words_no_equals [] h = refl
 words_no_equals (p ∷ ps) h =
-    let b = both (is_phrase_kind p.kind) (are_words ps) h in
+    let b = and_parts (is_phrase_kind p.kind) (are_words ps) h in
     ap (λ c. c && has_no_equals ps) (word_no_equals p b.0) ∙ words_no_equals ps b.1
 
 run_no_equals : (ps : List Piece) → is_run ps ≡ true → has_no_equals ps ≡ true
 run_no_equals [] h = refl
 run_no_equals (p ∷ ps) h =
-    let b = both (is_word_kind p.kind) (are_words ps) h in
+    let b = and_parts (is_word_kind p.kind) (are_words ps) h in
     ap (λ c. c && has_no_equals ps) (word_no_equals p (first p.kind b.0)) ∙ words_no_equals ps b.1
   where
     first : (k : TokenKind) → is_word_kind k ≡ true → is_phrase_kind k ≡ true

@@ -1,6 +1,5 @@
 -- What runs list, half by half.
-use Rattle.std.proofs.Common.{◌≡◌, ℕ, List, [], ◌∷◌, ◌++◌, Bool, true, false, cond, Some, take, drop, refl, ◌∙◌, ap}
-use Rattle.std.proofs.lemmas.List.{take-append-drop}
+use Rattle.std.proofs.Common.{◌≡◌, ℕ, List, [], ◌∷◌, ◌++◌, Bool, true, false, cond, Some, refl, ◌∙◌, ap}
 use Rattle.opa_date.specs.declared.TheConstants.{DAYS}
 use Rattle.opa_line.specs.Lines.{at, value_or, StandsFor}
 use Rattle.opa_seen.specs.declared.runs.Run.{Run}
@@ -14,9 +13,6 @@ runs_append (x ∷ xs) ys d = go (run_at x d).missing refl ∙ ap (first_there (
     go : (b : Bool) → (run_at x d).missing ≡ b → cond (cond b (runs_at xs d) (run_at x d)).missing (runs_at ys d) (cond b (runs_at xs d) (run_at x d)) ≡ cond b (first_there (runs_at xs d) (runs_at ys d)) (run_at x d)
     go true e = refl
     go false e = ap (λ b. cond b (runs_at ys d) (run_at x d)) e
-
-pub halves_join : {X : Type 0} (xs front back : List X) (n : ℕ) → front ≡ take n xs → back ≡ drop n xs → front ++ back ≡ xs
-halves_join xs front back n f b = ap (λ ys. ys ++ back) f ∙ ap (λ ys. take n xs ++ ys) b ∙ take-append-drop n xs
 
 pub halved : (runs left right : List Run) (first second l : ShadeLine) → left ++ right ≡ runs → StandsFor DAYS (runs_at left) first → StandsFor DAYS (runs_at right) second
     → StandsFor DAYS (λ d. first_there (value_or gone (at first d)) (value_or gone (at second d))) l → StandsFor DAYS (runs_at runs) l

@@ -1,6 +1,7 @@
 -- A line of what is seen holds up a run exactly where it is steady on it.
 use Rattle.std.proofs.Common.{◌≡◌, ◌↔◌, ℕ, ◌<◌, ◌≤◌, List, Bool, true, false, cond, IsTrue, None, Some, refl, sym, ◌∙◌, ap, arith}
 use Rattle.std.specs.Option.{option_map}
+use Rattle.std.proofs.lemmas.Option.{same_Some}
 use Rattle.opa_date.specs.declared.TheConstants.{DAYS}
 use Rattle.opa_value.specs.declared.value.Value.{Value}
 use Rattle.opa_value.specs.Fit.{fit_of}
@@ -15,9 +16,6 @@ use Rattle.opa_seen.specs.ShadeLines.{ShadeLine}
 use Rattle.opa_seen.specs.Steady.{IsSteady, IsConcludedOn}
 use Rattle.opa_seen.proofs.Shading.{shaded}
 
-some_same : {X : Type 0} (x y : X) → Some x ≡ Some y → x ≡ y
-some_same x y e = cc e
-
 -- what is shown is there
 shown_is : (f : Value → Value) (h : Shade) (v : Value) → mapped f h ≡ there v → option_map f (shown h) ≡ Some v
 shown_is f h v e = go h.missing refl
@@ -31,7 +29,7 @@ is_shown f h v e = go h.missing refl e
   where
     go : (m : Bool) → h.missing ≡ m → option_map f (cond m None (Some h.value)) ≡ Some v → mapped f h ≡ there v
     go true q e = absurd (cc e)
-    go false q e = ap (λ m. let x : Shade = record { value = f h.value; missing = m } in x) q ∙ ap there (some_same (f h.value) v e)
+    go false q e = ap (λ m. let x : Shade = record { value = f h.value; missing = m } in x) q ∙ ap there (same_Some (f h.value) v e)
 
 -- a line of what is concluded is steady on days exactly where each of them has the value
 pub steady_holds : (s : Shape) (k : Listing) (money : Bool) (e : Expr) (enclosing : List InstanceId) (start end : ℕ) (v : Value) (line : ShadeLine) (h : Shade) (b : Bool) → end < DAYS → h ≡ there v
@@ -40,7 +38,7 @@ steady_holds s k money e enclosing start end v line h b within is stands tells =
   λ yes d after until.
       let lt : d < DAYS = omega (arith, until, within) in
       ap (option_map (fit_of money)) (shaded s k e enclosing d)
-      ∙ shown_is (fit_of money) (shade s k e enclosing d) v (some_same _ _ (sym (stands d lt) ∙ tells.0 yes d after until) ∙ is),
+      ∙ shown_is (fit_of money) (shade s k e enclosing d) v (same_Some _ _ (sym (stands d lt) ∙ tells.0 yes d after until) ∙ is),
   λ holds. tells.1 (λ d after until.
       let lt : d < DAYS = omega (arith, until, within) in
       stands d lt ∙ ap Some (is_shown (fit_of money) (shade s k e enclosing d) v (sym (ap (option_map (fit_of money)) (shaded s k e enclosing d)) ∙ holds d after until) ∙ sym is)),

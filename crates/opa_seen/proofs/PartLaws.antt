@@ -1,5 +1,5 @@
 -- What is told of lines of shades.
-use Rattle.std.proofs.Common.{◌≡◌, ℕ, ◌+◌, ◌<◌, ◌≤◌, arith, List, [], ◌∷◌, ◌++◌, Bool, true, false, Some, take, get_or, length, refl, sym, ◌∙◌, ap}
+use Rattle.std.proofs.Common.{◌≡◌, ℕ, ◌+◌, ◌<◌, List, [], ◌∷◌, ◌++◌, Bool, true, false, Some, take, get_or, length, refl, sym, ◌∙◌, ap}
 use Rattle.std.specs.Prelude.{map, ◌||◌, ◌&&◌, not}
 use Rattle.std.specs.List.{list_any}
 use Rattle.std.proofs.lemmas.List.{map-append, take_more}
@@ -94,11 +94,6 @@ taken_stands c h r cv hv rv cg hg rg values gaps gap l a1 a2 a3 b1 b2 b3 v g e s
     stands d lt ∙ ap Some (ap (λ x. shade_from x (day_value gap d)) vs
     ∙ ap (λ x. shade_from (choose (shade_at c d).value (shade_at h d).value (shade_at r d).value) x) (ap (value_or Unknown) (e d lt) ∙ ap (λ o. either (value_or Unknown o) (day_value gaps d)) (b1 d lt) ∙ ap (either (Truth (shade_at c d).missing)) gs)
     ∙ choice_is (shade_at c d) (shade_at h d) (shade_at r d))
-
-pub one_item : {X : Type 0} (xs : List X) (x : X) → 1 ≤ length xs → length xs < 2 → x ≡ get_or xs 0 x → xs ≡ x ∷ []
-one_item [] x low high is = absurd (omega (arith, low))
-one_item (y ∷ []) x low high is = ap (λ z. z ∷ []) (sym is)
-one_item (y ∷ z ∷ xs) x low high is = absurd (omega (arith, high))
 
 only_item : (q : Quant) (h : Shade) → item_shade q (h ∷ []) ≡ h
 only_item quant.SumIf h = refl

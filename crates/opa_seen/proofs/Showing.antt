@@ -1,8 +1,10 @@
 -- Where what a tree uses is listed, its value is seen: of things one by one.
-use Rattle.std.proofs.Common.{◌≡◌, ℕ, suc, ◌+◌, ◌-◌, List, [], ◌∷◌, Bool, true, false, cond, Option, None, Some, refl, sym, ◌∙◌, ap, subst, length}
+use Rattle.std.proofs.Common.{◌≡◌, ℕ, ◌+◌, ◌-◌, List, [], ◌∷◌, Bool, true, false, cond, Option, None, Some, refl, sym, ◌∙◌, ap, subst, length}
 use Rattle.std.specs.Prelude.{map, find, flat_map, nat_lt, nat_le, ◌&&◌, ◌||◌}
 use Rattle.std.specs.List.{list_any, AllByRecursion}
 use Rattle.std.specs.Option.{option_map}
+use Rattle.opa_io.proofs.Bools.{or_true}
+use Rattle.opa_io.proofs.Lists.{length_map}
 use Rattle.opa_date.specs.declared.TheConstants.{DAYS}
 use Rattle.opa_value.specs.declared.value.Value.{Value}
 use Rattle.opa_value.specs.declared.value.Value.TheVariants.{Unknown, Uncertain, Bool as Truth, Num, Words, Day}
@@ -17,10 +19,6 @@ use Rattle.opa_mean.proofs.Everywhere.{all_parts}
 use Rattle.opa_seen.specs.Ones.{is_for}
 use Rattle.opa_seen.specs.Seen.{gathered, is_seen, chosen, quant_seen, on_date_seen, between_seen, rolling_seen}
 
-or_true : (b : Bool) → (b || true) ≡ true
-or_true true = refl
-or_true false = refl
-
 -- where nothing is missing
 pub gathered_whole : {X : Type 0} (vs : List X) → gathered (map Some vs) ≡ Some vs
 gathered_whole [] = refl
@@ -29,10 +27,6 @@ gathered_whole (v ∷ vs) = ap (option_map (λ xs. v ∷ xs)) (gathered_whole vs
 seen_whole : (p : Value → Bool) (vs : List Value) → list_any (is_seen p) (map Some vs) ≡ list_any p vs
 seen_whole p [] = refl
 seen_whole p (v ∷ vs) = ap (λ b. p v || b) (seen_whole p vs)
-
-lengths : {X Y : Type 0} (f : X → Y) (xs : List X) → length (map f xs) ≡ length xs
-lengths f [] = refl
-lengths f (x ∷ xs) = ap suc (lengths f xs)
 
 decided_whole : (p : Value → Bool) (a b : Value) (vs : List Value)
     → cond (list_any (is_seen p) (map Some vs)) (Some a) (option_map (λ ws. cond (list_any p ws) a (unless_open ws b)) (gathered (map Some vs))) ≡ Some (cond (list_any p vs) a (unless_open vs b))
@@ -86,9 +80,9 @@ module _ (P : Use → Type 0) where
       → (is_for q ≡ true → nat_le 2 (length names) ≡ false) → AllPass (member_uses q g u names) → quant_seen q (map f names) ≡ Some (quant_of q (map g names))
   quant_shown Q f g u shown quant.ForAll names qs few h = decided_shown Q f g u shown is_false (Truth false) (Truth true) names qs h
   quant_shown Q f g u shown quant.Exists names qs few h = decided_shown Q f g u shown is_true (Truth true) (Truth false) names qs h
-  quant_shown Q f g u shown quant.Count names qs few h = ap (λ n. Some (amount n)) (lengths f names ∙ sym (lengths g names))
+  quant_shown Q f g u shown quant.Count names qs few h = ap (λ n. Some (amount n)) (length_map f names ∙ sym (length_map g names))
   quant_shown Q f g u shown quant.For names qs few h =
-      ap (λ n. cond (nat_le 2 n) None (option_map first_value (gathered (map f names)))) (lengths f names)
+      ap (λ n. cond (nat_le 2 n) None (option_map first_value (gathered (map f names)))) (length_map f names)
       ∙ ap (λ b. cond b None (option_map first_value (gathered (map f names)))) (few refl)
       ∙ ap (λ os. option_map first_value (gathered os)) (all_shown Q f g u shown names qs h) ∙ map_whole first_value (map g names)
   quant_shown Q f g u shown q names qs few h = ap (λ os. option_map (quant_of q) (gathered os)) (all_shown Q f g u shown names qs h) ∙ map_whole (quant_of q) (map g names)

@@ -1,8 +1,9 @@
 -- The shades of each sort of tree.
-use Rattle.std.proofs.Common.{◌≡◌, ℕ, suc, zero, ◌+◌, ◌<◌, ◌≤◌, List, [], ◌∷◌, ◌++◌, Bool, false, Option, None, Some, Result, Ok, Err, IfOk, take, drop, get_or, length, refl, sym, ◌∙◌, ap, arith, add-one}
+use Rattle.std.proofs.Common.{◌≡◌, ℕ, suc, ◌+◌, ◌<◌, ◌≤◌, List, [], ◌∷◌, ◌++◌, Bool, false, Option, None, Some, Result, Ok, Err, IfOk, take, drop, get_or, length, refl, sym, ◌∙◌, ap, arith, add-one}
 use Rattle.std.specs.Prelude.{map}
 use Rattle.std.proofs.lemmas.List.{map-append, take_more}
 use Rattle.std.proofs.Math.Seq.{drop-cons}
+use Rattle.opa_io.proofs.Places.{drop_whole}
 use Rattle.opa_date.specs.declared.TheConstants.{DAYS}
 use Rattle.opa_value.specs.declared.value.Value.{Value}
 use Rattle.opa_value.specs.declared.value.Value.TheVariants.{Bool as Truth}
@@ -119,12 +120,6 @@ lines_more g xs i x old new l lt is before next stands d in_days =
     ∙ ap (λ h. map (λ y. g y d) (take i xs) ++ h ∷ []) (told l (g x) stands d in_days)
     ∙ sym (map-append (λ y. g y d) (take i xs) (x ∷ [])) ∙ ap (λ y. map (λ y. g y d) (take i xs ++ y ∷ [])) is ∙ ap (λ ys. map (λ y. g y d) ys) (sym (take_more xs i x lt))
 
-pub take_whole : {X : Type 0} (xs : List X) (i : ℕ) → length xs ≤ i → take i xs ≡ xs
-take_whole [] zero le = refl
-take_whole [] (suc i) le = refl
-take_whole (x ∷ xs) zero le = absurd (omega (arith, le))
-take_whole (x ∷ xs) (suc i) le = ap (λ ys. x ∷ ys) (take_whole xs i (omega (arith, le)))
-
 -- lines of trees that are told apart by a slice
 pub lines_told : (s : Shape) (k : Listing) (enclosing : List InstanceId) (raw ls : List ShadeLine) (es es' : List Expr) → raw ≡ ls → AreShades ls (tree_shades s k es' enclosing) → es' ≡ es → (d : ℕ) → d < DAYS → shades_at raw d ≡ tree_shades s k es enclosing d
 lines_told s k enclosing raw ls es es' a h b d lt = ap (λ ls. shades_at ls d) a ∙ h d lt ∙ ap (λ es. tree_shades s k es enclosing d) b
@@ -145,10 +140,6 @@ row_stands s k rows rest row last enclosing c v b l is hc hv hb h d lt =
 
 pub none_stands : (s : Shape) (k : Listing) (rows : List Row) (last : Shading) (enclosing : List InstanceId) (behind l : ShadeLine) → rows ≡ [] → StandsFor DAYS (last enclosing) behind → StandsFor DAYS (shade_at behind) l → StandsFor DAYS (table_shade (map (row_shading s k) rows) last enclosing) l
 none_stands s k rows last enclosing b l is hb h d lt = h d lt ∙ ap Some (told b _ hb d lt ∙ sym (ap (λ rs. table_shade (map (row_shading s k) rs) last enclosing d) is))
-
-drop_whole : {X : Type 0} (xs : List X) → drop (length xs) xs ≡ []
-drop_whole [] = refl
-drop_whole (x ∷ xs) = drop_whole xs
 
 pub rows_start : (s : Shape) (k : Listing) (rows : List Row) (n : ℕ) (enclosing : List InstanceId) (behind l : ShadeLine) → n ≡ length rows → StandsFor DAYS (shade_at behind) l
     → (n ≤ length rows) × ((last : Shading) → StandsFor DAYS (last enclosing) behind → StandsFor DAYS (table_shade (map (row_shading s k) (drop n rows)) last enclosing) l)

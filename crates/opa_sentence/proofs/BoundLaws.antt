@@ -1,5 +1,6 @@
 -- Each form is built within bounds of what its parts say within bounds.
 use Rattle.std.proofs.Common.{◌≡◌, ℕ, ℤ, ◌+◌, ◌≤◌, min, max, List, [], ◌∷◌, map, Bool, true, false, ◌&&◌, cond, Option, Some, None, slice_get, option_map, nat_le, refl, sym, ap, ◌∙◌, arith}
+use Rattle.std.proofs.lemmas.Bool.{and_from}
 use Rattle.opa_value.specs.declared.value.Value.{Value}
 use Rattle.opa_value.specs.declared.value.Value.TheVariants as value
 use Rattle.opa_model.specs.declared.ids.AttrId.{AttrId}
@@ -14,6 +15,7 @@ use Rattle.opa_sentence.specs.declared.functions.Function.{Function}
 use Rattle.opa_sentence.specs.declared.functions.Function.TheVariants as function
 use Rattle.opa_sentence.specs.declared.measure.Measure.{Measure}
 use Rattle.opa_io.specs.declared.limits.TheConstants.{MOST_DEPTH, MOST_NODES, MOST_NESTING}
+use Rattle.opa_io.proofs.Bools.{and_first, and_second}
 use Rattle.opa_sentence.specs.declared.names.Operand.{Operand}
 use Rattle.opa_sentence.specs.declared.names.Relation.{Relation}
 use Rattle.opa_sentence.specs.declared.names.Relation.TheVariants as relation
@@ -61,17 +63,6 @@ capped_beside m n =
 
 -- ---- what fits
 
-and_left : (a b : Bool) → (a && b) ≡ true → a ≡ true
-and_left true b h = refl
-and_left false b h = absurd (cc h)
-
-and_right : (a b : Bool) → (a && b) ≡ true → b ≡ true
-and_right true b h = h
-and_right false b h = absurd (cc h)
-
-and_both : (a b : Bool) → a ≡ true → b ≡ true → (a && b) ≡ true
-and_both a b p q = ap (λ x. x && b) p ∙ q
-
 within : (n k : ℕ) → nat_le (min n (k + 1)) k ≡ true → n ≤ k
 within n k h = grind (arith, h)
 
@@ -87,22 +78,22 @@ record Fits (m : Measure) : Type 0 where
 
 fits_are : (m : Measure) → fits (capped m) ≡ true → Fits m
 fits_are m h =
-    let p = and_left (m.named && m.short) _ h in
-    let q = and_right (m.named && m.short) _ h in
-    let r = and_right (nat_le (min m.depth (MOST_DEPTH + 1)) MOST_DEPTH) _ q in
+    let p = and_first (m.named && m.short) _ h in
+    let q = and_second (m.named && m.short) _ h in
+    let r = and_second (nat_le (min m.depth (MOST_DEPTH + 1)) MOST_DEPTH) _ q in
     record {
-      named = and_left m.named m.short p;
-      short = and_right m.named m.short p;
-      depth = within m.depth MOST_DEPTH (and_left (nat_le (min m.depth (MOST_DEPTH + 1)) MOST_DEPTH) _ q);
-      nodes = within m.nodes MOST_NODES (and_left (nat_le (min m.nodes (MOST_NODES + 1)) MOST_NODES) _ r);
-      nesting = within m.nesting MOST_NESTING (and_right (nat_le (min m.nodes (MOST_NODES + 1)) MOST_NODES) _ r);
+      named = and_first m.named m.short p;
+      short = and_second m.named m.short p;
+      depth = within m.depth MOST_DEPTH (and_first (nat_le (min m.depth (MOST_DEPTH + 1)) MOST_DEPTH) _ q);
+      nodes = within m.nodes MOST_NODES (and_first (nat_le (min m.nodes (MOST_NODES + 1)) MOST_NODES) _ r);
+      nesting = within m.nesting MOST_NESTING (and_second (nat_le (min m.nodes (MOST_NODES + 1)) MOST_NODES) _ r);
     }
 
 are_fits : (m : Measure) → Fits m → fits (capped m) ≡ true
 are_fits m h =
-    and_both (m.named && m.short) _ (and_both m.named m.short h.named h.short)
-    (and_both (nat_le (min m.depth (MOST_DEPTH + 1)) MOST_DEPTH) _ (is_within m.depth MOST_DEPTH h.depth)
-    (and_both (nat_le (min m.nodes (MOST_NODES + 1)) MOST_NODES) _ (is_within m.nodes MOST_NODES h.nodes) (is_within m.nesting MOST_NESTING h.nesting)))
+    and_from (m.named && m.short) _ (and_from m.named m.short h.named h.short)
+    (and_from (nat_le (min m.depth (MOST_DEPTH + 1)) MOST_DEPTH) _ (is_within m.depth MOST_DEPTH h.depth)
+    (and_from (nat_le (min m.nodes (MOST_NODES + 1)) MOST_NODES) _ (is_within m.nodes MOST_NODES h.nodes) (is_within m.nesting MOST_NESTING h.nesting)))
 
 fits_above : (m : Measure) → fits (capped (above m)) ≡ true → fits (capped m) ≡ true
 fits_above m h = let f = fits_are (above m) h in are_fits m (record { named = f.named; short = f.short; depth = omega (arith, f.depth); nodes = omega (arith, f.nodes); nesting = f.nesting })
@@ -113,12 +104,12 @@ fits_inside m h = let f = fits_are (inside m) h in are_fits m (record { named = 
 fits_left : (m n : Measure) → fits (capped (beside m n)) ≡ true → fits (capped m) ≡ true
 fits_left m n h =
     let f = fits_are (beside m n) h in
-    are_fits m (record { named = and_left m.named n.named f.named; short = and_left m.short n.short f.short; depth = omega (arith, f.depth); nodes = omega (arith, f.nodes); nesting = omega (arith, f.nesting) })
+    are_fits m (record { named = and_first m.named n.named f.named; short = and_first m.short n.short f.short; depth = omega (arith, f.depth); nodes = omega (arith, f.nodes); nesting = omega (arith, f.nesting) })
 
 fits_right : (m n : Measure) → fits (capped (beside m n)) ≡ true → fits (capped n) ≡ true
 fits_right m n h =
     let f = fits_are (beside m n) h in
-    are_fits n (record { named = and_right m.named n.named f.named; short = and_right m.short n.short f.short; depth = omega (arith, f.depth); nodes = omega (arith, f.nodes); nesting = omega (arith, f.nesting) })
+    are_fits n (record { named = and_second m.named n.named f.named; short = and_second m.short n.short f.short; depth = omega (arith, f.depth); nodes = omega (arith, f.nodes); nesting = omega (arith, f.nesting) })
 
 -- ---- trees that are kept
 

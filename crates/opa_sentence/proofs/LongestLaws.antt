@@ -15,7 +15,7 @@ use Rattle.opa_sentence.specs.Phrases.{front_text, phrase_at, longest_within, lo
 
 -- ---- the first position of a text
 
-first_at : (t : List ℕ) (k : ℕ) (ps : List (List ℕ)) (i : ℕ) → slice_get ps i ≡ Some t → ((j : ℕ) → j < i → slice_get ps j ≡ Some t → ⊥) → first_position t k ps ≡ Some (k + i)
+pub first_at : (t : List ℕ) (k : ℕ) (ps : List (List ℕ)) (i : ℕ) → slice_get ps i ≡ Some t → ((j : ℕ) → j < i → slice_get ps j ≡ Some t → ⊥) → first_position t k ps ≡ Some (k + i)
 first_at t k [] i at none = absurd (cc at)
 first_at t k (p ∷ ps) zero at none = ap (λ b. cond b (Some k) (first_position t (k + 1) ps)) ((bytes_eq-Decides t p).1 (let e : p ≡ t = cc at in sym e)) ∙ ap (λ n. Some n) (let e : k ≡ k + 0 = omega arith in e)
 first_at t k (p ∷ ps) (suc i) at none = go (bytes_eq t p) refl (first_at t (k + 1) ps i at (λ j below h. none (suc j) (omega (arith, below)) h))
@@ -24,7 +24,7 @@ first_at t k (p ∷ ps) (suc i) at none = go (bytes_eq t p) refl (first_at t (k 
     go true e r = absurd (none 0 (omega arith) (ap (λ x. Some x) (sym ((bytes_eq-Decides t p).0 e))))
     go false e r = r ∙ ap (λ n. Some n) (let f : k + 1 + i ≡ k + suc i = omega arith in f)
 
-no_first : (t : List ℕ) (k : ℕ) (ps : List (List ℕ)) → ((j : ℕ) → slice_get ps j ≡ Some t → ⊥) → first_position t k ps ≡ None
+pub no_first : (t : List ℕ) (k : ℕ) (ps : List (List ℕ)) → ((j : ℕ) → slice_get ps j ≡ Some t → ⊥) → first_position t k ps ≡ None
 no_first t k [] none = refl
 no_first t k (p ∷ ps) none = go (bytes_eq t p) refl (no_first t (k + 1) ps (λ j h. none (suc j) h))
   where

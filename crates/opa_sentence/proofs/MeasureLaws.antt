@@ -1,5 +1,6 @@
 -- The measure of what a part of a line says is that of its tree.
 use Rattle.std.proofs.Common.{◌≡◌, ℕ, ℤ, ◌+◌, max, List, [], ◌∷◌, ◌++◌, map, Bool, true, false, ◌&&◌, cond, Option, Some, None, slice_get, option_map, refl, ap, ◌∙◌, arith}
+use Rattle.std.proofs.lemmas.Bool.{and_right}
 use Rattle.opa_value.specs.declared.value.Value.{Value}
 use Rattle.opa_value.specs.declared.value.Value.TheVariants as value
 use Rattle.opa_model.specs.declared.ids.AttrId.{AttrId}
@@ -35,7 +36,7 @@ use Rattle.opa_sentence.specs.Grammar as g
 
 -- ---- one more tree
 
-deepest_last : (ys : List Expr) (x : Expr) → highest (map depth (ys ++ x ∷ [])) ≡ max (highest (map depth ys)) (depth x)
+pub deepest_last : (ys : List Expr) (x : Expr) → highest (map depth (ys ++ x ∷ [])) ≡ max (highest (map depth ys)) (depth x)
 deepest_last [] x = omega arith
 deepest_last (y ∷ ys) x = omega (arith, deepest_last ys x)
 
@@ -43,13 +44,9 @@ widest_last : (ys : List Expr) (x : Expr) → total (map nodes (ys ++ x ∷ []))
 widest_last [] x = omega arith
 widest_last (y ∷ ys) x = omega (arith, widest_last ys x)
 
-and_false : (a b : Bool) → b ≡ false → (a && b) ≡ false
-and_false true b h = h
-and_false false b h = refl
-
 with_tells : (m n : Measure) (ts : Option (List Expr)) (t : Option Expr) → TellsAll m ts → Tells n t → TellsAll (beside m n) (with_tree ts t)
 with_tells m n None t h k = ap (λ b. b && n.named) h
-with_tells m n (Some ts) None h k = and_false m.named n.named k
+with_tells m n (Some ts) None h k = and_right m.named n.named k
 with_tells m n (Some ts) (Some t) h k =
     (ap (λ b. b && n.named) h.0 ∙ k.0, deepest_last ts t ∙ omega (arith, h.1, k.1), widest_last ts t ∙ omega (arith, h.2, k.2))
 

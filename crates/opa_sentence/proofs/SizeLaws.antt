@@ -109,7 +109,7 @@ depth-Table rows last =
     ap (λ d. min d (MOST_DEPTH + 1)) (tree.depth-Table rows last)
     ∙ told_two (highest (map row_depth rows)) (depth last)
 
-rows_wide : (rows : List Row) → map (fold-Row ℕ ℕ nodes_step nodes_row) rows ≡ map row_nodes rows
+pub rows_wide : (rows : List Row) → map (fold-Row ℕ ℕ nodes_step nodes_row) rows ≡ map row_nodes rows
 unfolding nodes
 rows_wide [] = refl
 rows_wide (r ∷ rows) = ap (λ d. d ∷ map (fold-Row ℕ ℕ nodes_step nodes_row) rows) (fold-of_row ℕ ℕ nodes_step nodes_row r) ∙ ap (λ ds. row_nodes r ∷ ds) (rows_wide rows)

@@ -3,6 +3,7 @@ use Rattle.std.proofs.Common.{length, ◌≡◌, ◌⊎◌, inl, inr, ℕ, ◌+�
 use Rattle.std.proofs.lemmas.List.{length-append}
 use Rattle.std.proofs.lemmas.List.Elements.{All-push, All-get_or, All-nil}
 use Rattle.std.proofs.lemmas.List.Quantifiers.{all_pairs_push}
+use Rattle.std.proofs.lemmas.Bool.{and_from}
 use Rattle.opa_date.specs.declared.TheConstants.{DAYS}
 use Rattle.opa_line.specs.Lines.{StandsFor}
 use Rattle.opa_model.specs.declared.ids.AttrId.{AttrId}
@@ -16,7 +17,6 @@ use Rattle.opa_mean.specs.Derivations.{MayDerive, derived}
 use Rattle.opa_mean.specs.Given.{base_of}
 use Rattle.opa_mean.specs.Rulebases.{value_at}
 use Rattle.opa_mean.specs.Slots.{is_slot}
-use Rattle.opa_mean.proofs.SameBoth.{both_true}
 use Rattle.opa_dirty.specs.Dirty.{is_reached}
 use Rattle.opa_dirty.specs.Settling.{Lines, SameLines, Waiting, Shift, IsDirty, IsSettling, AreCurrent, AreSettled, CanSettle, SamePair, Stages, is_line_changed, rank_of, laid_look, left}
 use Rattle.opa_dirty.specs.Slots.{pairs_of}
@@ -170,7 +170,7 @@ stand_first r slots none waiting = subst (λ (xs : List Slot). StandBefore r xs 
 
 -- all that waited is derived
 pub all_settled : (s : Shift) (kept : Lines) (readers : Question → Waiting) → CanSettle s kept readers → (staged : Lines) (tasks : List Task) → tasks ≡ [] → IsSettling s staged (slots_of tasks) → AreSettled s staged × (left s staged ≡ 0)
-all_settled s kept readers can staged tasks none h = (are, none_left s staged (λ a i d. are.dirty a i ∙ both_true (is_slot s.rules s.new a i) (is_reached s.rules s.old s.new a i) d.slot d.reached))
+all_settled s kept readers can staged tasks none h = (are, none_left s staged (λ a i d. are.dirty a i ∙ and_from (is_slot s.rules s.new a i) (is_reached s.rules s.old s.new a i) d.slot d.reached))
   where
     are : AreSettled s staged
     are = settles s can.is staged (subst (λ (ts : List Task). IsSettling s staged (slots_of ts)) none h)

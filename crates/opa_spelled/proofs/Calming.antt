@@ -1,15 +1,14 @@
 -- Texts of parts of lines hold no mark outside quotes.
 use Rattle.std.proofs.Common.{◌≡◌, ℕ, zero, suc, ◌+◌, ◌<◌, ◌%◌, ◌/◌, ◌^◌, ℤ, List, [], ◌∷◌, ◌++◌, take, Bool, true, false, cond, not, ◌&&◌, ◌||◌, ◌==◌, decimal, refl, sym, ap, ◌∙◌, arith, append_assoc, append-nil}
-use Rattle.std.specs.Prelude.{Option, Some, None, Ok, Err, codes, unsigned_abs, if◌then◌else◌}
+use Rattle.std.specs.Prelude.{Option, Some, None, codes, unsigned_abs}
 use Rattle.std.specs.Char.{is_ascii_digit}
 use Rattle.std.specs.List.{list_all, list_any}
 use Rattle.std.specs.Str.{IsUtf8}
 use Rattle.std.proofs.lemmas.Bool.{and_parts, and_from, or_parts, or_from, not-true}
 use Rattle.std.proofs.lemmas.Fmt.{digits_decimal}
 use Rattle.opa_date.specs.declared.TheConstants.{DAYS}
-use Rattle.opa_date.specs.declared.fault.DayFault.TheVariants.{Form}
 use Rattle.opa_date.specs.Gregorian.{date_of}
-use Rattle.opa_date.specs.Texts.{day_text, read_day, is_day_form, day_of_named, named_date}
+use Rattle.opa_date.specs.Texts.{day_text}
 use Rattle.opa_date.proofs.ReadTexts.{texts_are_read}
 use Rattle.opa_model.specs.declared.things.Kind.{Kind}
 use Rattle.opa_model.specs.declared.things.Kind.TheVariants as kinds
@@ -26,6 +25,7 @@ use Rattle.opa_words.proofs.Letters.{date_parts}
 use Rattle.opa_words.proofs.Separate.{all_wider, all_append, dated, date_dated}
 use Rattle.opa_text.specs.Laws.{CanBeWritten}
 use Rattle.opa_text.specs.Texts.{value_text, number_text}
+use Rattle.opa_text.proofs.WrittenValues.{form_date, day_form}
 use Rattle.opa_spelled.specs.Cuts.{is_mark, calm}
 use Rattle.opa_spelled.specs.Printed.{spot_text, name_part}
 use Rattle.opa_spelled.specs.Spelling.{is_sign, is_plain, IsSpot}
@@ -126,16 +126,6 @@ number_tame kinds.Bool n r = with_tame (decimals_needed (unsigned_abs n)) n r
 number_tame kinds.Number n r = with_tame (decimals_needed (unsigned_abs n)) n r
 number_tame kinds.Words n r = with_tame (decimals_needed (unsigned_abs n)) n r
 number_tame kinds.Date n r = with_tame (decimals_needed (unsigned_abs n)) n r
-
-form_date : (a b c d f g i j : ℕ) → is_day_form (a ∷ b ∷ c ∷ d ∷ 45 ∷ f ∷ g ∷ 45 ∷ i ∷ j ∷ []) ≡ true → is_date (a ∷ b ∷ c ∷ d ∷ 45 ∷ f ∷ g ∷ 45 ∷ i ∷ j ∷ []) ≡ true
-form_date a b c d f g i j h = grind (arith, h)
-
-day_form : (t : List ℕ) (d : ℕ) → read_day t ≡ Ok d → is_day_form t ≡ true
-day_form t d e = go (is_day_form t) refl
-  where
-    go : (b : Bool) → is_day_form t ≡ b → is_day_form t ≡ true
-    go true h = h
-    go false h = absurd (let f = sym (ap (λ b. if not b then Err Form else day_of_named (named_date t)) h) ∙ e in cc f)
 
 dated_tame : (c : ℕ) → dated c ≡ true → tame c ≡ true
 dated_tame c h = grind (arith, h)

@@ -4,8 +4,9 @@ use Rattle.std.specs.Prelude.{nat_lt, not, ◌||◌}
 use Rattle.std.specs.List.{list_any, AllByRecursion}
 use Rattle.std.specs.Str.{chars, IsUtf8}
 use lib.Utf8.{encode, encodes}
-use Rattle.std.proofs.lemmas.Bool.{ltb-true}
+use Rattle.std.proofs.lemmas.Bool.{ltb-true, not-true}
 use Rattle.std.proofs.lemmas.Str.{encodes-chars, encode_ascii, inside_one}
+use Rattle.opa_io.proofs.Bools.{neither_first, neither_second}
 use Rattle.opa_words.specs.Characters.{is_control}
 use Rattle.opa_text.specs.Laws.{CanBeQuoted}
 use Rattle.opa_spelled.specs.Spelling.{CanBePrinted}
@@ -18,21 +19,13 @@ use Rattle.opa_model.specs.declared.things.Kind.{Kind}
 use Rattle.opa_text.specs.Laws.{CanBeWritten}
 use Rattle.opa_text.specs.Texts.{IsOfCalendar}
 
-or_left : (a b : Bool) → (a || b) ≡ false → a ≡ false
-or_left true b h = absurd (cc h)
-or_left false b h = refl
-
-or_right : (a b : Bool) → (a || b) ≡ false → b ≡ false
-or_right true b h = absurd (cc h)
-or_right false b h = h
-
 none_left : (xs ys : List ℕ) → list_any is_control (xs ++ ys) ≡ false → list_any is_control xs ≡ false
 none_left [] ys h = refl
-none_left (x ∷ xs) ys h = ap (λ t. t || list_any is_control xs) (or_left (is_control x) (list_any is_control (xs ++ ys)) h) ∙ none_left xs ys (or_right (is_control x) (list_any is_control (xs ++ ys)) h)
+none_left (x ∷ xs) ys h = ap (λ t. t || list_any is_control xs) (neither_first (is_control x) (list_any is_control (xs ++ ys)) h) ∙ none_left xs ys (neither_second (is_control x) (list_any is_control (xs ++ ys)) h)
 
 none_right : (xs ys : List ℕ) → list_any is_control (xs ++ ys) ≡ false → list_any is_control ys ≡ false
 none_right [] ys h = h
-none_right (x ∷ xs) ys h = none_right xs ys (or_right (is_control x) (list_any is_control (xs ++ ys)) h)
+none_right (x ∷ xs) ys h = none_right xs ys (neither_second (is_control x) (list_any is_control (xs ++ ys)) h)
 
 low : (c : ℕ) → is_control c ≡ true → nat_lt c 128 ≡ true
 low c h = grind (arith, h)
@@ -44,7 +37,7 @@ one_clean c h = go (is_control c) refl
     go false e = e
     go true e =
         let one : list_any is_control (c ∷ []) ≡ false = sym (ap (list_any is_control) (encode_ascii c (ltb-true c 128 (low c e)))) ∙ h in
-        or_left (is_control c) false one
+        neither_first (is_control c) false one
 
 all_clean : (cs : List ℕ) → list_any is_control (encodes cs) ≡ false → list_any is_control cs ≡ false
 all_clean [] h = refl
@@ -68,24 +61,20 @@ byte_clean c i n l = go (is_control (get_or (encode c) i 0)) refl
         let is : c ≡ get_or (encode c) i 0 = inside_one c [] (encode c) i (sym (append-nil (encode c))) l (ltb-true (get_or (encode c) i 0) 128 (low (get_or (encode c) i 0) e)) in
         absurd (let f : true ≡ false = sym e ∙ ap is_control (sym is) ∙ n in cc f)
 
-none_both : (xs ys : List ℕ) → list_any is_control xs ≡ false → list_any is_control ys ≡ false → list_any is_control (xs ++ ys) ≡ false
+pub none_both : (xs ys : List ℕ) → list_any is_control xs ≡ false → list_any is_control ys ≡ false → list_any is_control (xs ++ ys) ≡ false
 none_both [] ys h k = k
-none_both (x ∷ xs) ys h k = ap (λ t. t || list_any is_control (xs ++ ys)) (or_left (is_control x) (list_any is_control xs) h) ∙ none_both xs ys (or_right (is_control x) (list_any is_control xs) h) k
+none_both (x ∷ xs) ys h k = ap (λ t. t || list_any is_control (xs ++ ys)) (neither_first (is_control x) (list_any is_control xs) h) ∙ none_both xs ys (neither_second (is_control x) (list_any is_control xs) h) k
 
 bytes_clean : (cs : List ℕ) → list_any is_control cs ≡ false → list_any is_control (encodes cs) ≡ false
 bytes_clean [] h = refl
-bytes_clean (c ∷ cs) h = none_both (encode c) (encodes cs) (not_at (encode c) (λ i l. byte_clean c i (or_left (is_control c) (list_any is_control cs) h) l)) (bytes_clean cs (or_right (is_control c) (list_any is_control cs) h))
+bytes_clean (c ∷ cs) h = none_both (encode c) (encodes cs) (not_at (encode c) (λ i l. byte_clean c i (neither_first (is_control c) (list_any is_control cs) h) l)) (bytes_clean cs (neither_second (is_control c) (list_any is_control cs) h))
 
 pub clean_bytes : (t : List ℕ) → CanBeQuoted t → list_any is_control t ≡ false
 clean_bytes t h = ap (list_any is_control) (sym (encodes-chars t h.utf8)) ∙ bytes_clean (chars t) h.plain
 
-not_true : (b : Bool) → not b ≡ true → b ≡ false
-not_true true h = absurd (cc h)
-not_true false h = refl
-
 pub clean_decides : (t bytes : List ℕ) (b : Bool) → IsUtf8 t → bytes ≡ t → b ≡ list_any is_control bytes → Decides (not b) (CanBeQuoted t)
 clean_decides t bytes b u e k = (
-  λ yes. quoted_from t u (ap (list_any is_control) (sym e) ∙ sym k ∙ not_true b yes),
+  λ yes. quoted_from t u (ap (list_any is_control) (sym e) ∙ sym k ∙ not-true b yes),
   λ can. ap not (k ∙ ap (list_any is_control) e ∙ clean_bytes t can),
 )
 

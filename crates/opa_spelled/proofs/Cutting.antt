@@ -1,6 +1,6 @@
 -- Where bytes are cut.
 use Rattle.std.proofs.Common.{◌≡◌, ◌≢◌, ◌↔◌, ℕ, ◌+◌, ◌<◌, List, [], ◌∷◌, ◌++◌, Bool, true, false, cond, not, ◌&&◌, ◌||◌, ◌==◌, take, length, refl, sym, ◌∙◌, ap, subst, arith, append_assoc, append-nil, length-append}
-use Rattle.std.proofs.lemmas.Bool.{and_parts, eq-eqb, ne_eqb}
+use Rattle.std.proofs.lemmas.Bool.{and_parts, eq-eqb, ne_eqb, not-true}
 use Rattle.opa_spelled.specs.Cuts.{is_mark, calm, IsCutAt}
 
 -- ---- behind a front
@@ -64,10 +64,6 @@ end_isnt text first tail last parts n none other e =
 quote_no_mark : (b : ℕ) → (b == 34) ≡ true → is_mark b ≡ false
 quote_no_mark b h = grind (arith, h)
 
-not_false : (t : Bool) → not t ≡ true → t ≡ false
-not_false true h = absurd (cc h)
-not_false false h = refl
-
 -- no mark stands in what is calm
 no_mark_in : (q : Bool) (b c d : ℕ) (g r s : List ℕ) → calm q (b ∷ g) ≡ true → not q ≡ true → is_mark c ≡ true → c ∷ r ≡ b ∷ (g ++ d ∷ s) → ⊥
 no_mark_in q b c d g r s y x m e = go (b == 34) refl y
@@ -79,7 +75,7 @@ no_mark_in q b c d g r s y x m e = go (b == 34) refl y
     go true h k = cc (sym m ∙ ap is_mark is ∙ quote_no_mark b h)
     go false h k =
         let both = and_parts (q || not (is_mark b)) (calm q g) k in
-        let f : (q || not (is_mark b)) ≡ false = ap (λ t. t || not (is_mark b)) (not_false q x) ∙ ap not (sym (ap is_mark is) ∙ m) in
+        let f : (q || not (is_mark b)) ≡ false = ap (λ t. t || not (is_mark b)) (not-true q x) ∙ ap not (sym (ap is_mark is) ∙ m) in
         cc (sym both.0 ∙ f)
 
 -- a calm front ends at the first mark
@@ -130,7 +126,7 @@ step text front rest later inside next count b p e on none = record {
 }
   where
     at : (c : ℕ) (r : List ℕ) (g : List ℕ) → is_mark c ≡ true → rest ≡ g ++ c ∷ r → calm inside g ≡ true → Ahead later next c r
-    at c r [] m q h = let s = same_head b c later r (sym e ∙ q) in absurd (none (not_false inside h) (ap is_mark s.0 ∙ m))
+    at c r [] m q h = let s = same_head b c later r (sym e ∙ q) in absurd (none (not-true inside h) (ap is_mark s.0 ∙ m))
     at c r (d ∷ g) m q h =
         let s = same_head b d later (g ++ c ∷ r) (sym e ∙ q) in
         record { front = g; parts = s.1; is_calm = sym (on g) ∙ ap (λ z. calm inside (z ∷ g)) s.0 ∙ h; is_mark_too = m }
@@ -165,7 +161,3 @@ never_cut text front rest inside count p e f c r x = let a = p.ahead f c r x in 
     nothing : (g : List ℕ) → [] ≡ g ++ c ∷ r → ⊥
     nothing [] q = cc q
     nothing (d ∷ g) q = cc q
-
-pub or_true : (b : Bool) → (b || true) ≡ true
-or_true true = refl
-or_true false = refl

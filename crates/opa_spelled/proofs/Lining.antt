@@ -1,6 +1,6 @@
 -- The lines of a text, one after another.
 use Rattle.std.proofs.Common.{◌≡◌, ℕ, ◌+◌, ◌<◌, List, [], ◌∷◌, ◌++◌, Bool, true, false, cond, not, ◌&&◌, ◌==◌, take, length, refl, sym, ◌∙◌, ap, arith, append_assoc, append-nil, length-append}
-use Rattle.std.proofs.lemmas.Bool.{ne_eqb}
+use Rattle.std.proofs.lemmas.Bool.{ne_eqb, not-true, and_parts}
 use Rattle.opa_spelled.specs.Lines.{Lined, with_byte, lined, with_line}
 use Rattle.opa_spelled.proofs.Cutting.{taken}
 
@@ -9,27 +9,19 @@ abbrev pub no_feed : List ℕ → Bool
 no_feed [] = true
 no_feed (b ∷ bs) = not (b == 10) && no_feed bs
 
-not_true : (t : Bool) → not t ≡ true → t ≡ false
-not_true true h = absurd (cc h)
-not_true false h = refl
-
-parts_of : (a b : Bool) → (a && b) ≡ true → (a ≡ true) × (b ≡ true)
-parts_of true b h = (refl, h)
-parts_of false b h = absurd (cc h)
-
 pub line_ends : (front more : List ℕ) → no_feed front ≡ true → lined (front ++ 10 ∷ more) ≡ with_line (front ++ 10 ∷ []) (lined more)
 line_ends [] more h = refl
 line_ends (b ∷ front) more h =
-    let both = parts_of (not (b == 10)) (no_feed front) h in
+    let both = and_parts (not (b == 10)) (no_feed front) h in
     ap (with_byte b) (line_ends front more both.1)
-    ∙ ap (λ t. cond t (record { lines = (b ∷ []) ∷ (front ++ 10 ∷ []) ∷ (lined more).lines; left = (lined more).left }) (record { lines = (b ∷ front ++ 10 ∷ []) ∷ (lined more).lines; left = (lined more).left })) (not_true (b == 10) both.0)
+    ∙ ap (λ t. cond t (record { lines = (b ∷ []) ∷ (front ++ 10 ∷ []) ∷ (lined more).lines; left = (lined more).left }) (record { lines = (b ∷ front ++ 10 ∷ []) ∷ (lined more).lines; left = (lined more).left })) (not-true (b == 10) both.0)
 
 pub no_line : (front : List ℕ) → no_feed front ≡ true → lined front ≡ record { lines = []; left = front }
 no_line [] h = refl
 no_line (b ∷ front) h =
-    let both = parts_of (not (b == 10)) (no_feed front) h in
+    let both = and_parts (not (b == 10)) (no_feed front) h in
     ap (with_byte b) (no_line front both.1)
-    ∙ ap (λ t. cond t (record { lines = (b ∷ []) ∷ []; left = front }) (record { lines = []; left = b ∷ front })) (not_true (b == 10) both.0)
+    ∙ ap (λ t. cond t (record { lines = (b ∷ []) ∷ []; left = front }) (record { lines = []; left = b ∷ front })) (not-true (b == 10) both.0)
 
 -- what was passed has no line feed
 pub record Unended (text front rest : List ℕ) (count : ℕ) : Type 0 where
@@ -43,7 +35,7 @@ unended_none text = record { parts = refl; many = refl; none = refl }
 none_more : (front : List ℕ) (b : ℕ) → no_feed front ≡ true → (b == 10) ≡ false → no_feed (front ++ b ∷ []) ≡ true
 none_more [] b h e = ap (λ t. not t && true) e
 none_more (c ∷ front) b h e =
-    let both = parts_of (not (c == 10)) (no_feed front) h in
+    let both = and_parts (not (c == 10)) (no_feed front) h in
     ap (λ t. t && no_feed (front ++ b ∷ [])) both.0 ∙ none_more front b both.1 e
 
 pub unended_more : (text front rest later : List ℕ) (count : ℕ) (b : ℕ) → Unended text front rest count → rest ≡ b ∷ later → (b ≡ 10 → ⊥) → Unended text (front ++ b ∷ []) later (count + 1)

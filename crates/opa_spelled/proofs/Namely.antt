@@ -84,7 +84,7 @@ unread_list text n o is e = n (subst IsUtf8 e (names_utf8 o is))
 
 -- ---- lists with one text
 
-apart : (a b : ℕ) → (b < a) ⊎ (a < b) → a ≡ b → ⊥
+pub apart : (a b : ℕ) → (b < a) ⊎ (a < b) → a ≡ b → ⊥
 apart a b (inl h) e = absurd (omega (arith, h, e))
 apart a b (inr h) e = absurd (omega (arith, h, e))
 

@@ -1,5 +1,5 @@
 -- Origins, cut at their last colon.
-use Rattle.std.proofs.Common.{◌≡◌, ◌≢◌, ◌⊎◌, inl, inr, ℕ, suc, ◌<◌, ◌^◌, List, [], ◌∷◌, ◌++◌, length, take, drop, get_or, true, ◌==◌, refl, sym, ap, subst, ◌∙◌, arith, decimal}
+use Rattle.std.proofs.Common.{◌≡◌, ◌≢◌, inl, inr, ℕ, suc, ◌<◌, ◌^◌, List, [], ◌∷◌, ◌++◌, length, take, drop, get_or, true, ◌==◌, refl, sym, ap, subst, ◌∙◌, arith, decimal}
 use Rattle.std.specs.Prelude.{Some, None, Result, Ok, Err, codes}
 use Rattle.std.specs.Char.{is_ascii_digit}
 use Rattle.std.specs.Str.{IsUtf8, NoCharPasses}
@@ -19,6 +19,7 @@ use Rattle.opa_spelled.specs.Spelling.{IsOrigin}
 use Rattle.opa_spelled.specs.declared.printed.Origin.{Origin}
 use Rattle.opa_spelled.specs.declared.printed.Origin.TheVariants as origin
 use Rattle.opa_spelled.proofs.Cutting.{same_head}
+use Rattle.opa_spelled.proofs.Namely.{apart}
 
 -- ---- the last colon
 
@@ -81,10 +82,6 @@ rule_cut : (text place file line f : List ℕ) (n : ℕ) → text ≡ codes "rul
 rule_cut text place file line f n t c h e = last_colon f file (decimal n) line (decimal_no_colon n h) c.last (same_rule (f ++ 58 ∷ decimal n) place (e ∙ t) ∙ c.parts)
 
 -- ---- what can't be an origin
-
-apart : (a b : ℕ) → (b < a) ⊎ (a < b) → a ≡ b → ⊥
-apart a b (inl h) e = absurd (omega (arith, h, e))
-apart a b (inr h) e = absurd (omega (arith, h, e))
 
 not_answer : (place : List ℕ) → codes "answer" ≡ codes "rule " ++ place → ⊥
 not_answer place e = apart 97 114 (inr (omega arith)) (cc e)

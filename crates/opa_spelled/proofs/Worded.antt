@@ -17,7 +17,8 @@ use Rattle.opa_words.specs.Kinds.{IsToken, is_word, IsNumber}
 use Rattle.opa_words.specs.Places.{IsWithin, IsOfKind, token_text}
 use Rattle.opa_words.specs.Reserved.{joined, begins_well, ends_badly, is_phrase_kind}
 use Rattle.opa_words.proofs.PlaceLaws.{tokens_within, tokens_of_kind}
-use Rattle.opa_words.proofs.Separate.{all_wider, all_append, none_of, numeric, number_numeric}
+use Rattle.opa_words.proofs.Separate.{all_wider, all_append, numeric, number_numeric}
+use Rattle.opa_words.proofs.Letters.{none_of}
 use Rattle.opa_verbs.specs.Phrasing.{IsPhrase}
 use Rattle.opa_spelled.specs.Spelling.{is_sign, CanBePhrase}
 

@@ -7,6 +7,7 @@ use Rattle.std.proofs.lemmas.Bool.{and_parts, eqb-true}
 use Rattle.std.proofs.lemmas.List.{take_more}
 use Rattle.std.proofs.lemmas.List.Folds.{list_any-append}
 use Rattle.std.proofs.lemmas.Map.Views.{exact_unsigned_eq}
+use Rattle.opa_io.proofs.Lists.{any_both}
 use Rattle.opa_model.specs.declared.ids.AttrId.{AttrId}
 use Rattle.opa_cells.specs.Instances.{is_same}
 use Rattle.opa_cells.specs.declared.instance.InstanceId.{InstanceId}
@@ -75,11 +76,6 @@ drops_next r i attrs k d a j o p q lt before next =
     or_nothing false true = refl
     or_nothing false false = refl
 
-any_and : {A : Type 0} (b : Bool) (p : A → Bool) (xs : List A) → list_any (λ x. b && p x) xs ≡ (b && list_any p xs)
-any_and true p xs = refl
-any_and false p [] = refl
-any_and false p (x ∷ xs) = any_and false p xs
-
 any_as : {A : Type 0} (p q : A → Bool) (xs : List A) → ((x : A) → p x ≡ q x) → list_any p xs ≡ list_any q xs
 any_as p q [] same = refl
 any_as p q (x ∷ xs) same = ap (λ b. b || list_any p xs) (same x) ∙ ap (λ b. q x || b) (any_as p q xs same)
@@ -111,7 +107,7 @@ module _ (r : Rulebase) (owners : Owners) (are : AreOwners r owners) (went : Pop
       go false s eh es = goes false s eh es ∙ off (is_named (owned_in owners g.0.entity.0) a.0) ∙ sym (ap (λ b. b && is_same i g.0) eh)
 
   flag : (a : AttrId) (i : InstanceId) → list_any (λ g. goes_at r owners g.0 a.0 i) went ≡ (has_slot r a i && is_among went i)
-  flag a i = any_as (λ (g : InstanceId × InstanceId). goes_at r owners g.0 a.0 i) (λ (g : InstanceId × InstanceId). has_slot r a i && is_same i g.0) went (one_goes a i) ∙ any_and (has_slot r a i) (λ g. is_same i g.0) went
+  flag a i = any_as (λ (g : InstanceId × InstanceId). goes_at r owners g.0 a.0 i) (λ (g : InstanceId × InstanceId). has_slot r a i && is_same i g.0) went (one_goes a i) ∙ any_both (has_slot r a i) (λ g. is_same i g.0) went
 
   pub dropped_lines : (a : AttrId) (i : InstanceId) → kept_lines new a i ≡ cond (has_slot r a i && is_among went i) None (kept_lines old a i)
   dropped_lines a i = ap kept_in (drops a.0 i) ∙ push (list_any (λ g. goes_at r owners g.0 a.0 i) went) (get old (a.0, i)) ∙ ap (λ b. cond b None (kept_lines old a i)) (flag a i)

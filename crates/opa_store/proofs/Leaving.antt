@@ -3,6 +3,7 @@ use Rattle.std.proofs.Common.{◌≡◌, Bool, true, false, not, cond, Option, N
 use Rattle.std.specs.Prelude.{◌&&◌, ◌==◌}
 use Rattle.std.specs.Option.{option_or}
 use Rattle.std.proofs.lemmas.Bool.{eq-eqb}
+use Rattle.opa_io.proofs.Bools.{and_false}
 use Rattle.opa_model.specs.declared.ids.AttrId.{AttrId}
 use Rattle.opa_cells.specs.declared.instance.InstanceId.{InstanceId}
 use Rattle.opa_case.specs.Cases.{Answer}
@@ -21,10 +22,6 @@ use Rattle.opa_store.specs.Drops.{has_slot, AreDropped, DroppedAreCurrent}
 none_where : (o : Option Answer) → is_some o ≡ false → o ≡ None
 none_where None h = refl
 none_where (Some x) h = absurd (cc h)
-
-and_off : (b : Bool) → (b && false) ≡ false
-and_off true = refl
-and_off false = refl
 
 module _ (s : Shift) (is : IsShift s) (went come : Population) (home : InstanceId) (turns : Turns s.old.live s.new.live went come home) (kept staged mid after : Lines)
     (current : AreCurrent s.rules s.old kept) (are : AreSettled s staged) (same : SameLines (laid kept staged) mid) (dropped : AreDropped s.rules went mid after) where
@@ -61,7 +58,7 @@ module _ (s : Shift) (is : IsShift s) (went come : Population) (home : InstanceI
     where
       lives : is_live s.new.live i ≡ true → cond (has_slot s.rules a i && is_among went i) None (laid kept staged a i) ≡ laid_over s.new kept staged a i
       lives live =
-          ap (λ b. cond (has_slot s.rules a i && b) None (laid kept staged a i)) (stays_in i live) ∙ ap (λ b. cond b None (laid kept staged a i)) (and_off (has_slot s.rules a i))
+          ap (λ b. cond (has_slot s.rules a i && b) None (laid kept staged a i)) (stays_in i live) ∙ ap (λ b. cond b None (laid kept staged a i)) (and_false (has_slot s.rules a i))
           ∙ sym (ap (λ b. cond b (laid kept staged a i) None) live)
 
       off : is_live s.new.live i ≡ false → (b : Bool) → (has_slot s.rules a i && is_among went i) ≡ b → cond (has_slot s.rules a i && is_among went i) None (laid kept staged a i) ≡ None

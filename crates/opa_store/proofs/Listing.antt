@@ -1,28 +1,19 @@
 -- The slots that are listed are those with a staged line.
 use Rattle.std.proofs.Common.{◌≡◌, Bool, true, false, cond, not, List, [], ◌∷◌, ◌++◌, Option, None, Some, is_some, refl, sym, ◌∙◌, ap}
 use Rattle.std.specs.Prelude.{◌||◌}
-use Rattle.std.specs.List.{list_any}
-use Rattle.std.proofs.lemmas.Bool.{and_parts}
+use Rattle.std.proofs.lemmas.Bool.{and_parts, and_from, or_parts}
+use Rattle.opa_io.proofs.Lists.{any_append}
 use Rattle.opa_model.specs.declared.ids.AttrId.{AttrId}
 use Rattle.opa_cells.specs.declared.instance.InstanceId.{InstanceId}
 use Rattle.opa_case.specs.Cases.{Answer}
-use Rattle.opa_mean.proofs.SameBoth.{both_true}
 use Rattle.opa_dirty.specs.Settling.{Lines, NoLines, Stages, is_slot_same}
 use Rattle.opa_dirty.specs.declared.slot.Slot.{Slot}
 use Rattle.opa_store.specs.Stores.{AreListed, are_once, is_listed}
 use Rattle.opa_store.proofs.Entering.{flip}
 
-any-append : {X : Type 0} (p : X → Bool) (xs ys : List X) → list_any p (xs ++ ys) ≡ (list_any p xs || list_any p ys)
-any-append p [] ys = refl
-any-append p (x ∷ xs) ys = go (p x) (any-append p xs ys)
-  where
-    go : (b : Bool) → list_any p (xs ++ ys) ≡ (list_any p xs || list_any p ys) → (b || list_any p (xs ++ ys)) ≡ ((b || list_any p xs) || list_any p ys)
-    go true e = refl
-    go false e = e
-
 -- one more is listed
 listed_more : (slots : List Slot) (s : Slot) (b : AttrId) (j : InstanceId) → is_listed (slots ++ s ∷ []) b j ≡ (is_listed slots b j || (is_slot_same s.attr s.inst b j || false))
-listed_more slots s b j = any-append (λ (s : Slot). is_slot_same s.attr s.inst b j) slots (s ∷ [])
+listed_more slots s b j = any_append (λ (s : Slot). is_slot_same s.attr s.inst b j) slots (s ∷ [])
 
 or_true : (x : Bool) → (x || (true || false)) ≡ true
 or_true true = refl
@@ -40,20 +31,12 @@ listed_stage old new slots s line are stages b j = go (is_slot_same s.attr s.ins
     go true e = ap is_some (stages b j ∙ ap (λ t. cond t (Some line) (old b j)) e) ∙ sym (listed_more slots s b j ∙ ap (λ t. is_listed slots b j || (t || false)) e ∙ or_true (is_listed slots b j))
     go false e = ap is_some (stages b j ∙ ap (λ t. cond t (Some line) (old b j)) e) ∙ are b j ∙ sym (listed_more slots s b j ∙ ap (λ t. is_listed slots b j || (t || false)) e ∙ or_false (is_listed slots b j))
 
-neither : (x y : Bool) → (x || y) ≡ false → (x ≡ false) × (y ≡ false)
-neither false y h = (refl, h)
-neither true y h = absurd (cc h)
-
-not_true : (x : Bool) → not x ≡ true → x ≡ false
-not_true false h = refl
-not_true true h = absurd (cc h)
-
 pub once_stage : (slots : List Slot) (s : Slot) → are_once slots ≡ true → is_listed slots s.attr s.inst ≡ false → are_once (slots ++ s ∷ []) ≡ true
 once_stage [] s once none = refl
 once_stage (x ∷ slots) s once none =
     let two = and_parts _ _ once in
-    let apart = neither (is_slot_same x.attr x.inst s.attr s.inst) (is_listed slots s.attr s.inst) none in
-    both_true (not (is_listed (slots ++ s ∷ []) x.attr x.inst)) (are_once (slots ++ s ∷ []))
+    let apart = or_parts (is_slot_same x.attr x.inst s.attr s.inst) (is_listed slots s.attr s.inst) none in
+    and_from (not (is_listed (slots ++ s ∷ []) x.attr x.inst)) (are_once (slots ++ s ∷ []))
     (ap not (listed_more slots s x.attr x.inst ∙ ap (λ t. is_listed slots x.attr x.inst || (t || false)) (flip (s.attr.0, s.inst) (x.attr.0, x.inst) ∙ apart.0) ∙ or_false (is_listed slots x.attr x.inst)) ∙ two.0)
     (once_stage slots s two.1 apart.1)
 

@@ -1,5 +1,6 @@
 -- Two lines differ exactly where their values do at some day.
 use Rattle.std.proofs.Common.{◌≡◌, ℕ, Bool, true, false, [], ◌∷◌, Option, None, Some, is_some, refl, sym, ◌∙◌, ap}
+use Rattle.opa_io.proofs.Options.{none_is}
 use Rattle.opa_date.specs.declared.TheConstants.{DAYS}
 use Rattle.opa_line.specs.Lines.{IsLine, at}
 use Rattle.opa_line.specs.Differences.{IsFirstDifference}
@@ -13,10 +14,6 @@ use Rattle.opa_dirty.proofs.Differing.{none_where_same}
 at_value : (l : Answer) → IsLine DAYS l → (d : ℕ) → at l d ≡ Some (line_value (Some l) d)
 at_value [] form d = absurd form
 at_value (p ∷ l) form d = refl
-
-none_is : {X : Type 0} (o : Option X) → is_some o ≡ false → o ≡ None
-none_is None h = refl
-none_is (Some x) h = absurd (cc h)
 
 pub two_lines : (l m : Answer) → IsLine DAYS l → IsLine DAYS m → (o : Option ℕ) → IsFirstDifference DAYS l m o → is_some o ≡ is_some (first_difference DAYS (line_value (Some l)) (line_value (Some m)))
 two_lines l m fl fm None same = sym (ap is_some (none_where_same DAYS (line_value (Some l)) (line_value (Some m)) (λ d lt. ap (λ x. line_value (Some x) d) same)))

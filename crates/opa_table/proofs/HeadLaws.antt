@@ -1,5 +1,5 @@
 -- Condition heads stand before conclusion heads.
-use Rattle.std.proofs.Common.{◌≡◌, ◌≢◌, ℕ, List, [], ◌∷◌, ◌++◌, length, map, Option, refl, sym, ap, ap₂, subst, ◌∙◌, append_assoc, arith}
+use Rattle.std.proofs.Common.{◌≡◌, ◌≢◌, ℕ, List, [], ◌∷◌, ◌++◌, map, Option, refl, sym, ap, ap₂, subst, ◌∙◌, append_assoc}
 use Rattle.std.proofs.lemmas.List.{append-nil, map-append}
 use Rattle.opa_model.specs.declared.ids.AttrId.{AttrId}
 use Rattle.opa_model.specs.declared.lists.Lists.{Lists}
@@ -104,7 +104,3 @@ same_heads (x ∷ xs) (y ∷ ys) attrs bs e =
 
 pub one_heads : (m : Lists) (ns : Names) (cells : List (List ℕ)) (g h : Heads) → AreHeads m ns cells g → AreHeads m ns cells h → g ≡ h
 one_heads m ns cells g h a b = same_heads g.conditions h.conditions g.conclusions h.conclusions (each_same (IsHeadCell m ns) (one_head_cell m ns) cells (headings g) (headings h) a.cells_say b.cells_say)
-
-pub none_of : {A : Type 0} (xs : List A) → length xs ≡ 0 → xs ≡ []
-none_of [] e = refl
-none_of (x ∷ xs) e = absurd (omega (arith, e))

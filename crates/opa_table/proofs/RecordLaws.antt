@@ -61,7 +61,7 @@ step_quiet st.AfterQuote c = quiet_if (c == 34) (st.InQuoted, act.Copy) (in_fiel
 step_quiet st.InComment c = quiet_if (c == 10) (st.StartRecord, act.Skip) (st.InComment, act.Skip) (goes_on st.StartRecord act.Skip refl) (goes_on st.InComment act.Skip refl)
 step_quiet st.AfterCr c = quiet_if (c == 10) (st.StartRecord, act.Skip) (start_record default_config c) (goes_on st.StartRecord act.Skip refl) (start_record_quiet c)
 
-same : (x p : Read) → Some x ≡ Some p → x ≡ p
+pub same : (x p : Read) → Some x ≡ Some p → x ≡ p
 same x p e = cc e
 
 abbrev Shorter : State → ℕ → Read → Type 0

@@ -21,9 +21,6 @@ use Rattle.opa_table.proofs.EachLaws.{each_same}
 pub wide_so : (count conditions conclusions : ℕ) → (nat_le conditions count && (count - conditions == conclusions)) ≡ (count == conditions + conclusions)
 wide_so count conditions conclusions = grind arith
 
-pub wide_is : (m n : ℕ) → (m == n) ≡ true → m ≡ n
-wide_is m n e = grind (arith, e)
-
 wide_not : (m n : ℕ) → (m == n) ≡ false → m ≡ n → ⊥
 wide_not m n e f = absurd (let q : (m == n) ≡ true = grind (arith, f) in let r : true ≡ false = sym q ∙ e in cc r)
 

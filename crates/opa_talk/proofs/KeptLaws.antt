@@ -5,6 +5,7 @@ use Rattle.std.specs.Io.KnownBytes.{Keeps}
 use Rattle.opa_io.specs.Outside.{Rose, AppendsFront}
 use Rattle.opa_io.proofs.Appended.{Consumes-none}
 use Rattle.opa_io.proofs.Gathers.{Keeps-Appends}
+use Rattle.opa_io.proofs.Outsides.{rose_before}
 use Rattle.opa_talk.specs.declared.halt.Halt.{Halt}
 use Rattle.opa_talk.specs.declared.halt.Halt.TheVariants as halt
 use Rattle.opa_talk.specs.declared.feed.Turn.{Turn}
@@ -13,7 +14,6 @@ use Rattle.opa_talk.specs.Halt.{IsCause}
 use Rattle.opa_talk.specs.Transcript.{Rule}
 use Rattle.opa_talk.specs.Points.{Point, CarriesOut, GoesOn, EndsWithin, Breaks, BreaksWithin, BreaksAt, BreaksPart, TakesTurn}
 use Rattle.opa_talk.proofs.PointsLaws.{breaks_none}
-use Rattle.opa_talk.proofs.RoseLaws.{rose_later}
 
 -- a front was appended to bytes that stayed
 front_kept : (a b c : Option (List ℕ)) (xs : List ℕ) → Keeps a b → AppendsFront b c xs → AppendsFront a c xs
@@ -79,7 +79,7 @@ module _ (take take' keep keep' input input' : ℕ) where
 
   cause_kept : (before mid now : ℕ) → before ≤ mid → (e : Halt) → IsCause take take' keep keep' mid now input input' e → IsCause take take' keep keep' before now input input' e
   cause_kept before mid now less halt.Input p = p
-  cause_kept before mid now less halt.Output p = rose_later before mid now less p
+  cause_kept before mid now less halt.Output p = rose_before before mid now less p
   cause_kept before mid now less halt.Take p = p
   cause_kept before mid now less halt.Keep p = p
   cause_kept before mid now less halt.Memory p = p

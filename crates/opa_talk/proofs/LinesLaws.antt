@@ -1,11 +1,12 @@
 -- The lines of bytes that are cut at a line feed.
-use Rattle.std.proofs.Common.{◌+◌, ◌<◌, ◌≤◌, slice_index_or, subst, arith, ◌≡◌, inl, inr, ℕ, Bool, true, false, List, [], ◌∷◌, ◌++◌, ◌&&◌, ap, sym, ◌∙◌, refl, append_assoc, append-nil, eqb, take, drop, length}
+use Rattle.std.proofs.Common.{◌+◌, ◌<◌, ◌≤◌, slice_index_or, subst, arith, ◌≡◌, inl, inr, ℕ, Bool, true, false, List, [], ◌∷◌, ◌++◌, ◌&&◌, ap, sym, ◌∙◌, refl, append_assoc, append-nil, take, drop, length, ne_eqb}
 use Rattle.std.specs.Prelude.{if◌then◌else◌, ◌==◌}
 use Rattle.std.specs.Str.{bytes_eq}
 use Rattle.std.specs.List.{onto_first}
 use Rattle.std.proofs.lemmas.List.Elements.{All-cons, All-drop, All-push, All-head, All-tail}
 use Rattle.std.proofs.lemmas.Bool.Decides.{eqb_tells}
 use Rattle.std.proofs.lemmas.List.{take_more, take_all}
+use Rattle.opa_io.proofs.Bools.{and_false, and_true}
 use Rattle.opa_talk.specs.Lines.{lines, without_mark, line_at, lines_from, IsPart, EndsLine, IsWhole}
 use Rattle.opa_talk.specs.Points.{is_empty}
 
@@ -52,14 +53,6 @@ cut_cond false x parts more all q e = ap (onto_first x) e ∙ onto_first-append 
 pub lines_cut : (xs ys : List ℕ) → lines (xs ++ 10 ∷ ys) ≡ lines (xs ++ 10 ∷ []) ++ lines ys
 lines_cut [] ys = refl
 lines_cut (x ∷ xs) ys = cut_cond (x == 10) x (lines (xs ++ 10 ∷ [])) (lines ys) (lines (xs ++ 10 ∷ ys)) (first_feed xs []) (lines_cut xs ys)
-
-and_false : (b : Bool) → (b && false) ≡ false
-and_false true = refl
-and_false false = refl
-
-and_true : (b : Bool) → (b && true) ≡ b
-and_true true = refl
-and_true false = refl
 
 and_and_false : (a b : Bool) → (a && (b && false)) ≡ false
 and_and_false true b = and_false b
@@ -144,9 +137,6 @@ EndsLine-append xs ys p q = elim q [
   | inl none ↦ let P : List ℕ → Type 0 = EndsLine in subst P (sym (append-nil xs) ∙ ap (λ s. xs ++ s) (sym none)) p
   | inr feed ↦ inr (xs ++ feed.0, ap (λ s. xs ++ s) feed.1 ∙ sym (append_assoc xs feed.0 (10 ∷ [])))
 ]
-
-ne_eqb : (a b : ℕ) → (a ≡ b → ⊥) → eqb a b ≡ false
-ne_eqb a b h = elim (eqb_tells a b) [ inl p ↦ absurd (h p.1) | inr q ↦ q.0 ]
 
 -- one byte more is no line feed
 pub part_more : (bytes : List ℕ) (i : ℕ) → i < length bytes → IsPart (take i bytes) → (slice_index_or bytes i 0 ≡ 10 → ⊥) → IsPart (take (i + 1) bytes)

@@ -1,20 +1,16 @@
 -- What a halt leaves where a count of faults rose, from an earlier count.
-use Rattle.std.proofs.Common.{◌≤◌, inl, inr, ℕ, List, Result, Ok, Err, OnErr, arith}
+use Rattle.std.proofs.Common.{◌≤◌, inl, inr, ℕ, List, Result, Ok, Err, OnErr}
 use Rattle.std.specs.declared.option.Option.{Option}
-use Rattle.opa_io.specs.Outside.{Rose}
+use Rattle.opa_io.proofs.Outsides.{rose_before}
 use Rattle.opa_talk.specs.declared.halt.Halt.{Halt}
 use Rattle.opa_talk.specs.declared.halt.Halt.TheVariants as halt
 use Rattle.opa_talk.specs.Transcript.{Rule}
 use Rattle.opa_talk.specs.Talk.{MayLeave, LeftAt}
 use Rattle.opa_talk.specs.Points.{Point, Breaks, BreaksWithin, BreaksAt, BreaksPart}
 
--- a count that rose later rose
-pub rose_later : (before mid now : ℕ) → before ≤ mid → Rose mid now → Rose before now
-rose_later before mid now less rose = search (arith, less, rose)
-
 module _ {X : Type 0} (rule : Rule X) (Stops Lacks : X → List ℕ → X → Type 0) (before mid now : ℕ) (less : before ≤ mid) where
   may_later : (x x' : X) (line : List ℕ) → MayLeave mid now Stops Lacks x line x' → MayLeave before now Stops Lacks x line x'
-  may_later x x' line may = elim may [ inl s ↦ inl (rose_later before mid now less s.0, s.1) | inr l ↦ inr l ]
+  may_later x x' line may = elim may [ inl s ↦ inl (rose_before before mid now less s.0, s.1) | inr l ↦ inr l ]
 
   left_later : (x x' : X) (more : List (List ℕ)) → LeftAt (MayLeave mid now Stops Lacks) x more x' → LeftAt (MayLeave before now Stops Lacks) x more x'
   left_later x x' more left = elim left [ inl e ↦ inl e | inr s ↦ inr (s.0, s.1, s.2, may_later x x' s.0 s.3) ]

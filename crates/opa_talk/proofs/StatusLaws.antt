@@ -1,11 +1,12 @@
 -- Laws for what a program's status says of its talk: what was read, and which lines were carried out.
-use Rattle.std.proofs.Common.{◌≡◌, ◌≢◌, ◌≤◌, inl, inr, ℕ, List, [], ◌++◌, length, length-append, take, drop, append_assoc, append-nil, Option, None, Some, Err, refl, ap, sym, ◌∙◌, subst, arith}
-use Rattle.std.specs.Io.KnownBytes.{Appends, Consumes, IsAtEnd}
+use Rattle.std.proofs.Common.{◌≡◌, ◌≢◌, ◌≤◌, inl, inr, ℕ, List, [], ◌++◌, length, take, drop, append_assoc, append-nil, Option, Some, Err, refl, ap, sym, ◌∙◌, subst, arith}
+use Rattle.std.specs.Io.KnownBytes.{Appends, Consumes}
 use Rattle.std.proofs.lemmas.List.{take-append-drop}
 use Rattle.opa_io.proofs.Appended.{Consumes-none}
 use Rattle.opa_io.specs.Outside.{Rose}
 use Rattle.opa_io.specs.declared.fault.Status.{Status}
 use Rattle.opa_io.specs.declared.fault.Status.TheVariants as status
+use Rattle.opa_io.proofs.Outsides.{rose_before, read_within}
 use Rattle.opa_talk.specs.declared.halt.Halt.{Halt}
 use Rattle.opa_talk.specs.declared.halt.Halt.TheVariants as halt
 use Rattle.opa_talk.specs.Ended.{Counts, Ends}
@@ -15,23 +16,12 @@ use Rattle.opa_talk.specs.Talk.{HaltedAmong, Halts, Paused}
 use Rattle.opa_talk.specs.Transcript.{Rule, IsTranscript}
 use Rattle.opa_talk.proofs.EndLaws.{among_whole}
 use Rattle.opa_talk.proofs.PointsLaws.{front_all}
-use Rattle.opa_talk.proofs.RoseLaws.{rose_later}
 
 -- ---- what was read
 
 -- of an input that is as it was nothing was read
 pub unread : (l l' : Option (List ℕ)) → l' ≡ l → Consumes l l' []
 unread l l' e = let P : Option (List ℕ) → Type 0 = λ x. Consumes l x [] in subst P (sym e) (Consumes-none l)
-
--- no more was read than there was
-pub took_within : (bytes read : List ℕ) (l' : Option (List ℕ)) → Consumes (Some bytes) l' read → length read ≤ length bytes
-took_within bytes read None took = absurd took
-took_within bytes read (Some rest) took = omega (arith, ap length took, length-append read rest)
-
--- an input that is at its end was read whole
-pub all_read : (bytes read : List ℕ) (l' : Option (List ℕ)) → Consumes (Some bytes) l' read → IsAtEnd l' → read ≡ bytes
-all_read bytes read None took end = absurd took
-all_read bytes read (Some rest) took end = search (append-nil, took, end)
 
 -- ---- which lines were carried out
 
@@ -67,7 +57,7 @@ module _ (most : ℕ) (left left' : Option (List ℕ)) (old new : Counts) (All W
       → Ends most left left' old new All Whole Front (end_of (Err e))
   halts_end rule Stops x y before now mid less whole front halt.Input (read, took, (few, p)) cause = (read, took, few, inl (cause, whole read p))
   halts_end rule Stops x y before now mid less whole front halt.Output (read, took, (few, h)) cause = (read, took, few, (inl cause, front read h))
-  halts_end rule Stops x y before now mid less whole front halt.Take (read, took, (few, h)) cause = (read, took, few, inr (rose_later old.takes mid new.takes less cause, front read h))
+  halts_end rule Stops x y before now mid less whole front halt.Take (read, took, (few, h)) cause = (read, took, few, inr (rose_before old.takes mid new.takes less cause, front read h))
   halts_end rule Stops x y before now mid less whole front halt.Keep (read, took, (few, h)) cause = (read, took, few, (inr cause, front read h))
   halts_end rule Stops x y before now mid less whole front halt.Memory (read, took, (few, h)) cause = (read, took, few, front read h)
   halts_end rule Stops x y before now mid less whole front halt.Limit (read, took, (many, p)) cause = (read, took, many, whole (take most read) p)
@@ -85,4 +75,4 @@ module _ (most : ℕ) (left left' : Option (List ℕ)) (old new : Counts) (All W
   calm_is_done bytes told short take keep read write status.WriteFault (r, took, few, (inr h, says)) some = absurd (keep h)
   calm_is_done bytes told short take keep read write status.NoMemory t some = absurd (some refl)
   calm_is_done bytes told short take keep read write status.InputLimit (r, took, many, says) some =
-      absurd (let few = took_within bytes r left' (subst (λ x. Consumes x left' r) told took) in omega (arith, few, many, short))
+      absurd (let few = read_within bytes r left' (subst (λ x. Consumes x left' r) told took) in omega (arith, few, many, short))

@@ -1,5 +1,5 @@
 -- Changes one after another.
-use Rattle.std.proofs.Common.{◌≡◌, ◌<◌, ℕ, List, [], ◌∷◌, ◌++◌, length, true, false, refl, sym, ap, subst, ◌∙◌, arith, cond, append_assoc, append-nil}
+use Rattle.std.proofs.Common.{◌≡◌, ◌<◌, ℕ, List, [], ◌∷◌, ◌++◌, length, true, false, refl, sym, ap, subst, ◌∙◌, arith, cond, append_assoc, append-nil, lt-ltb}
 use Rattle.std.specs.Prelude.{Option, Some, None, MatchOption, IfSome, nat_lt, ◌==◌}
 use Rattle.std.specs.Option.{option_map}
 use Rattle.opa_value.specs.declared.value.Value.{Value}
@@ -54,7 +54,7 @@ pub record Reached (first : Value) (start : List Piece) (pairs : List (ℕ × Va
 pub reached_start : (first : Value) (start : List Piece) (pairs : List (ℕ × Value)) → pairs ≡ (0, first) ∷ [] → Reached first start pairs 0 start
 reached_start first start pairs e = record { done = []; items = e; goes = λ more h. h; comes = λ all h. (all, refl, h) }
 
-nothing_shorter : (rest after : List Piece) → length after < length rest → rest ≡ [] → ⊥
+pub nothing_shorter : (rest after : List Piece) → length after < length rest → rest ≡ [] → ⊥
 nothing_shorter rest after h e = omega (arith, h, ap length e)
 
 pub reached_more : (first : Value) (start : List Piece) (pairs now : List (ℕ × Value)) (last : ℕ) (rest after : List Piece) (p : ℕ × Value)
@@ -117,16 +117,13 @@ pairs_are ps rest v items s h = subst (λ xs. SpellsPairs xs ps) (sym h.1) (rest
 day_below : (d : ℕ) (ps rest : List Piece) → SpellsDay d ps rest → d < DAYS
 day_below d ps rest h = (only_texts_are_read h.0 d h.2).0
 
-lt_test : (m n : ℕ) → m < n → nat_lt m n ≡ true
-lt_test m n h = grind (arith, h)
-
 changes_rise : (d : ℕ) (cs : List (ℕ × Value)) (ps : List Piece) → SpellsChanges d cs ps → rises_from d cs ≡ true
 changes_rise d [] ps h = refl
-changes_rise d (p ∷ cs) ps h = ap (λ b. cond b (rises_from p.0 cs) false) (lt_test d p.0 h.1.1) ∙ changes_rise p.0 cs h.0 h.2
+changes_rise d (p ∷ cs) ps h = ap (λ b. cond b (rises_from p.0 cs) false) (lt-ltb d p.0 h.1.1) ∙ changes_rise p.0 cs h.0 h.2
 
 changes_below : (d : ℕ) (cs : List (ℕ × Value)) (ps : List Piece) → SpellsChanges d cs ps → all_below DAYS cs ≡ true
 changes_below d [] ps h = refl
-changes_below d (p ∷ cs) ps h = ap (λ b. cond b (all_below DAYS cs) false) (lt_test p.0 DAYS (day_below p.0 h.1.0.0 h.1.0.1 h.1.0.3)) ∙ changes_below p.0 cs h.0 h.2
+changes_below d (p ∷ cs) ps h = ap (λ b. cond b (all_below DAYS cs) false) (lt-ltb p.0 DAYS (day_below p.0 h.1.0.0 h.1.0.1 h.1.0.3)) ∙ changes_below p.0 cs h.0 h.2
 
 pub pairs_faultless : (pairs : List (ℕ × Value)) (ps : List Piece) → SpellsPairs pairs ps → fault_of pairs ≡ None
 pairs_faultless [] ps h = absurd h

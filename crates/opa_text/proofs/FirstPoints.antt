@@ -1,6 +1,7 @@
 -- The point at the front of tokens ends where its phrase, or the text behind it, ends.
 use Rattle.std.proofs.Common.{◌≡◌, ◌≤◌, ◌+◌, ℕ, List, [], ◌∷◌, ◌++◌, length, Bool, true, false, cond, refl, sym, ap, subst, ◌∙◌, arith, append_assoc, append-nil, length-append}
 use Rattle.std.specs.Prelude.{Option, Some, None, MatchOption, ◌&&◌}
+use Rattle.std.proofs.lemmas.Bool.{and_parts}
 use Rattle.opa_words.specs.declared.kinds.TokenKind.{TokenKind}
 use Rattle.opa_words.specs.declared.kinds.TokenKind.TheVariants as kind
 use Rattle.opa_words.specs.Reserved.{is_word_kind, is_phrase_kind}
@@ -8,7 +9,7 @@ use Rattle.opa_words.specs.Pieces.{Piece}
 use Rattle.opa_words.proofs.PieceLists.{same_cut}
 use Rattle.opa_text.specs.declared.pointed.Point.{Point}
 use Rattle.opa_text.specs.Pointed.{is_run, are_words, name_part, SpellsPoint, SpellsFirst, EndsBefore, ends_plain, ends_phrase, with_text, point_end}
-use Rattle.opa_text.proofs.PointLaws.{both, word_is_phrase, one_point}
+use Rattle.opa_text.proofs.PointLaws.{word_is_phrase, one_point}
 
 few : (k : TokenKind) → with_text k ≤ 1
 few kind.Word = omega arith
@@ -29,13 +30,13 @@ end_within (p ∷ ps) = go (is_phrase_kind p.kind) (end_within ps)
 words_end : (ws ps : List Piece) → are_words ws ≡ true → point_end (ws ++ ps) ≡ length ws + point_end ps
 words_end [] ps h = omega arith
 words_end (w ∷ ws) ps h =
-    let b = both (is_phrase_kind w.kind) (are_words ws) h in
+    let b = and_parts (is_phrase_kind w.kind) (are_words ws) h in
     ap (λ t. cond t (point_end (ws ++ ps) + 1) (with_text w.kind)) b.0 ∙ omega (arith, words_end ws ps b.1)
 
 run_words : (ws : List Piece) → is_run ws ≡ true → are_words ws ≡ true
 run_words [] h = absurd (cc h)
 run_words (w ∷ ws) h =
-    let b = both (is_word_kind w.kind) (are_words ws) h in
+    let b = and_parts (is_word_kind w.kind) (are_words ws) h in
     ap (λ t. t && are_words ws) (word_is_phrase w.kind b.0) ∙ b.1
 
 stops : (k : TokenKind) (n : ℕ) → ends_phrase k ≡ true → cond (is_phrase_kind k) (n + 1) (with_text k) ≡ 0

@@ -10,3 +10,4 @@ pub mod PointLaws
 pub mod FirstPoints
 pub mod WrittenPoints
 pub mod OwnPhrases
+pub mod ValueDays

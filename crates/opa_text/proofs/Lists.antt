@@ -1,14 +1,11 @@
 -- What holds of each item of a list.
-use Rattle.std.proofs.Common.{◌≡◌, ◌<◌, ◌≤◌, ℕ, List, [], ◌∷◌, Bool, true, false, cond, refl, ap, subst, ◌∙◌, arith}
-use Rattle.std.specs.Prelude.{All, Some, slice_get, nat_le}
+use Rattle.std.proofs.Common.{◌≡◌, ◌<◌, ◌≤◌, ℕ, List, [], ◌∷◌, Bool, true, false, cond, refl, ap, subst, ◌∙◌, arith, le-leb}
+use Rattle.std.specs.Prelude.{All, Some, nat_le}
 use Rattle.std.specs.List.{AllByRecursion}
 use Rattle.opa_date.specs.declared.TheConstants.{DAYS}
 use Rattle.opa_line.specs.Lines.{IsLine, Follows, at, value_from}
-use Rattle.std.proofs.lemmas.Option.{slice_get_within, get_or_from_slice_get}
-use Rattle.std.proofs.lemmas.List.Elements.{All-get_or, All-from_recursion, recursion_from_All}
-
-pub each : {X : Type 0} (P : X → Type 0) (xs : List X) (n : ℕ) (x : X) → slice_get xs n ≡ Some x → All P xs → P x
-each P xs n x at all = subst P (get_or_from_slice_get xs n x x at) (All-get_or P xs n x (slice_get_within xs n x at) all)
+use Rattle.std.proofs.lemmas.List.Elements.{All-from_recursion, recursion_from_All}
+use Rattle.std.proofs.lemmas.Bool.{lt-leb}
 
 -- of the first, and of the others
 pub first_all : {X : Type 0} (P : X → Type 0) (xs : List X) (x : X) (later : List X) → xs ≡ x ∷ later → All P xs → P x
@@ -28,19 +25,13 @@ days_below {X} l p later e h = let is = subst (IsLine DAYS) e h in All-from_recu
 
 -- ---- the values of a line
 
-is_le : (m n : ℕ) → m ≤ n → nat_le m n ≡ true
-is_le m n h = grind (arith, h)
-
-not_le : (m n : ℕ) → n < m → nat_le m n ≡ false
-not_le m n h = grind (arith, h)
-
 -- before the first change the value stays
 stays : {X : Type 0} (end d : ℕ) (v : X) (l : List (ℕ × X)) (x : ℕ) → Follows end d v l → x ≤ d → value_from v l x ≡ v
 stays end d v [] x f h = refl
-stays end d v (p ∷ l) x f h = ap (λ b. cond b (value_from p.1 l x) v) (not_le p.0 x (omega (arith, f.0, h)))
+stays end d v (p ∷ l) x f h = ap (λ b. cond b (value_from p.1 l x) v) (lt-leb p.0 x (omega (arith, f.0, h)))
 
 later : {X : Type 0} (v : X) (p : ℕ × X) (l : List (ℕ × X)) (x : ℕ) → p.0 ≤ x → value_from v (p ∷ l) x ≡ value_from p.1 l x
-later v p l x h = ap (λ b. cond b (value_from p.1 l x) v) (is_le p.0 x h)
+later v p l x h = ap (λ b. cond b (value_from p.1 l x) v) (le-leb p.0 x h)
 
 follows_all : {X : Type 0} (P : X → Type 0) (d : ℕ) (v : X) (l : List (ℕ × X)) → Follows DAYS d v l → ((x : ℕ) → d < x → x < DAYS → P (value_from v l x)) → AllByRecursion (λ (p : ℕ × X). P p.1) l
 follows_all P d v [] f h = tt

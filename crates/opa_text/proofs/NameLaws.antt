@@ -8,9 +8,10 @@ use Rattle.opa_words.specs.Pieces.{Piece, is_nothing, word, text}
 use Rattle.opa_text.specs.Spelled.{SpellsNext, SpellsMore, SpellsNames}
 use Rattle.opa_text.specs.Readers.{is_only, is_end, past_word}
 use Rattle.opa_text.proofs.Readings.{one_next, word_here}
+use Rattle.opa_text.proofs.ChangeLaws.{nothing_shorter}
 
-next_shorter : (n : List ℕ) (ps rest : List Piece) → SpellsNext n ps rest → length rest < length ps
-next_shorter n ps rest e = omega (arith, ap length e)
+pub next_is_shorter : (n : List ℕ) (ps rest : List Piece) → SpellsNext n ps rest → length rest < length ps
+next_is_shorter n ps rest e = omega (arith, ap length e)
 
 -- the names so far, and the tokens that are left
 pub record Named (first : List ℕ) (start : List Piece) (names : List (List ℕ)) (rest : List Piece) : Type 0 where
@@ -22,9 +23,6 @@ pub record Named (first : List ℕ) (start : List Piece) (names : List (List ℕ
 pub named_start : (first : List ℕ) (start : List Piece) (names : List (List ℕ)) → names ≡ first ∷ [] → Named first start names start
 named_start first start names e = record { done = []; items = e; goes = λ more h. h; comes = λ all h. (all, refl, h) }
 
-nothing_shorter : (rest after : List Piece) → length after < length rest → rest ≡ [] → ⊥
-nothing_shorter rest after h e = omega (arith, h, ap length e)
-
 pub named_more : (first : List ℕ) (start : List Piece) (names now : List (List ℕ)) (rest after : List Piece) (n : List ℕ)
     → Named first start names rest → SpellsNext n rest after → now ≡ names ++ n ∷ [] → Named first start now after
 named_more first start names now rest after n r l e = record {
@@ -35,7 +33,7 @@ named_more first start names now rest after n r l e = record {
 }
   where
     next : (more all : List (List ℕ)) → all ≡ r.done ++ more → SpellsMore more rest → (later : List (List ℕ)) × (all ≡ (r.done ++ n ∷ []) ++ later) × SpellsMore later after
-    next [] all f h = absurd (nothing_shorter rest after (next_shorter n rest after l) h)
+    next [] all f h = absurd (nothing_shorter rest after (next_is_shorter n rest after l) h)
     next (q ∷ qs) all f h =
         let same = one_next rest q n h.0 after h.1 l in
         (qs, f ∙ ap (λ x. r.done ++ x ∷ qs) same.0 ∙ sym (append_assoc r.done (n ∷ []) qs), subst (SpellsMore qs) same.1 h.2)
@@ -52,18 +50,11 @@ pub named_end : (first : List ℕ) (start : List Piece) (names : List (List ℕ)
     → Named first start names rest → rest ≡ [] → (ns : List (List ℕ)) × (names ≡ first ∷ ns) × SpellsMore ns start
 named_end first start names rest r e = (r.done, r.items, subst (λ xs. SpellsMore xs start) (append-nil r.done) (r.goes [] e))
 
-pub next_is_shorter : (n : List ℕ) (ps rest : List Piece) → SpellsNext n ps rest → length rest < length ps
-next_is_shorter = next_shorter
-
 -- ---- all names
 
 pub empty_is : (ps : List Piece) → is_nothing ps ≡ true → ps ≡ []
 empty_is [] h = refl
 empty_is (p ∷ ps) h = absurd (cc h)
-
-pub empty_not : (ps : List Piece) → is_nothing ps ≡ false → ps ≡ [] → ⊥
-empty_not [] h e = absurd (cc h)
-empty_not (p ∷ ps) h e = absurd (cc e)
 
 pub only_none : (ps : List Piece) → is_only (codes "none") ps ≡ true → SpellsNames [] ps
 only_none ps h = go (past_word (codes "none") ps) refl h
@@ -88,8 +79,8 @@ names_are ps rest n v e h = subst (λ xs. SpellsNames xs ps) (sym h.1) (rest, e,
 
 more_one : (ns ms : List (List ℕ)) (ps : List Piece) → SpellsMore ns ps → SpellsMore ms ps → ns ≡ ms
 more_one [] [] ps h k = refl
-more_one [] (m ∷ ms) ps h k = absurd (nothing_shorter ps k.0 (next_shorter m ps k.0 k.1) h)
-more_one (n ∷ ns) [] ps h k = absurd (nothing_shorter ps h.0 (next_shorter n ps h.0 h.1) k)
+more_one [] (m ∷ ms) ps h k = absurd (nothing_shorter ps k.0 (next_is_shorter m ps k.0 k.1) h)
+more_one (n ∷ ns) [] ps h k = absurd (nothing_shorter ps h.0 (next_is_shorter n ps h.0 h.1) k)
 more_one (n ∷ ns) (m ∷ ms) ps h k =
     let same = one_next ps n m h.0 k.0 h.1 k.1 in
     ap (λ x. x ∷ ns) same.0 ∙ ap (λ xs. m ∷ xs) (more_one ns ms k.0 (subst (SpellsMore ns) same.1 h.2) k.2)

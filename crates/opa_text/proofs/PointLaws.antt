@@ -1,6 +1,6 @@
 -- Tokens spell at most one point.
-use Rattle.std.proofs.Common.{◌≡◌, ◌≤◌, ◌-◌, ℕ, List, [], ◌∷◌, ◌++◌, length, true, false, refl, sym, ap, subst, ◌∙◌, arith, append_assoc, append-nil, length-append, inl, inr}
-use Rattle.std.specs.Prelude.{◌⊎◌, Option, Some, None, MatchOption, Bool, codes, ◌&&◌}
+use Rattle.std.proofs.Common.{◌≡◌, ◌≤◌, ◌-◌, ℕ, List, [], ◌∷◌, ◌++◌, length, true, false, refl, sym, ap, subst, ◌∙◌, arith, append_assoc, append-nil, length-append, inl, inr, true≢false}
+use Rattle.std.specs.Prelude.{◌⊎◌, Option, Some, None, MatchOption, codes}
 use Rattle.opa_words.specs.declared.kinds.TokenKind.{TokenKind}
 use Rattle.opa_words.specs.declared.kinds.TokenKind.TheVariants as kind
 use Rattle.opa_words.specs.Kinds.{quoted}
@@ -12,20 +12,14 @@ use Rattle.opa_text.specs.declared.pointed.Point.{Point}
 use Rattle.opa_text.specs.Readers.{is_word}
 use Rattle.opa_text.specs.Pointed.{is_run, are_words, name_part, SpellsPoint, SpellsDated, EndsWith, IsPlain, IsNamed}
 use Rattle.std.proofs.lemmas.Slice.Eq.{bytes_eq-Decides}
-use Rattle.opa_model.proofs.PhrasesLaws.{own_text}
+use Rattle.std.proofs.lemmas.Bool.{and_parts}
+use Rattle.opa_io.proofs.Characters.{own_bytes}
 
 -- ---- what points are made of
 
-is_true : true ≡ false → ⊥
-is_true e = absurd (cc e)
-
-pub both : (a b : Bool) → (a && b) ≡ true → (a ≡ true) × (b ≡ true)
-both true b h = (refl, h)
-both false b h = absurd (cc h)
-
 are_words_last : (ps : List Piece) (p : Piece) → are_words (ps ++ p ∷ []) ≡ true → is_phrase_kind p.kind ≡ true
-are_words_last [] p h = (both (is_phrase_kind p.kind) true h).0
-are_words_last (q ∷ ps) p h = are_words_last ps p (both (is_phrase_kind q.kind) (are_words (ps ++ p ∷ [])) h).1
+are_words_last [] p h = (and_parts (is_phrase_kind p.kind) true h).0
+are_words_last (q ∷ ps) p h = are_words_last ps p (and_parts (is_phrase_kind q.kind) (are_words (ps ++ p ∷ [])) h).1
 
 pub word_is_phrase : (k : TokenKind) → is_word_kind k ≡ true → is_phrase_kind k ≡ true
 word_is_phrase kind.Word h = refl
@@ -35,14 +29,14 @@ word_is_phrase kind.Text h = absurd (cc h)
 word_is_phrase kind.Symbol h = absurd (cc h)
 
 run_last : (ps : List Piece) (p : Piece) → is_run (ps ++ p ∷ []) ≡ true → is_phrase_kind p.kind ≡ true
-run_last [] p h = word_is_phrase p.kind (both (is_word_kind p.kind) true h).0
-run_last (q ∷ ps) p h = are_words_last ps p (both (is_word_kind q.kind) (are_words (ps ++ p ∷ [])) h).1
+run_last [] p h = word_is_phrase p.kind (and_parts (is_word_kind p.kind) true h).0
+run_last (q ∷ ps) p h = are_words_last ps p (and_parts (is_word_kind q.kind) (are_words (ps ++ p ∷ [])) h).1
 
 -- a run ends with no text
 pub run_ends : (ws front : List Piece) (q : Piece) (t : List ℕ) → is_run ws ≡ true → ws ≡ front ++ q ∷ text t ∷ [] → ⊥
 run_ends ws front q t h e =
     let f : ws ≡ (front ++ q ∷ []) ++ text t ∷ [] = e ∙ sym (append_assoc front (q ∷ []) (text t ∷ [])) in
-    is_true (sym (run_last (front ++ q ∷ []) (text t) (subst (λ xs. is_run xs ≡ true) f h)))
+    true≢false (sym (run_last (front ++ q ∷ []) (text t) (subst (λ xs. is_run xs ≡ true) f h)))
 
 same_two : (xs ys : List Piece) (a b c d : Piece) → xs ++ a ∷ b ∷ [] ≡ ys ++ c ∷ d ∷ [] → (xs ≡ ys) × (b ≡ d)
 same_two xs ys a b c d e =
@@ -93,7 +87,7 @@ pub no_plain : (ps : List Piece) → ((front : List Piece) (t : List ℕ) → En
 no_plain ps n r p h = go p.name refl
   where
     go : (x : Option (List ℕ)) → p.name ≡ x → ⊥
-    go None e = is_true (sym h.1 ∙ ap is_run (sym (h.3 ∙ ap (λ y. h.0 ++ name_part y) e ∙ append-nil h.0)) ∙ r)
+    go None e = true≢false (sym h.1 ∙ ap is_run (sym (h.3 ∙ ap (λ y. h.0 ++ name_part y) e ∙ append-nil h.0)) ∙ r)
     go (Some t) e = n h.0 (quoted t) (h.3 ∙ ap (λ y. h.0 ++ name_part y) e)
 
 -- a point with a name
@@ -119,10 +113,10 @@ no_named t front ps e r p h = go p.name refl
         run_ends_at : (ws : List Piece) → ws ≡ front ++ word (codes "of") ∷ last ∷ [] → is_run ws ≡ true → ⊥
         run_ends_at ws a b =
             let g : ws ≡ (front ++ word (codes "of") ∷ []) ++ last ∷ [] = a ∙ sym (append_assoc front (word (codes "of") ∷ []) (last ∷ [])) in
-            is_true (sym (run_last (front ++ word (codes "of") ∷ []) last (subst (λ xs. is_run xs ≡ true) g b)))
+            true≢false (sym (run_last (front ++ word (codes "of") ∷ []) last (subst (λ xs. is_run xs ≡ true) g b)))
     go (Some n) f =
         let s = same_two h.0 front (word (codes "of")) (text n) (word (codes "of")) last (sym (h.3 ∙ ap (λ y. h.0 ++ name_part y) f) ∙ e) in
-        is_true (sym h.1 ∙ ap is_run s.0 ∙ r)
+        true≢false (sym h.1 ∙ ap is_run s.0 ∙ r)
 
 -- with a name
 pub named_or : (r : Option Point) (t : List ℕ) (front ps : List Piece) → EndsWith (codes "of") kind.Text t front ps
@@ -143,7 +137,7 @@ this_word w kind.Text t h = absurd (cc h)
 this_word w kind.Symbol t h = absurd (cc h)
 
 own_word : (w : List ℕ) → is_word w kind.Word w ≡ true
-own_word w = own_text w
+own_word w = own_bytes w
 
 nothing : (ps : List Piece) → length ps ≡ 0 → ps ≡ []
 nothing [] n = refl
@@ -166,7 +160,7 @@ ends_not w t u k l front back ps rest left e f g n h other m v x =
     let parts : ps ≡ front ++ made k t ∷ made l u ∷ [] = e ∙ ap (λ y. front ++ y) (f ∙ ap (λ y. made k t ∷ y) (g ∙ ap (λ y. made l u ∷ y) (nothing left n))) in
     let r = same_ends front other (made k t ∷ made l u ∷ []) (word w ∷ made m v ∷ []) refl (sym parts ∙ x) in
     let s : made k t ≡ word w = cc r.1 in
-    is_true (sym (own_word w) ∙ ap (λ (p : Piece). is_word w p.kind p.text) (sym s) ∙ h)
+    true≢false (sym (own_word w) ∙ ap (λ (p : Piece). is_word w p.kind p.text) (sym s) ∙ h)
 
 -- a last token of another kind
 pub ends_otherwise : (w u : List ℕ) (l k : TokenKind) (front ps : List Piece) → EndsWith w l u front ps → (l ≡ k → ⊥) → (other : List Piece) (v : List ℕ) → EndsWith w k v other ps → ⊥

@@ -1,8 +1,9 @@
 -- The smallest model with a number and a list.
-use Rattle.std.proofs.Common.{◌≡◌, ◌≢◌, ◌↔◌, IsTrue, ℕ, zero, suc, ◌<◌, List, [], ◌∷◌, Option, Some, All, AllPairs, IfSome, IsSome, slice_get, sym, ap, ◌∙◌, subst, arith}
+use Rattle.std.proofs.Common.{◌≡◌, ◌≢◌, ◌↔◌, IsTrue, ℕ, zero, suc, ◌<◌, List, [], ◌∷◌, Option, Some, All, IfSome, IsSome, slice_get, sym, ap, ◌∙◌, subst, arith}
 use Rattle.std.specs.Prelude.{is_some}
-use Rattle.std.proofs.lemmas.List.Elements.{All-nil, All-cons}
+use Rattle.std.proofs.lemmas.List.Elements.{All-nil}
 use Rattle.std.proofs.lemmas.List.Kept.{AllPairs-cons}
+use Rattle.opa_io.proofs.Lists.{no_pairs, All_one}
 use Rattle.opa_model.specs.declared.ids.AttrId.{AttrId}
 use Rattle.opa_model.specs.declared.things.Attribute.{Attribute}
 use Rattle.opa_model.specs.declared.things.Entity.{Entity}
@@ -15,12 +16,6 @@ use Rattle.opa_model.specs.declared.lists.Lists.{Lists}
 use Rattle.opa_model.specs.Lookups.{attribute_at}
 use Rattle.opa_model.specs.Models.{HasEntity, HasAttribute, HasVerb, HasItem, HasDecimals, IsModel, IsContained, IsContainment, IsOverAll}
 use Rattle.opa_text.specs.Samples.{IsGlobalNumber, IsGlobalList}
-
-one : {X : Type 0} (P : X → Type 0) (x : X) → P x → All P (x ∷ [])
-one P x p = All-cons P x [] p (All-nil P)
-
-no_pairs : {X : Type 0} (R : X → X → Type 0) → AllPairs R []
-no_pairs R i j d lt within = absurd (omega arith)
 
 module _ (e : Entity) (a : Attribute) (r : Relation) where
   abbrev pub listing : Lists
@@ -51,22 +46,22 @@ module _ (e : Entity) (a : Attribute) (r : Relation) where
     has_global = omega arith;
     few = record { entities = omega arith; attributes = omega arith; relations = omega arith; verbs = omega arith; screens = omega arith; goals = omega arith };
     in_range = record {
-      parents = one (λ (x : Entity). HasEntity listing x.parent) e (omega (arith, root));
-      owners = one (λ (x : Attribute). HasEntity listing x.entity) a (omega (arith, is_a.of_global));
-      verbs = one (λ (x : Attribute). IfSome x.sentence (HasVerb listing)) a (no_sentence is_a);
-      sources = one (λ (x : Relation). HasEntity listing x.source) r (omega (arith, is_r.from_global));
-      targets = one (λ (x : Relation). HasEntity listing x.target) r (omega (arith, is_r.to_global));
+      parents = All_one (λ (x : Entity). HasEntity listing x.parent) e (omega (arith, root));
+      owners = All_one (λ (x : Attribute). HasEntity listing x.entity) a (omega (arith, is_a.of_global));
+      verbs = All_one (λ (x : Attribute). IfSome x.sentence (HasVerb listing)) a (no_sentence is_a);
+      sources = All_one (λ (x : Relation). HasEntity listing x.source) r (omega (arith, is_r.from_global));
+      targets = All_one (λ (x : Relation). HasEntity listing x.target) r (omega (arith, is_r.to_global));
       items = All-nil (λ (s : Screen). All (HasItem listing) s.items);
       goals = All-nil (HasAttribute listing);
     };
     goals_are_global = All-nil (λ (id : AttrId). IfSome (attribute_at listing id) (λ x. x.entity.0 ≡ 0));
-    phrases_differ = AllPairs-cons (λ p q. p ≢ q) a.phrase (r.phrase ∷ []) (one (λ p. a.phrase ≢ p) r.phrase apart) (AllPairs-cons (λ p q. p ≢ q) r.phrase [] (All-nil (λ p. r.phrase ≢ p)) (no_pairs (λ p q. p ≢ q)));
-    decimals = one HasDecimals a (decimals_of is_a);
-    bools_have_sentences = one (λ (x : Attribute). IsSome x.sentence ↔ (x.kind ≡ kind.Bool)) a (is_saying is_a);
+    phrases_differ = AllPairs-cons (λ p q. p ≢ q) a.phrase (r.phrase ∷ []) (All_one (λ p. a.phrase ≢ p) r.phrase apart) (AllPairs-cons (λ p q. p ≢ q) r.phrase [] (All-nil (λ p. r.phrase ≢ p)) (no_pairs (λ p q. p ≢ q)));
+    decimals = All_one HasDecimals a (decimals_of is_a);
+    bools_have_sentences = All_one (λ (x : Attribute). IsSome x.sentence ↔ (x.kind ≡ kind.Bool)) a (is_saying is_a);
     items_differ = no_pairs (λ i j. i ≢ j);
     contained = no_more;
     containments = one_list is_r;
-    over_all = one (λ (x : Relation). IsTrue x.every → IsOverAll x) r (λ h. absurd (cc (sym is_r.not_every ∙ h)));
+    over_all = All_one (λ (x : Relation). IsTrue x.every → IsOverAll x) r (λ h. absurd (cc (sym is_r.not_every ∙ h)));
   }
 
   pub listing_at : (es : List Entity) (xs : List Attribute) (rs : List Relation) (vs : List Verb) (ss : List Screen) (gs : List AttrId)

@@ -7,7 +7,9 @@ use Rattle.std.specs.Str.{chars}
 use Rattle.std.specs.Int.RustNames.{unsigned_abs}
 use Rattle.std.specs.Char.{is_ascii_digit}
 use Rattle.std.proofs.lemmas.Fmt.{decimal_nonempty, digits_decimal}
+use Rattle.std.proofs.lemmas.Bool.{and_from}
 use Rattle.ucd_derived.proofs.Computing.{ucd_derived}
+use Rattle.opa_io.proofs.Bools.{and_first, or_more}
 use Rattle.opa_value.specs.declared.value.Value.{Value}
 use Rattle.opa_value.specs.declared.value.Value.TheVariants as value
 use Rattle.opa_value.specs.Numbers.{InRange}
@@ -21,13 +23,13 @@ use Rattle.opa_date.specs.declared.fault.DayFault.TheVariants.{Form}
 use Rattle.opa_date.proofs.ReadTexts.{texts_are_read}
 use Rattle.opa_words.specs.declared.kinds.TokenKind.TheVariants as kind
 use Rattle.opa_words.specs.Kinds.{IsToken, IsNumber, is_date, is_word}
-use Rattle.opa_words.proofs.Letters.{left, both, date_parts}
 use Rattle.opa_model.specs.declared.things.Kind.{Kind}
 use Rattle.opa_model.specs.declared.things.Kind.TheVariants as kinds
 use Rattle.opa_words.specs.Pieces.{Piece, IsPiece, word, number, date, symbol, text}
 use Rattle.opa_words.specs.Written.{Written, AreWritten, text_of, pieces_of, gap, joined, ends_before, begins_apart, stands_alone}
 use Rattle.opa_words.proofs.Ascii.{is_ascii, ascii_chars}
 use Rattle.opa_words.proofs.LawsHold.{ascii_is_token_holds, quoted_is_token_holds}
+use Rattle.opa_words.proofs.Letters.{date_parts}
 use Rattle.opa_words.proofs.Separate.{all_wider, numeric, dated, number_numeric, date_dated}
 use Rattle.opa_text.specs.Texts.{value_text, number_text, bool_text}
 use Rattle.opa_text.specs.Spelled.{SpellsNumber, SpellsValue}
@@ -43,22 +45,22 @@ abbrev pub shown : Kind → ℕ → ℕ
 shown kinds.Currency size = 2
 shown k size = decimals_needed size
 
-numeric_ascii : (c : ℕ) → numeric c ≡ true → is_ascii c ≡ true
+pub numeric_ascii : (c : ℕ) → numeric c ≡ true → is_ascii c ≡ true
 numeric_ascii c h = grind (arith, h)
 
 dated_ascii : (c : ℕ) → dated c ≡ true → is_ascii c ≡ true
 dated_ascii c h = grind (arith, h)
 
-behind_digits : (ds : List ℕ) (whole : List ℕ) → all_digits whole ≡ true → 0 < length whole → all_digits ds ≡ true → length ds ≤ 4 → IsNumber (whole ++ behind_text ds)
+pub behind_digits : (ds : List ℕ) (whole : List ℕ) → all_digits whole ≡ true → 0 < length whole → all_digits ds ≡ true → length ds ≤ 4 → IsNumber (whole ++ behind_text ds)
 behind_digits [] whole w n h m = subst IsNumber (sym (append-nil whole)) (inl (w, n))
 behind_digits (d ∷ ds) whole w n h m = inr (whole, d ∷ ds, (w, n), (h, omega arith), m, refl)
 
-sign_first : (b : Bool) (whole rest : List ℕ) (t : List ℕ) → all_digits t ≡ true → 0 < length t → (more : List ℕ) → t ++ more ≡ sign_text b ++ (whole ++ rest) → b ≡ false
+pub sign_first : (b : Bool) (whole rest : List ℕ) (t : List ℕ) → all_digits t ≡ true → 0 < length t → (more : List ℕ) → t ++ more ≡ sign_text b ++ (whole ++ rest) → b ≡ false
 sign_first false whole rest t h n more e = refl
 sign_first true whole rest [] h n more e = absurd (omega (arith, n))
 sign_first true whole rest (c ∷ t) h n more e =
     let f : c ≡ 45 = cc e in
-    absurd (let g : is_ascii_digit 45 ≡ true = subst (λ x. is_ascii_digit x ≡ true) f (left (is_ascii_digit c) (all_digits t) h) in cc g)
+    absurd (let g : is_ascii_digit 45 ≡ true = subst (λ x. is_ascii_digit x ≡ true) f (and_first (is_ascii_digit c) (all_digits t) h) in cc g)
 
 digits_number : (k size : ℕ) → k ≤ 4 → size % 10 ^ (4 - k) ≡ 0 → InRange (pos size) → IsNumber (digits_text k size)
 unfolding digits_text text_with
@@ -100,18 +102,18 @@ digits_piece k size h r =
 
 -- ---- days
 
-form_date : (a b c d f g i j : ℕ) → is_day_form (a ∷ b ∷ c ∷ d ∷ 45 ∷ f ∷ g ∷ 45 ∷ i ∷ j ∷ []) ≡ true → is_date (a ∷ b ∷ c ∷ d ∷ 45 ∷ f ∷ g ∷ 45 ∷ i ∷ j ∷ []) ≡ true
+pub form_date : (a b c d f g i j : ℕ) → is_day_form (a ∷ b ∷ c ∷ d ∷ 45 ∷ f ∷ g ∷ 45 ∷ i ∷ j ∷ []) ≡ true → is_date (a ∷ b ∷ c ∷ d ∷ 45 ∷ f ∷ g ∷ 45 ∷ i ∷ j ∷ []) ≡ true
 form_date a b c d f g i j h = grind (arith, h)
 
-day_form : (t : List ℕ) (d : ℕ) → read_day t ≡ Ok d → is_day_form t ≡ true
+pub day_form : (t : List ℕ) (d : ℕ) → read_day t ≡ Ok d → is_day_form t ≡ true
 day_form t d e = go (is_day_form t) refl
   where
     go : (b : Bool) → is_day_form t ≡ b → is_day_form t ≡ true
     go true h = h
     go false h = absurd (let f = sym (ap (λ b. if not b then Err Form else day_of_named (named_date t)) h) ∙ e in cc f)
 
-day_piece : (d : ℕ) → d < DAYS → IsPiece (date (day_text d))
-day_piece d h =
+pub date_piece : (d : ℕ) → d < DAYS → IsPiece (date (day_text d))
+date_piece d h =
     let y = unsigned_abs (date_of d).year in
     let m = (date_of d).month in
     let n = (date_of d).day in
@@ -120,7 +122,7 @@ day_piece d h =
 
 -- ---- words
 
-named_piece : (w : List ℕ) → list_all is_ascii w ≡ true → is_word w ≡ true → IsPiece (word w)
+pub named_piece : (w : List ℕ) → list_all is_ascii w ≡ true → is_word w ≡ true → IsPiece (word w)
 named_piece w h t = ascii_is_token_holds kind.Word w h t
 
 unknown_word : is_word (codes "unknown") ≡ true
@@ -155,7 +157,7 @@ pub none_piece : IsPiece (word (codes "none"))
 none_piece = named_piece (codes "none") refl none_word
 
 signed_piece : (c : ℕ) → is_ascii c ≡ true → IsToken kind.Symbol (c ∷ []) → IsPiece (symbol (c ∷ []))
-signed_piece c h t = ascii_is_token_holds kind.Symbol (c ∷ []) (both (is_ascii c) true h refl) t
+signed_piece c h t = ascii_is_token_holds kind.Symbol (c ∷ []) (and_from (is_ascii c) true h refl) t
 
 pub semicolon_piece : IsPiece (symbol (codes ";"))
 semicolon_piece = signed_piece 59 refl refl
@@ -184,11 +186,6 @@ written s k (value.Day d) rest = record { spaced = s; piece = date (day_text d) 
 abbrev pub Apart : List Written → Type 0
 Apart [] = Unit {0}
 Apart (w ∷ ws) = (w.spaced || begins_apart (chars w.piece.text)) ≡ true
-
-or_more : (a b c : Bool) → (a || b) ≡ true → (a || (b || c)) ≡ true
-or_more true b c h = refl
-or_more false true c h = refl
-or_more false false c h = absurd (cc h)
 
 pub apart_ends : (p : Piece) (ws : List Written) → Apart ws → ends_before p ws ≡ true
 apart_ends p [] h = refl
@@ -219,7 +216,7 @@ value_written s k (value.Bool b) rest c a h = one_written s (word (bool_text b))
 value_written s k (value.Num n) rest c a h =
     number_written s (is_negative n) (digits_text (shown k (unsigned_abs n)) (unsigned_abs n)) rest (digits_piece k (unsigned_abs n) c.1 (positive_range n c.0)) a h
 value_written s k (value.Words t) rest c a h = one_written s (text t) rest (quoted_is_token_holds t c.utf8 c.plain) a h
-value_written s k (value.Day d) rest c a h = one_written s (date (day_text d)) rest (day_piece d c) a h
+value_written s k (value.Day d) rest c a h = one_written s (date (day_text d)) rest (date_piece d c) a h
 
 number_says : (s b : Bool) (t : List ℕ) (rest : List Written) → text_of (number_tokens s b t rest) ≡ gap s ++ ((sign_text b ++ t) ++ text_of rest)
 unfolding number_tokens
@@ -256,9 +253,6 @@ value_spells s k (value.Num n) rest c =
     number_spells s (is_negative n) (digits_text (shown k (unsigned_abs n)) (unsigned_abs n)) n rest refl (digits_back k (unsigned_abs n) c.1 (positive_range n c.0))
 value_spells s k (value.Words t) rest c = refl
 value_spells s k (value.Day d) rest c = (day_text d, refl, texts_are_read d c)
-
-pub date_piece : (d : ℕ) → d < DAYS → IsPiece (date (day_text d))
-date_piece = day_piece
 
 number_ends : (p : Piece) (b : Bool) (t : List ℕ) (rest : List Written) → ends_before p (number_tokens true b t rest) ≡ true
 unfolding number_tokens

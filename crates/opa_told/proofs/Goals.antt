@@ -1,9 +1,9 @@
 -- Goals, and lines of what is held.
-use Rattle.std.proofs.Common.{◌≡◌, ℕ, suc, ◌+◌, ◌<◌, true, false, ◌&&◌, ◌||◌, List, ◌∷◌, ◌++◌, length, drop, get_or, Option, Some, All, is_some, sym, ◌∙◌, ap, subst, append_assoc, add-one, drop-cons}
+use Rattle.std.proofs.Common.{◌≡◌, ℕ, suc, ◌+◌, ◌<◌, true, false, ◌&&◌, ◌||◌, List, ◌∷◌, ◌++◌, length, drop, get_or, Some, is_some, sym, ◌∙◌, ap, append_assoc, add-one, drop-cons}
 use Rattle.std.specs.Prelude.{flat_map, slice_get}
 use Rattle.std.specs.FinMap.{get}
-use Rattle.std.proofs.lemmas.List.Elements.{All-get_or}
 use Rattle.std.proofs.lemmas.Option.{slice_get-get_or, slice_get_within, get_or_from_slice_get}
+use Rattle.opa_io.proofs.Places.{All_at}
 use Rattle.opa_date.specs.declared.TheConstants.{DAYS}
 use Rattle.opa_value.specs.declared.value.Value.{Value}
 use Rattle.opa_value.specs.declared.value.Value.TheVariants.{Unknown}
@@ -20,12 +20,8 @@ use Rattle.opa_mean.specs.Rulebases.{IsOf, value_at}
 use Rattle.opa_mean.specs.Slots.{has_place}
 use Rattle.opa_mean.proofs.Holdings.{unanswered}
 
--- what holds of each item
-pub of_each : {X : Type 0} (P : X → Type 0) (xs : List X) (n : ℕ) (x : X) → slice_get xs n ≡ Some x → All P xs → P x
-of_each P xs n x at all = subst P (get_or_from_slice_get xs n x x at) (All-get_or P xs n x (slice_get_within xs n x at) all)
-
 pub goal_declared : (m : Lists) → IsModel m → (n : ℕ) (a : AttrId) → slice_get m.goals n ≡ Some a → HasAttribute m a
-goal_declared m is n a at = of_each (HasAttribute m) m.goals n a at is.in_range.goals
+goal_declared m is n a at = All_at (HasAttribute m) m.goals n a at is.in_range.goals
 
 -- where there is neither a rule nor an answer, each value is unknown
 pub unheld : (r : Rulebase) (c : CaseView) → IsOf r c → (a : AttrId) (i : InstanceId) → has_place r c a i ≡ true → false ≡ has_line r c a i → (d : ℕ) → value_at r c a i d ≡ Unknown
@@ -59,7 +55,3 @@ module _ (f : AttrId → List ℕ) (goals : List AttrId) where
       let a : AttrId = get_or goals n (record { 0 = 0 }) in
       let at : slice_get goals n ≡ Some a = slice_get-get_or goals n (record { 0 = 0 }) lt in
       one_more n a out line new at (is a at) grown upto
-
--- one goal has a number
-pub same_goal : (a b : AttrId) (o : Option AttrId) → o ≡ Some a → o ≡ Some b → a ≡ b
-same_goal a b o e f = cc (e, f)

@@ -4,9 +4,9 @@ use Rattle.std.specs.Io.KnownBytes.{Appends, Consumes}
 use Rattle.opa_io.specs.Outside.{Files}
 use Rattle.opa_io.specs.declared.fault.Status.{Status}
 use Rattle.opa_io.specs.declared.fault.Status.TheVariants as status
+use Rattle.opa_io.proofs.Outsides.{read_whole}
 use Rattle.opa_model.specs.Models.{IsModel}
 use Rattle.opa_talk.specs.Lines.{input_lines}
-use Rattle.opa_talk.proofs.StatusLaws.{all_read}
 use Rattle.opa_tree.specs.declared.rulebase.Rulebase.{Rulebase}
 use Rattle.opa_reply.specs.Held.{Held}
 use Rattle.opa_rulebase.specs.Loading.{Opens}
@@ -46,7 +46,7 @@ module _ (way : Manner) (one_opening : OneOpening) (one_transcript : OneTranscri
 
   talk_only : (s : Status) (base : Rulebase) → IsModel base.model → IsOpened old.files name (Ok base) → Talks way base old new s → IsOnly way name old new s
   talk_only status.Done base m o (read, took, few, inl h) =
-      only_all base m read old.files refl old.left o took (λ bytes all. subst (λ t. SaysAll way base old new t) (all_read bytes read new.left all h.0) h.1)
+      only_all base m read old.files refl old.left o took (λ bytes all. subst (λ t. SaysAll way base old new t) (read_whole bytes read new.left all h.0) h.1)
   talk_only status.Done base m o (read, took, few, inr h) = only_all base m read old.files refl old.left o took (λ bytes all. all_over way name old new base bytes read new.left all h)
   talk_only status.Refused base m o t = absurd t
   talk_only status.Usage base m o t = tt

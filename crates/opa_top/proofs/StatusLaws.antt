@@ -5,9 +5,10 @@ use Rattle.std.proofs.lemmas.Option.{IfSome_then}
 use Rattle.opa_io.specs.Outside.{Files, AppendsFront}
 use Rattle.opa_io.specs.declared.fault.Status.{Status}
 use Rattle.opa_io.specs.declared.fault.Status.TheVariants as status
+use Rattle.opa_io.proofs.Outsides.{read_whole}
 use Rattle.opa_rulebase.specs.Loading.{Opens}
 use Rattle.opa_talk.specs.Talk.{MayLeave}
-use Rattle.opa_talk.proofs.StatusLaws.{all_read, calm_is_done, first_among, unread, whole_among}
+use Rattle.opa_talk.proofs.StatusLaws.{calm_is_done, first_among, unread, whole_among}
 use Rattle.opa_tree.specs.declared.rulebase.Rulebase.{Rulebase}
 use Rattle.opa_top.specs.Checking.{IsOpened, IsTold, verdict_status}
 use Rattle.opa_top.specs.Running.{MOST, Manner, beginning, counts, Outside, SaysAll, SaysOver, SaysFront, SaysWhole, Talks, IsUnused, Runs}
@@ -35,7 +36,7 @@ module _ (way : Manner) (name : List ℕ) (old new : Outside) where
       → IfSome o (λ files. IfSome l (λ bytes. (b : Rulebase) × Opens files name (Ok b) × SaysAll way b old new bytes))
   wrote_all base read None l opens took end says = tt
   wrote_all base read (Some files) None opens took end says = tt
-  wrote_all base read (Some files) (Some bytes) opens took end says = (base, opens, subst (λ t. SaysAll way base old new t) (all_read bytes read new.left took end) says)
+  wrote_all base read (Some files) (Some bytes) opens took end says = (base, opens, subst (λ t. SaysAll way base old new t) (read_whole bytes read new.left took end) says)
 
   -- bytes that begin with those after which no line is taken
   pub all_over : (base : Rulebase) (bytes read : List ℕ) (l' : Option (List ℕ)) → Consumes (Some bytes) l' read → SaysOver way base old new read → SaysAll way base old new bytes

@@ -4,7 +4,7 @@ use Rattle.opa_io.specs.Outside.{Files, IsFile, IsMissing, IsTooLong, Rose}
 use Rattle.opa_io.specs.declared.fault.Status.{Status}
 use Rattle.opa_io.specs.declared.fault.Status.TheVariants as status
 use Rattle.opa_io.proofs.Appended.{Appends-none}
-use Rattle.opa_talk.proofs.RoseLaws.{rose_later}
+use Rattle.opa_io.proofs.Outsides.{rose_before}
 use Rattle.opa_proof.specs.Telling.{Tells}
 use Rattle.opa_proof.specs.declared.verdict.Verdict.{Verdict}
 use Rattle.opa_tree.specs.declared.rulebase.Rulebase.{Rulebase}
@@ -40,5 +40,5 @@ pub judged_later : (r : Rulebase) (files : Option Files) (name : List ℕ) (w w'
     → JudgesFile r files name w w' takes takes' writes writes' s
 judged_later r files name w w' takes mid takes' writes writes' s less (JudgesFile.judges bytes said v is few tells told) = JudgesFile.judges bytes said v is few tells told
 judged_later r files name w w' takes mid takes' writes writes' s less (JudgesFile.missing none told) = JudgesFile.missing none told
-judged_later r files name w w' takes mid takes' writes writes' status.ReadFault less (JudgesFile.cannot_take rose none) = JudgesFile.cannot_take (rose_later takes mid takes' less rose) none
+judged_later r files name w w' takes mid takes' writes writes' status.ReadFault less (JudgesFile.cannot_take rose none) = JudgesFile.cannot_take (rose_before takes mid takes' less rose) none
 judged_later r files name w w' takes mid takes' writes writes' status.NoMemory less (JudgesFile.cannot_hold none) = JudgesFile.cannot_hold none

@@ -1,5 +1,5 @@
 -- What a tree mentions, one level at a time.
-use Rattle.std.proofs.Common.{◌≡◌, ◌↔◌, ℕ, ◌+◌, ◌<◌, Bool, true, eqb, List, [], ◌∷◌, ◌++◌, length, take, map, get_or, refl, sym, ap, ◌∙◌, arith}
+use Rattle.std.proofs.Common.{◌≡◌, ◌↔◌, ℕ, ◌+◌, ◌<◌, Bool, true, List, [], ◌∷◌, ◌++◌, length, take, map, get_or, refl, sym, ap, ◌∙◌, eq-eqb}
 use Rattle.std.specs.Prelude.{flat_map}
 use Rattle.std.proofs.lemmas.Bool.{eqb-true}
 use Rattle.std.proofs.lemmas.List.{take_more}
@@ -82,11 +82,8 @@ mentioned-Table rows last = fold-Table Attrs Attrs mentioned_step mentioned_row 
 
 pub ruleset mentioned_laws = (mentioned-Const, mentioned-Attr, mentioned-All, mentioned-Any, mentioned-Not, mentioned-Op, mentioned-Certain, mentioned-Known, mentioned-Over, mentioned-Window, mentioned-Rolling, mentioned-Table)
 
-pub same_number : (m n : ℕ) → m ≡ n → eqb m n ≡ true
-same_number m n e = grind arith
-
 pub is_attr-tells : (a b : AttrId) → (is_attr a b ≡ true) ↔ (a ≡ b)
-is_attr-tells a b = (λ e. ap (λ n. record { 0 = n }) (eqb-true a.0 b.0 e), λ e. same_number a.0 b.0 (ap (λ (x : AttrId). x.0) e))
+is_attr-tells a b = (λ e. ap (λ n. record { 0 = n }) (eqb-true a.0 b.0 e), λ e. eq-eqb a.0 b.0 (ap (λ (x : AttrId). x.0) e))
 
 -- one attribute more
 pub once_more : (attrs : List AttrId) (i : ℕ) (d : AttrId) (old new : List AttrId) → i < length attrs → old ≡ first_ones is_attr (take i attrs) → new ≡ with_new is_attr old (get_or attrs i d) → new ≡ first_ones is_attr (take (i + 1) attrs)

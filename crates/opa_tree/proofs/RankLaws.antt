@@ -1,5 +1,5 @@
 -- Ranks fall along mentions, and there is one list of them.
-use Rattle.std.proofs.Common.{◌≡◌, ℕ, zero, suc, ◌+◌, ◌<◌, ◌≤◌, ◌⊎◌, Bool, true, false, cond, List, [], ◌∷◌, map, get_or, ◌≢◌, AllPairs, Contains, Option, None, Some, inl, inr, refl, sym, ap, ◌∙◌, arith}
+use Rattle.std.proofs.Common.{◌≡◌, ℕ, zero, suc, ◌+◌, ◌<◌, ◌≤◌, ◌⊎◌, Bool, true, false, cond, List, [], ◌∷◌, map, get_or, ◌≢◌, AllPairs, Contains, Option, None, Some, inl, inr, refl, sym, ap, ◌∙◌, arith, eq-eqb}
 use Rattle.std.specs.Prelude.{find}
 use Rattle.std.proofs.lemmas.Bool.{eqb-true, cases_lt, false≢true}
 use Rattle.std.proofs.lemmas.List.{get_or_past}
@@ -12,7 +12,6 @@ use Rattle.opa_tree.specs.Mentions.{mentions}
 use Rattle.opa_tree.specs.Ranks.{rank_at, rank_by, mentions_of, AreRanks}
 use Rattle.opa_tree.specs.Rules.{concludes, rule_of}
 use Rattle.opa_tree.specs.Trees.{highest}
-use Rattle.opa_tree.proofs.MentionLaws.{same_number}
 use Rattle.opa_tree.proofs.Members.{none_in, contains_cases, highest_above, map_agrees}
 
 -- an attribute with a rule is declared
@@ -28,7 +27,7 @@ rule_declared count (r ∷ rules) a rule all is =
 -- where no two rules conclude one attribute, a rule is the rule of its attribute
 found_first : (r s : Rule) (rules : List Rule) → (r ≡ s) ⊎ Contains rules s → AllPairs (λ x y. x.attr ≢ y.attr) (r ∷ rules) → (b : Bool) → concludes s.attr r ≡ b → (Contains rules s → find (concludes s.attr) rules ≡ Some s) → cond b (Some r) (find (concludes s.attr) rules) ≡ Some s
 found_first r s rules (inl e) differ true is more = ap Some e
-found_first r s rules (inl e) differ false is more = let own : concludes s.attr r ≡ true = ap (λ (x : Rule). concludes s.attr x) e ∙ same_number s.attr.0 s.attr.0 refl in absurd (false≢true (sym is ∙ own))
+found_first r s rules (inl e) differ false is more = let own : concludes s.attr r ≡ true = ap (λ (x : Rule). concludes s.attr x) e ∙ eq-eqb s.attr.0 s.attr.0 refl in absurd (false≢true (sym is ∙ own))
 found_first r s rules (inr there) differ true is more =
     let k = there.0 in
     let apart = differ 0 (suc k) s (omega arith) (omega (arith, there.1)) in

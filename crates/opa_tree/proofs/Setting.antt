@@ -1,6 +1,6 @@
 -- An item of a list that is set, and a list with one item more.
 use Rattle.std.proofs.Common.{◌≡◌, ◌≢◌, ◌∙◌, ◌<◌, ◌+◌, ℕ, zero, suc, arith, get_or, take, Bool, true, false, cond, List, [], ◌∷◌, ◌++◌, length, refl, sym, ap}
-use Rattle.std.specs.Prelude.{Option, None, Some, is_some, slice_get, slice_set, ◌==◌}
+use Rattle.std.specs.Prelude.{None, Some, slice_get, slice_set, ◌==◌}
 use Rattle.std.proofs.Math.Seq.{take-suc}
 use Rattle.std.specs.Option.{option_or}
 use Rattle.std.proofs.lemmas.Bool.{false≢true}
@@ -39,10 +39,6 @@ module _ {X : Type 0} where
   pub comes_behind : (xs : List X) (x : X) → slice_get (xs ++ x ∷ []) (length xs) ≡ Some x
   comes_behind [] x = refl
   comes_behind (y ∷ xs) x = comes_behind xs x
-
-pub none_by : {X : Type 0} (o : Option X) → is_some o ≡ false → o ≡ None
-none_by None h = refl
-none_by (Some x) h = cc
 
 pub same_place : (m n : ℕ) → (m == n) ≡ true → n ≡ m
 same_place m n is = grind (arith, is)

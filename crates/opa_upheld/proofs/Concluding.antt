@@ -5,6 +5,7 @@ use Rattle.std.specs.FinMap.{FinMap, get, insert, get-insert}
 use Rattle.std.specs.Option.{option_map}
 use Rattle.std.specs.Ordering.{eq_by_cmp}
 use Rattle.std.proofs.lemmas.Map.Views.{tells_apart}
+use Rattle.std.proofs.lemmas.Option.{same_Some}
 use Rattle.opa_date.specs.declared.TheConstants.{DAYS}
 use Rattle.opa_value.specs.declared.value.Value.{Value}
 use Rattle.opa_value.specs.Fit.{fit_of}
@@ -39,9 +40,6 @@ ShadeMap = FinMap cell_cmp (List (ℕ × Shade))
 pub none_kept : (b : Base) (k : Listing) (kept : ShadeMap) → ((j : ℕ × InstanceId) → get kept j ≡ None) → AreKept b k kept
 none_kept b k kept none a i rule l e g = absurd (cc (none (a.0, i), g))
 
-some_same : {X : Type 0} (x y : X) → Some x ≡ Some y → x ≡ y
-some_same x y e = cc e
-
 pub one_kept : (b : Base) (k : Listing) (old new : ShadeMap) (a : AttrId) (i : InstanceId) (rule : Rule) (l : List (ℕ × Shade)) → rule_of b.rules a ≡ Some rule → StandsFor DAYS (concluded_shade b k rule a i) l
     → AreKept b k old → new ≡ insert old (a.0, i) l → AreKept b k new
 one_kept b k old new a i rule l e stands kept is c j r m q g = go (eq_by_cmp cell_cmp (c.0, j) (a.0, i)) refl (sym (get-insert cell_total old (a.0, i) l (c.0, j)) ∙ sym (ap (λ n. get n (c.0, j)) is) ∙ g)
@@ -52,8 +50,8 @@ one_kept b k old new a i rule l e stands kept is c j r m q g = go (eq_by_cmp cel
         let one = tells_apart cell_exact (c.0, j) (a.0, i) x in
         let attr : c ≡ a = ap (λ (k : ℕ × InstanceId). let y : AttrId = record { 0 = k.0 } in y) one in
         let inst : j ≡ i = ap (λ (k : ℕ × InstanceId). k.1) one in
-        let line : l ≡ m = some_same l m (sym (ap (λ t. cond t (Some l) (get old (c.0, j))) x) ∙ h) in
-        let rules : r ≡ rule = some_same r rule (sym q ∙ ap (rule_of b.rules) attr ∙ e) in
+        let line : l ≡ m = same_Some l m (sym (ap (λ t. cond t (Some l) (get old (c.0, j))) x) ∙ h) in
+        let rules : r ≡ rule = same_Some r rule (sym q ∙ ap (rule_of b.rules) attr ∙ e) in
         subst (λ (n : List (ℕ × Shade)). StandsFor DAYS (concluded_shade b k r c j) n) line
         (subst (λ (y : Rule). StandsFor DAYS (concluded_shade b k y c j) l) (sym rules)
         (subst (λ (y : AttrId). StandsFor DAYS (concluded_shade b k rule y j) l) (sym attr)

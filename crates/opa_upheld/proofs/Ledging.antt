@@ -1,6 +1,6 @@
 -- What is kept of the lines of a report, line by line.
 use Rattle.std.proofs.Common.{◌≡◌, ◌⊎◌, inl, inr, ℕ, List, [], ◌∷◌, ◌++◌, Bool, true, false, cond, Option, None, Some, refl, sym, ◌∙◌, ap, subst, take, get_or, ◌<◌, length}
-use Rattle.std.specs.Prelude.{◌&&◌, ◌==◌, nat_le, unwrap_or, Result, Ok, Err, OnOk}
+use Rattle.std.specs.Prelude.{◌&&◌, ◌==◌, nat_le, unwrap_or}
 use Rattle.std.specs.FinMap.{FinMap, get, insert, empty, get-insert, get-empty}
 use Rattle.std.specs.Option.{option_map, option_or}
 use Rattle.std.proofs.lemmas.Bool.{eqb-true, eq-eqb, and_parts, and_from}
@@ -11,13 +11,15 @@ use Rattle.opa_cells.specs.declared.instance.InstanceId.{InstanceId}
 use Rattle.opa_cells.specs.Instances.{is_same}
 use Rattle.opa_cells.specs.Keys.{cell_cmp}
 use Rattle.opa_cells.proofs.Orders.{same_is, same_itself, cell_total, cell_exact}
-use Rattle.std.specs.Cmp.{eq_by_cmp_equiv}
 use Rattle.std.specs.Ordering.{eq_by_cmp}
 use Rattle.std.proofs.lemmas.Map.Views.{tells_apart}
+use Rattle.opa_io.proofs.Bools.{same_truth}
 use Rattle.opa_case.specs.Live.{Names}
 use Rattle.opa_tree.specs.Mentions.{is_attr}
+use Rattle.opa_cells.proofs.Rowed.{or_none as or_nothing}
 use Rattle.opa_report.specs.declared.lines.ReportLine.{ReportLine}
 use Rattle.opa_report.specs.declared.lines.ReportLine.TheVariants as line
+use Rattle.opa_report.proofs.Inserting.{itself}
 use Rattle.opa_seen.specs.Listings.{Listing}
 use Rattle.opa_seen.specs.declared.runs.Run.{Run}
 use Rattle.opa_seen.specs.declared.sheet.Listed.{Listed}
@@ -106,21 +108,8 @@ first_append {X} f (y ∷ xs) x = go (f y) (first_append f xs x)
     go None e = e
     go (Some v) e = refl
 
-or_nothing : {X : Type 0} (o : Option X) → option_or o None ≡ o
-or_nothing None = refl
-or_nothing (Some v) = refl
-
--- two keys are one where their numbers and their instances are
-itself : (k : ℕ × InstanceId) → eq_by_cmp cell_cmp k k ≡ true
-itself k = (eq_by_cmp_equiv cell_total).refl k
-
-both_ways : (b c : Bool) → (b ≡ true → c ≡ true) → (c ≡ true → b ≡ true) → b ≡ c
-both_ways true c f g = sym (f refl)
-both_ways false true f g = g refl
-both_ways false false f g = refl
-
 same_key : (a b : ℕ) (i j : InstanceId) → eq_by_cmp cell_cmp (a, i) (b, j) ≡ ((a == b) && is_same i j)
-same_key a b i j = both_ways (eq_by_cmp cell_cmp (a, i) (b, j)) ((a == b) && is_same i j)
+same_key a b i j = same_truth (eq_by_cmp cell_cmp (a, i) (b, j)) ((a == b) && is_same i j)
     (λ h. let e = tells_apart cell_exact (a, i) (b, j) h in
     subst (λ (k : ℕ × InstanceId). ((a == k.0) && is_same i k.1) ≡ true) e (and_from (a == a) (is_same i i) (eq-eqb a a refl) (same_itself i)))
     (λ h. let two = and_parts (a == b) (is_same i j) h in
@@ -218,7 +207,3 @@ runs_shade (r ∷ rs) d = go (nat_le r.start d && nat_le d r.end) (runs_shade rs
     go : (c : Bool) → runs_at rs d ≡ shade_of (runs_told rs d) → first_there (cond c (there r.value) gone) (runs_at rs d) ≡ shade_of (option_or (cond c (Some r.value) None) (runs_told rs d))
     go true e = refl
     go false e = e
-
-pub on_ok : {T E : Type 0} (r : Result T E) (P Q : Type 0) → (P → Q) → OnOk r P → OnOk r Q
-on_ok (Ok x) P Q f h = f h
-on_ok (Err e) P Q f h = tt

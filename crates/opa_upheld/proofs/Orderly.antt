@@ -1,8 +1,8 @@
 -- A case that fits has its containers in order, and relations to one list at most one name.
-use Rattle.std.proofs.Common.{◌≡◌, ◌⊎◌, inl, inr, ℕ, zero, suc, ◌∷◌, [], IsTrue, ◌-◌, ◌<◌, ◌≤◌, List, true, false, Option, None, Some, length, refl, sym, ◌∙◌, ap, subst, arith}
-use Rattle.std.specs.Prelude.{unwrap_or, slice_get, All}
+use Rattle.std.proofs.Common.{◌≡◌, ◌⊎◌, inl, inr, IsTrue, ◌-◌, ◌<◌, ◌≤◌, true, false, Option, None, Some, length, refl, sym, ◌∙◌, ap, arith}
+use Rattle.std.specs.Prelude.{unwrap_or, slice_get}
 use Rattle.std.specs.FinMap.{get}
-use Rattle.std.proofs.lemmas.List.Elements.{All-head, All-tail}
+use Rattle.opa_io.proofs.Places.{at_of_All}
 use Rattle.opa_model.specs.declared.ids.RelId.{RelId}
 use Rattle.opa_model.specs.Models.{IsModel, IsOverAll}
 use Rattle.opa_cells.specs.declared.instance.InstanceId.{InstanceId}
@@ -28,18 +28,13 @@ use Rattle.opa_upheld.proofs.Upholding.{held_up_fixes_holds}
 pub held_up_supports_holds : HeldUpSupports
 held_up_supports_holds r lines held a i d v told c is live agrees = held_up_fixes_holds (base_of r) lines (base r c is) held a i d v told (facts_of c) (facts r c is) (live_in c i live) agrees
 
-all_got : {X : Type 0} (P : X → Type 0) (xs : List X) (k : ℕ) (x : X) → All P xs → slice_get xs k ≡ Some x → P x
-all_got P [] k x all e = absurd (cc e)
-all_got P (y ∷ xs) zero x all e = subst P (cc e) (All-head P y xs all)
-all_got P (y ∷ xs) (suc k) x all e = all_got P xs k x (All-tail P y xs all) e
-
 -- a list of all instances is no relation to one
 over_many : (m : Lists) → IsModel m → (r : RelId) → (relation_or m r).every ≡ true → (relation_or m r).one ≡ false
 over_many m is r h = go (slice_get m.relations r.0) refl h
   where
     go : (o : Option Relation) → slice_get m.relations r.0 ≡ o → (unwrap_or o no_relation).every ≡ true → (relation_or m r).one ≡ false
     go None e h = absurd (cc h)
-    go (Some x) e h = ap (λ o. (unwrap_or o no_relation).one) e ∙ (all_got (λ y. IsTrue y.every → IsOverAll y) m.relations r.0 x is.over_all e h).to_many
+    go (Some x) e h = ap (λ o. (unwrap_or o no_relation).one) e ∙ (at_of_All (λ y. IsTrue y.every → IsOverAll y) m.relations r.0 x is.over_all e h).to_many
 
 module _ (r : Rulebase) (c : CaseView) (is : IsOf r c) where
   abbrev s : Shape

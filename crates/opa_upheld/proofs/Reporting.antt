@@ -4,6 +4,7 @@ use Rattle.std.specs.Prelude.{map, find, flat_map, nat_le, ◌||◌}
 use Rattle.std.specs.List.{AllByRecursion}
 use Rattle.std.specs.Option.{option_map, option_map_or, option_or}
 use Rattle.std.proofs.lemmas.Bool.{leb-true, cases_lt}
+use Rattle.opa_io.proofs.Lists.{each_weaker}
 use Rattle.opa_value.specs.declared.value.Value.{Value}
 use Rattle.opa_model.specs.declared.ids.AttrId.{AttrId}
 use Rattle.opa_model.specs.declared.ids.RelId.{RelId}
@@ -27,7 +28,7 @@ use Rattle.opa_mean.proofs.Chains.{chain_live, place_live}
 use Rattle.opa_mean.proofs.Completing.{above_live}
 use Rattle.opa_mean.proofs.Determining.{determined}
 use Rattle.opa_mean.proofs.Lying.{Lies, uses_lie}
-use Rattle.opa_mean.proofs.Everywhere.{all_of_each, each_of_all, all_weaker, in_map}
+use Rattle.opa_mean.proofs.Everywhere.{all_of_each, each_of_all, in_map}
 use Rattle.opa_report.specs.Supporting.{Lists}
 use Rattle.opa_report.specs.declared.lines.ReportLine.{ReportLine}
 use Rattle.opa_report.specs.declared.lines.ReportLine.TheVariants as line
@@ -174,10 +175,10 @@ module _ (b : Base) (c : Facts) (base : IsBase b) (are : AreFacts b.shape c) (or
   placed = place_live c.container (IsLive c) (above_live b.shape c are)
 
   met : (enclosing : List InstanceId) → AllByRecursion Within enclosing → (e : ℕ) → place_seen k.container enclosing e ≡ Some (place c.container enclosing e)
-  met enclosing w e = places_met c.container k.container enclosing (all_weaker Within (λ i. AllByRecursion (IsTold c.container k.container) (chain c.container i)) (λ i h. h.1) enclosing w) e
+  met enclosing w e = places_met c.container k.container enclosing (each_weaker Within (λ i. AllByRecursion (IsTold c.container k.container) (chain c.container i)) (λ i h. h.1) enclosing w) e
 
   live_place : (enclosing : List InstanceId) → AllByRecursion Within enclosing → (e : ℕ) (i : InstanceId) → place c.container enclosing e ≡ Some i → IsLive c i
-  live_place enclosing w = placed enclosing (all_weaker Within (IsLive c) (λ i h. h.0) enclosing w)
+  live_place enclosing w = placed enclosing (each_weaker Within (IsLive c) (λ i h. h.0) enclosing w)
 
   few : (r : RelId) (i : InstanceId) (names : Names) → IsLive c i → b.shape.one r ≡ true → c.members r i ≡ Some names → nat_le 2 (length names) ≡ false
   few r i names live one e = go (nat_le 2 (length names)) refl (orderly.one r i names live one e)

@@ -5,7 +5,6 @@ use Rattle.std.specs.Option.{option_map_or}
 use Rattle.std.proofs.lemmas.Bool.{and_parts, and_from}
 use Rattle.opa_model.specs.declared.ids.RelId.{RelId}
 use Rattle.opa_model.specs.declared.lists.Lists.{Lists}
-use Rattle.opa_model.specs.declared.things.Attribute.{Attribute}
 use Rattle.opa_model.specs.declared.things.Kind.{Kind}
 use Rattle.opa_model.specs.declared.things.Relation.{Relation}
 use Rattle.opa_model.specs.Lookups.{attribute_at, relation_at}
@@ -18,7 +17,6 @@ use Rattle.opa_tree.specs.declared.expr.Expr.TheOpen.{Expr-F, Const, Attr, All, 
 use Rattle.opa_tree.specs.declared.expr.Expr.TheVariants as V
 use Rattle.opa_tree.specs.declared.expr.Expr.TheViews.{roll-Expr}
 use Rattle.opa_tree.specs.declared.expr.Expr.TheFolds.{map-Expr}
-use Rattle.opa_tree.specs.declared.rulebase.Rulebase.{Rulebase}
 use Rattle.opa_tree.specs.declared.rules.Rule.{Rule}
 use Rattle.opa_tree.specs.Kinds.{Typing, quant_can, all_can, typing, can_have, rule_has_kind}
 use Rattle.opa_tree.specs.Rules.{concludes}
@@ -28,6 +26,7 @@ use Rattle.opa_tree.proofs.Members.{contains_head, contains_tail}
 use Rattle.opa_kinds.specs.Conditions.{IsPartOf}
 use Rattle.opa_kinds.proofs.Parts.{CanBe, part_can}
 use Rattle.opa_kinds.proofs.Passing.{found_is}
+use Rattle.opa_kinds.proofs.LawsHold.{rule_can}
 use Rattle.opa_seen.specs.Ones.{is_for, are_single, single_step, is_single}
 use Rattle.opa_seen.proofs.Revealing.{row_single, single-roll, row_single-is}
 use Rattle.opa_upheld.specs.Singles.{RulesAreSingle}
@@ -99,10 +98,6 @@ module _ (m : Lists) where
   pub can_be_single : (e : Expr) → Single e
   can_be_single = by_parts Single (λ z can. single-roll one (without Single z) ∙ level z can)
 
-some_attribute : (r : Rulebase) (rule : Rule) (o : Option Attribute) → option_map_or (λ (x : Attribute). can_have r.model rule.expr x.kind) o false ≡ true → CanBe r.model rule.expr
-some_attribute r rule None h = absurd (cc h)
-some_attribute r rule (Some x) h = (x.kind, h)
-
 pub rules_are_single_holds : RulesAreSingle
 rules_are_single_holds r a rule e =
-    can_be_single r.model rule.expr (some_attribute r rule (attribute_at r.model rule.attr) (found_is (λ (x : Rule). IsTrue (rule_has_kind r.model x)) (concludes a) r.rules rule r.sound.of_kinds e).0)
+    can_be_single r.model rule.expr (rule_can r rule (attribute_at r.model rule.attr) (found_is (λ (x : Rule). IsTrue (rule_has_kind r.model x)) (concludes a) r.rules rule r.sound.of_kinds e).0)

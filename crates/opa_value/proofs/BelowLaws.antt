@@ -2,14 +2,11 @@
 use Rattle.std.proofs.Common.{◌≡◌, ◌⊎◌, inl, inr, List, [], ◌∷◌, Bool, true, false, cond, refl, sym, ◌∙◌, ap}
 use Rattle.std.specs.List.{list_any, AllZip}
 use Rattle.std.specs.Prelude.{◌||◌, map}
+use Rattle.opa_io.proofs.Bools.{or_true}
 use Rattle.opa_value.specs.declared.value.Value.{Value}
 use Rattle.opa_value.specs.declared.value.Value.TheVariants.{Unknown, Uncertain, Bool as Truth}
 use Rattle.opa_value.specs.Below.{IsBelow}
 use Rattle.opa_value.specs.Truth.{is_unknown, is_uncertain, is_false, is_true, unless_open, all_of, any_of, not_of, strict}
-
-or_true : (b : Bool) → (b || true) ≡ true
-or_true true = refl
-or_true false = refl
 
 -- below lists have an unknown, or are equal
 pub open_or_same : (vs ws : List Value) → AllZip IsBelow vs ws → (list_any is_unknown vs ≡ true) ⊎ (vs ≡ ws)

@@ -2,6 +2,7 @@
 use Rattle.std.proofs.Common.{◌≡◌, Bool, true, false, List, [], ◌∷◌, ◌++◌, ◌||◌, ap, refl, ◌∙◌, if◌then◌else◌, ℕ, ◌+◌, ◌<◌, length, take, slice_index_or, sym}
 use Rattle.std.proofs.lemmas.List.{take_more}
 use Rattle.std.specs.List.{list_any}
+use Rattle.opa_io.proofs.Bools.{or_false, or_assoc}
 use Rattle.opa_value.specs.declared.value.Value.{Value}
 use Rattle.opa_value.specs.declared.value.Value.TheVariants as value
 use Rattle.opa_value.specs.Truth.{all_of, any_of, all2_of, any2_of, is_false, is_true, is_unknown, is_uncertain}
@@ -9,14 +10,6 @@ use Rattle.opa_value.specs.Truth.{all_of, any_of, all2_of, any2_of, is_false, is
 -- what three tests of a list choose: the deciding value, unknown, uncertain, or the other truth value
 abbrev chosen : Value → Value → Bool → Bool → Bool → Value
 chosen decided other f u c = if f then decided else if u then value.Unknown else if c then value.Uncertain else other
-
-or_false : (b : Bool) → (b || false) ≡ b
-or_false true = refl
-or_false false = refl
-
-or_assoc : (a b c : Bool) → (a || (b || c)) ≡ ((a || b) || c)
-or_assoc true b c = refl
-or_assoc false b c = refl
 
 list_any_push : (p : Value → Bool) (xs : List Value) (v : Value) → list_any p (xs ++ v ∷ []) ≡ (list_any p xs || p v)
 list_any_push p [] v = or_false (p v)

@@ -1,9 +1,9 @@
 -- Changes by clean names and values leave a case that can be printed.
 use Rattle.std.proofs.Common.{◌≡◌, ◌⊎◌, inl, inr, ℕ, Bool, true, false, cond, List, [], ◌∷◌, None, Some, Option, Ok, refl, sym, ◌∙◌, subst}
-use Rattle.std.specs.Prelude.{◌&&◌, not}
 use Rattle.std.specs.FinMap.{FinMap, insert, remove, get-empty}
 use Rattle.std.specs.List.{AllByRecursion}
 use Rattle.std.specs.Str.{IsUtf8}
+use Rattle.std.proofs.lemmas.Bool.{and_from, not_from_false}
 use Rattle.opa_value.specs.declared.value.Value.{Value}
 use Rattle.opa_model.specs.declared.ids.AttrId.{AttrId}
 use Rattle.opa_model.specs.declared.ids.RelId.{RelId}
@@ -38,20 +38,12 @@ IsCleanValue v = (is_clean_value v ≡ true) × IsHeld v
 abbrev pub IsCleanPair : ℕ × Value → Type 0
 IsCleanPair p = IsCleanValue p.1
 
-not_any : (b : Bool) → b ≡ false → not b ≡ true
-not_any true h = absurd (cc h)
-not_any false h = refl
-
 pub quoted_clean : (t : List ℕ) → CanBeQuoted t → IsCleanName t
-quoted_clean t h = (not_any _ (clean_bytes t h), h.utf8)
-
-both : (a b : Bool) → a ≡ true → b ≡ true → (a && b) ≡ true
-both true b h k = k
-both false b h k = h
+quoted_clean t h = (not_from_false _ (clean_bytes t h), h.utf8)
 
 clean_names : (ns : Names) → Each IsCleanName ns → are_clean_names ns ≡ true
 clean_names [] h = refl
-clean_names (n ∷ ns) h = both (is_clean_text n) (are_clean_names ns) h.0.0 (clean_names ns h.1)
+clean_names (n ∷ ns) h = and_from (is_clean_text n) (are_clean_names ns) h.0.0 (clean_names ns h.1)
 
 utf8_names : (ns : Names) → Each IsCleanName ns → AllByRecursion IsUtf8 ns
 utf8_names [] h = tt
@@ -59,7 +51,7 @@ utf8_names (n ∷ ns) h = (h.0.1, utf8_names ns h.1)
 
 clean_answer : (l : Answer) → Each IsCleanPair l → is_clean_answer l ≡ true
 clean_answer [] h = refl
-clean_answer (p ∷ l) h = both (is_clean_value p.1) (is_clean_answer l) h.0.0 (clean_answer l h.1)
+clean_answer (p ∷ l) h = and_from (is_clean_value p.1) (is_clean_answer l) h.0.0 (clean_answer l h.1)
 
 held_answer : (l : Answer) → Each IsCleanPair l → AllByRecursion (λ p. IsHeld p.1) l
 held_answer [] h = tt

@@ -1,5 +1,5 @@
 -- What commands and replies say is clean.
-use Rattle.std.proofs.Common.{◌≡◌, inl, inr, ◌<◌, ◌≤◌, ℕ, ℤ, neg_ℤ, Bool, true, false, cond, List, [], ◌∷◌, ◌++◌, None, Some, Option, Ok, refl, sym, ◌∙◌, ap, subst, arith}
+use Rattle.std.proofs.Common.{◌≡◌, inl, inr, ◌<◌, ◌≤◌, ℕ, ℤ, neg_ℤ, Bool, true, false, cond, List, [], ◌∷◌, ◌++◌, None, Some, Option, Ok, refl, sym, ◌∙◌, ap, subst, arith, le-leb}
 use Rattle.std.specs.Prelude.{MatchOption, nat_le, codes}
 use Rattle.std.specs.Str.{bytes_eq}
 use Rattle.opa_date.specs.declared.TheConstants.{DAYS}
@@ -115,15 +115,12 @@ at_clean (p ∷ l) d v k e = let same : value_from p.1 l d ≡ v = cc e in subst
 not_yet : (m n : ℕ) → m < n → nat_le n m ≡ false
 not_yet m n h = grind (arith, h)
 
-by_now : (m n : ℕ) → m ≤ n → nat_le m n ≡ true
-by_now m n h = grind (arith, h)
-
 -- where the values of all days are clean, so are those of the pairs
 by_days : (k : ℕ) (v : Value) (l : List (ℕ × Value)) → k < DAYS → Follows DAYS k v l → ((d : ℕ) → k ≤ d → d < DAYS → IsCleanValue (value_from v l d)) → IsCleanValue v × Each IsCleanPair l
 by_days k v [] lt f h = (h k (omega arith) lt, tt)
 by_days k v (p ∷ l) lt f h =
     let now : IsCleanValue v = subst (λ t. IsCleanValue (cond t (value_from p.1 l k) v)) (not_yet k p.0 f.0) (h k (omega arith) lt) in
-    let rest = by_days p.0 p.1 l f.1 f.3 (λ d le less. subst (λ t. IsCleanValue (cond t (value_from p.1 l d) v)) (by_now p.0 d le) (let early = f.0 in h d (omega (arith, early, le)) less)) in
+    let rest = by_days p.0 p.1 l f.1 f.3 (λ d le less. subst (λ t. IsCleanValue (cond t (value_from p.1 l d) v)) (le-leb p.0 d le) (let early = f.0 in h d (omega (arith, early, le)) less)) in
     (now, (rest.0, rest.1))
 
 line_by_days : (l : List (ℕ × Value)) → IsLine DAYS l → ((d : ℕ) (v : Value) → d < DAYS → at l d ≡ Some v → IsCleanValue v) → Each IsCleanPair l

@@ -6,6 +6,7 @@ use Rattle.std.proofs.lemmas.List.{length-map}
 use Rattle.std.proofs.lemmas.Option.{cond_some}
 use Rattle.opa_io.specs.Outside.{Files}
 use Rattle.opa_io.specs.declared.limits.TheConstants.{MOST_FILE}
+use Rattle.opa_io.proofs.Options.{bound_parts, mapped_parts}
 use Rattle.opa_model.specs.declared.lists.Lists.{Lists}
 use Rattle.opa_model.specs.Models.{IsModel}
 use Rattle.opa_words.specs.declared.kinds.Token.{Token}
@@ -33,7 +34,7 @@ use Rattle.opa_decl.specs.Heads.{head_of, is_declaration}
 use Rattle.opa_decl.specs.Spelling.{behind_head, member_in, headed_verb, headed_phrase, headed_text, inside_in, screen_item, verb_item, verb_block, global_block, entity_block, goal_block, screen_block, file_block, block_by, spelled_in, spelled}
 use Rattle.opa_decl.specs.Steps.{each}
 use Rattle.opa_decl.proofs.DeclaredModels.{declared_by}
-use Rattle.opa_decl.proofs.SpelledItems.{bound, mapped, same_value}
+use Rattle.opa_decl.proofs.SpelledItems.{same_value}
 use Rattle.opa_verified.proofs.TextFiles.{Each, SourceIsText}
 
 -- ---- blocks
@@ -41,8 +42,8 @@ use Rattle.opa_verified.proofs.TextFiles.{Each, SourceIsText}
 each_length : {A B : Type 0} (f : A → Option B) (xs : List A) (ys : List B) → each f xs ≡ Some ys → length ys ≡ length xs
 each_length f [] ys h = sym (ap length (same_value h))
 each_length {A} {B} f (x ∷ xs) ys h =
-    let here = bound (λ (y : B). option_map (λ (zs : List B). y ∷ zs) (each f xs)) (f x) ys h in
-    let rest = mapped (λ (zs : List B). here.0 ∷ zs) (each f xs) ys here.2 in
+    let here = bound_parts (λ (y : B). option_map (λ (zs : List B). y ∷ zs) (each f xs)) (f x) ys h in
+    let rest = mapped_parts (λ (zs : List B). here.0 ∷ zs) (each f xs) ys here.2 in
     let same = ap length rest.2 in let more = each_length f xs rest.0 rest.1 in omega (arith, same, more)
 
 -- no more items than lines
@@ -53,14 +54,14 @@ one_few : (deeper : List CutLine) (i : Item) (is : List Item) → i ∷ [] ≡ i
 one_few deeper i is e = let same = ap length e in omega (arith, same)
 
 verb_few : (file : ℕ) (first : CutLine) (deeper : List CutLine) (is : List Item) → verb_block file first deeper ≡ Some is → AreFew deeper is
-verb_few file first [] is h = let v = mapped (verb_item file first) (headed_verb first) is h in one_few [] _ is v.2
+verb_few file first [] is h = let v = mapped_parts (verb_item file first) (headed_verb first) is h in one_few [] _ is v.2
 verb_few file first (line ∷ lines) is h = absurd (cc h)
 
 global_few : (file : ℕ) (first : CutLine) (deeper : List CutLine) (is : List Item) → global_block file first deeper ≡ Some is → AreFew deeper is
 global_few file first [] is h = absurd (cc h)
 global_few file first (line ∷ lines) is h =
-    let more = bound (λ (more : List Token). option_and_then (λ (members : List Item). if length more == 0 then Some members else None) (each (member_in file true) (line ∷ lines))) (behind_head first) is h in
-    let members = bound (λ (members : List Item). if length more.0 == 0 then Some members else None) (each (member_in file true) (line ∷ lines)) is more.2 in
+    let more = bound_parts (λ (more : List Token). option_and_then (λ (members : List Item). if length more == 0 then Some members else None) (each (member_in file true) (line ∷ lines))) (behind_head first) is h in
+    let members = bound_parts (λ (members : List Item). if length more.0 == 0 then Some members else None) (each (member_in file true) (line ∷ lines)) is more.2 in
     let many = each_length (member_in file true) (line ∷ lines) members.0 members.1 in
     let same = ap length (cond_some (length more.0 == 0) members.0 is members.2).1 in
     omega (arith, many, same)
@@ -69,31 +70,31 @@ entity_few : (file : ℕ) (first : CutLine) (deeper : List CutLine) (is : List I
 entity_few file first [] is h = absurd (cc h)
 entity_few file first (second ∷ lines) is h =
     let make : Name → Option Name × Name → List Item → List Item = λ phrase above members. item.Entity (record { phrase = phrase; parent = above.0; inside = above.1 }) ∷ members in
-    let phrase = bound (λ (phrase : Name). option_and_then (λ (above : Option Name × Name). option_and_then (λ (members : List Item). Some (make phrase above members)) (each (member_in file false) lines)) (inside_in file second)) (headed_phrase file first) is h in
-    let above = bound (λ (above : Option Name × Name). option_and_then (λ (members : List Item). Some (make phrase.0 above members)) (each (member_in file false) lines)) (inside_in file second) is phrase.2 in
-    let members = bound (λ (members : List Item). Some (make phrase.0 above.0 members)) (each (member_in file false) lines) is above.2 in
+    let phrase = bound_parts (λ (phrase : Name). option_and_then (λ (above : Option Name × Name). option_and_then (λ (members : List Item). Some (make phrase above members)) (each (member_in file false) lines)) (inside_in file second)) (headed_phrase file first) is h in
+    let above = bound_parts (λ (above : Option Name × Name). option_and_then (λ (members : List Item). Some (make phrase.0 above members)) (each (member_in file false) lines)) (inside_in file second) is phrase.2 in
+    let members = bound_parts (λ (members : List Item). Some (make phrase.0 above.0 members)) (each (member_in file false) lines) is above.2 in
     let many = each_length (member_in file false) lines members.0 members.1 in
     let is_made : make phrase.0 above.0 members.0 ≡ is = same_value members.2 in
     let same = ap length is_made in
     omega (arith, many, same)
 
 goal_few : (file : ℕ) (first : CutLine) (deeper : List CutLine) (is : List Item) → goal_block file first deeper ≡ Some is → AreFew deeper is
-goal_few file first [] is h = let g = mapped (λ (goal : Name). item.Goal goal ∷ []) (headed_phrase file first) is h in one_few [] _ is g.2
+goal_few file first [] is h = let g = mapped_parts (λ (goal : Name). item.Goal goal ∷ []) (headed_phrase file first) is h in one_few [] _ is g.2
 goal_few file first (line ∷ lines) is h = absurd (cc h)
 
 screen_few : (file : ℕ) (first : CutLine) (deeper : List CutLine) (is : List Item) → screen_block file first deeper ≡ Some is → AreFew deeper is
 screen_few file first [] is h = absurd (cc h)
 screen_few file first (line ∷ lines) is h =
     let make : Name → List Name → List Item = λ title names. item.Screen (record { title = title; items = names }) ∷ [] in
-    let title = bound (λ (title : Name). option_and_then (λ (names : List Name). Some (make title names)) (each (screen_item file) (line ∷ lines))) (headed_text file first) is h in
-    let names = bound (λ (names : List Name). Some (make title.0 names)) (each (screen_item file) (line ∷ lines)) is title.2 in
+    let title = bound_parts (λ (title : Name). option_and_then (λ (names : List Name). Some (make title names)) (each (screen_item file) (line ∷ lines))) (headed_text file first) is h in
+    let names = bound_parts (λ (names : List Name). Some (make title.0 names)) (each (screen_item file) (line ∷ lines)) is title.2 in
     one_few (line ∷ lines) _ is (let same : make title.0 names.0 ≡ is = same_value names.2 in same)
 
 file_few : (file : ℕ) (first : CutLine) (deeper : List CutLine) (is : List Item) → file_block file first deeper ≡ Some is → AreFew deeper is
 file_few file first [] is h = go (file == 0) h
   where
     go : (b : Bool) → cond b (option_map (λ (named : Name). item.File named ∷ []) (headed_text file first)) None ≡ Some is → AreFew [] is
-    go true k = let f = mapped (λ (named : Name). item.File named ∷ []) (headed_text file first) is k in one_few [] _ is f.2
+    go true k = let f = mapped_parts (λ (named : Name). item.File named ∷ []) (headed_text file first) is k in one_few [] _ is f.2
     go false k = absurd (cc k)
 file_few file first (line ∷ lines) is h = absurd (cc h)
 
@@ -109,7 +110,7 @@ block_few file head.File first deeper is e = file_few file first deeper is e
 lines_few : (file : ℕ) (lines : List CutLine) (is : List Item) → spelled_in file lines ≡ Some is → length is ≤ length lines
 lines_few file [] is h = absurd (cc h)
 lines_few file (first ∷ deeper) is h =
-    let head = bound (λ (kind : Head). block_by file kind first deeper) (head_of first.text) is h in
+    let head = bound_parts (λ (kind : Head). block_by file kind first deeper) (head_of first.text) is h in
     let few = block_few file head.0 first deeper is head.2 in
     omega (arith, few)
 

@@ -88,7 +88,7 @@ ascii_text c h = IsUtf8-from_ascii (c ∷ []) at
 prefixed : (front : List ℕ) → IsUtf8 front → (o : Option (List ℕ)) → Of IsUtf8 o → Of IsUtf8 (prepend front o)
 prefixed front u o h = of_map IsUtf8 IsUtf8 (λ s. front ++ s) (λ s k. IsUtf8-append front s u k) o h
 
-is_number : (x n : ℕ) → (x == n) ≡ true → n < 128 → x < 128
+pub is_number : (x n : ℕ) → (x == n) ≡ true → n < 128 → x < 128
 is_number x n h l = grind (arith, h, l)
 
 behind_four : (a b c d u : ℕ) (xs : List ℕ) → IsUnit a b c d u → IsUtf8 (a ∷ b ∷ c ∷ d ∷ xs) → IsUtf8 xs

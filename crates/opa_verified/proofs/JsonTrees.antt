@@ -121,7 +121,7 @@ put_texts : (k : List ℕ) (d : Data) (ms : Members) → HasTexts d → MembersH
 put_texts k d no_members p q = (p, tt)
 put_texts k d (member l e ms) p q = ordered _ (member k d (member l e ms)) (member l d ms) (member l e (put k d ms)) (p, q) (p, q.1) (q.0, put_texts k d ms p q.1)
 
-any : {A : Type 0} (o : Option A) → Of (λ _. Unit {0}) o
+pub any : {A : Type 0} (o : Option A) → Of (λ _. Unit {0}) o
 any None = tt
 any (Some x) = tt
 

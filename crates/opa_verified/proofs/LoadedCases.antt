@@ -48,7 +48,7 @@ use Rattle.opa_verified.proofs.JsonTexts.{HasTexts, ItemsHaveTexts, MembersHaveT
 use Rattle.opa_verified.proofs.CleanCases.{IsCleanName, IsCleanValue, IsCleanPair, HasClean}
 use Rattle.opa_verified.proofs.CleanCommands.{at_clean, number_in_range}
 use Rattle.opa_verified.proofs.JsonStrings.{Of, of_then, of_map}
-use Rattle.opa_verified.proofs.JsonTrees.{json_is_text_holds}
+use Rattle.opa_verified.proofs.JsonTrees.{json_is_text_holds, any}
 use Rattle.opa_verified.proofs.Seams.{behind}
 use Rattle.opa_verified.proofs.TextFiles.{Each}
 
@@ -91,12 +91,8 @@ number_clean t = of_then InRange IsCleanValue (plainly t) (λ n h. plain n (byte
 text_clean : (t : List ℕ) → IsUtf8 t → Of IsCleanValue (text_value t)
 text_clean t u = of_map IsCleanName IsCleanValue (λ s. value.Words s) (λ s h. h) (clean t) (clean_of t u)
 
-anything : {A : Type 0} (o : Option A) → Of (λ _. Unit {0}) o
-anything None = tt
-anything (Some x) = tt
-
 day_clean : (t : List ℕ) → Of IsCleanValue (day_value t)
-day_clean t = of_map (λ _. Unit {0}) IsCleanValue (λ d. value.Day d) (λ d h. (refl, tt)) (day_of t) (anything (day_of t))
+day_clean t = of_map (λ _. Unit {0}) IsCleanValue (λ d. value.Day d) (λ d h. (refl, tt)) (day_of t) (any (day_of t))
 
 plain_clean : (o p q : Option (List ℕ)) → Of IsUtf8 p → Of IsCleanValue (plain_value o p q)
 plain_clean (Some t) p q h = number_clean t
@@ -199,7 +195,7 @@ pair_clean v [] h = tt
 pair_clean v (d ∷ []) h = tt
 pair_clean v (d ∷ t ∷ []) h =
     let own = value_in_clean t h.1.0 in
-    of_then (λ _. Unit {0}) IsCleanPair (λ day. option_map (λ x. (day, x)) (value_in t)) (λ day k. of_map IsCleanValue IsCleanPair (λ x. (day, x)) (λ x c. c) (value_in t) own) (day_at v d) (anything (day_at v d))
+    of_then (λ _. Unit {0}) IsCleanPair (λ day. option_map (λ x. (day, x)) (value_in t)) (λ day k. of_map IsCleanValue IsCleanPair (λ x. (day, x)) (λ x c. c) (value_in t) own) (day_at v d) (any (day_at v d))
 pair_clean v (d ∷ t ∷ e ∷ ds) h = tt
 
 pair_in_clean : (v : Version) (d : Data) → HasTexts d → Of IsCleanPair (pair_in v d)
@@ -299,7 +295,7 @@ file_of_clean v d h =
 
 file_in_clean : (d : Data) → HasTexts d → Of FileIsClean (file_in d)
 unfolding file_in
-file_in_clean d h = if_of FileIsClean (says_format d) _ (of_then (λ _. Unit {0}) FileIsClean (λ v. file_of v d) (λ v k. file_of_clean v d h) (version_in d) (anything (version_in d)))
+file_in_clean d h = if_of FileIsClean (says_format d) _ (of_then (λ _. Unit {0}) FileIsClean (λ v. file_of v d) (λ v k. file_of_clean v d h) (version_in d) (any (version_in d)))
 
 -- ---- maps
 

@@ -4,6 +4,7 @@ use Rattle.std.specs.Prelude.{find}
 use Rattle.std.specs.Str.{IsUtf8}
 use Rattle.std.proofs.lemmas.List.Elements.{All-append, All-contains, All-head, All-tail, All-nil, All-cons}
 use Rattle.opa_io.specs.Outside.{Files}
+use Rattle.opa_io.proofs.Lists.{All_weaker}
 use Rattle.opa_model.specs.Lookups.{attribute_phrases, relation_phrases}
 use Rattle.opa_model.specs.Models.{IsModel}
 use Rattle.opa_verbs.specs.Phrasing.{IsReadable}
@@ -42,10 +43,6 @@ found_has {X} P p (y ∷ ys) h x e = go (p y) e (found_has P p ys (All-tail P y 
     go true e rec = subst P (let same : y ≡ x = cc e in same) (All-head P y ys h)
     go false e rec = rec e
 
-weaker : {X : Type 0} (P Q : X → Type 0) → ((x : X) → P x → Q x) → (xs : List X) → All P xs → All Q xs
-weaker P Q f [] h = All-nil Q
-weaker P Q f (x ∷ xs) h = All-cons Q x xs (f x (All-head P x xs h)) (weaker P Q f xs (All-tail P x xs h))
-
 -- ---- blocks and files
 
 abbrev LineIsUtf8 : BlockLine → Type 0
@@ -82,7 +79,7 @@ module _ (sources : List SourceFile) (base : Rulebase) (texts : Each SourceIsTex
       let textual = blocks_textual is.blocks lines in
       let members = inferences_are_given_hold base.model is.blocks textual is.inferences is.are_inferred.inferences_are in
       let given = all_rules_are_given_hold base.model is.inferences members is.blocks textual (table_files 0 sources) base.rules is.are_rules in
-      weaker _ (λ (r : Rule). AreFine (constants r.expr)) (λ r h. rule_fine base.model r h) base.rules given
+      All_weaker _ (λ (r : Rule). AreFine (constants r.expr)) (λ r h. rule_fine base.model r h) base.rules given
 
   rules_stand : All HasLine base.rules
   rules_stand =

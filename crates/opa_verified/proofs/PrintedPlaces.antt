@@ -5,11 +5,11 @@ use Rattle.std.specs.List.{list_any}
 use Rattle.std.specs.Str.{IsUtf8, chars}
 use lib.Utf8.{scalar, scalars, encode}
 use Rattle.std.proofs.lemmas.Str.{IsUtf8-nil, IsUtf8-append, IsUtf8-encode, chars_past_char, chars-nil, scalars-chars}
+use Rattle.opa_io.proofs.Bools.{and_first, and_second}
 use Rattle.opa_model.specs.declared.ids.AttrId.{AttrId}
 use Rattle.opa_model.specs.declared.lists.Lists.{Lists}
 use Rattle.opa_words.specs.Characters.{is_control}
 use Rattle.opa_words.specs.Names.{printed_character, printed_characters, printed_name}
-use Rattle.opa_words.proofs.Letters.{left, right}
 use Rattle.opa_layout.specs.declared.block.Block.{Block}
 use Rattle.opa_layout.specs.declared.block.BlockLine.{BlockLine}
 use Rattle.opa_tree.specs.declared.rules.Rule.{Rule}
@@ -49,9 +49,9 @@ printed_scalar c h = go (is_control c)
 printed_quoted : (cs : List ℕ) → scalars cs ≡ true → CanBeQuoted (printed_characters cs)
 printed_quoted [] h = record { utf8 = IsUtf8-nil; plain = ap (list_any is_control) chars-nil }
 printed_quoted (c ∷ cs) h =
-    let more = printed_quoted cs (right (scalar c) (scalars cs) h) in
+    let more = printed_quoted cs (and_second (scalar c) (scalars cs) h) in
     let one = printed_character c in
-    let utf8 = IsUtf8-append (encode one) (printed_characters cs) (IsUtf8-encode one (printed_scalar c (left (scalar c) (scalars cs) h))) more.utf8 in
+    let utf8 = IsUtf8-append (encode one) (printed_characters cs) (IsUtf8-encode one (printed_scalar c (and_first (scalar c) (scalars cs) h))) more.utf8 in
     record {
       utf8 = utf8;
       plain = ap (list_any is_control) (chars_past_char (encode one ++ printed_characters cs) (printed_characters cs) one utf8 refl) ∙ ap (λ t. t || list_any is_control (chars (printed_characters cs))) (printed_plain c) ∙ more.plain;

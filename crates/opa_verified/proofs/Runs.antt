@@ -1,5 +1,5 @@
 -- What is held in a run or an interview can be printed, and the reports that are printed there are verified.
-use Rattle.std.proofs.Common.{◌≡◌, ◌∙◌, inl, inr, ◌<◌, ℕ, true, false, List, [], ◌∷◌, Option, None, Some, Result, Ok, Err, refl, sym, ap, subst}
+use Rattle.std.proofs.Common.{◌≡◌, ◌∙◌, inl, inr, ◌<◌, ℕ, true, List, [], ◌∷◌, Option, None, Some, Result, Ok, Err, refl, sym, ap, subst}
 use Rattle.std.specs.Prelude.{MatchResult, map, ◌+◌}
 use Rattle.opa_io.specs.Outside.{Files}
 use Rattle.opa_case.specs.Cases.{CaseView}
@@ -34,13 +34,13 @@ use Rattle.opa_script.specs.Laws.{IsInRange, IsWellFormed}
 use Rattle.opa_script.proofs.LawsHold.{refused_or_read_holds}
 use Rattle.opa_script.proofs.OneCommand.{one_command_holds}
 use Rattle.opa_script.proofs.Ranges.{command_in_range}
-use Rattle.opa_script.proofs.ReplyLaws.{one_reply_holds, refused_or_replied_holds, reply_in_range}
+use Rattle.opa_script.proofs.ReplyLaws.{reply_in_range}
 use Rattle.opa_talk.specs.Transcript.{Rule, Prints}
 use Rattle.opa_told.specs.Reports.{IsReportTold}
 use Rattle.opa_tree.specs.declared.rulebase.Rulebase.{Rulebase}
 use Rattle.opa_reply.specs.Held.{Held, held, at_first, with_files, with_hearers}
-use Rattle.opa_reply.specs.Interviews.{is_long_reply, RepliesTo, RepliesNotTo, Tells as Asked, TellsNothing as AskedNothing, interview}
-use Rattle.opa_reply.specs.Lines.{text_of, is_too_long}
+use Rattle.opa_reply.specs.Interviews.{RepliesTo, Tells as Asked, TellsNothing as AskedNothing, interview}
+use Rattle.opa_reply.specs.Lines.{text_of}
 use Rattle.opa_reply.specs.Loads as loads
 use Rattle.opa_reply.specs.Loads.{Loads, LoadsBytes}
 use Rattle.opa_reply.specs.Refused.{refused_change}
@@ -50,6 +50,7 @@ use Rattle.opa_proof.specs.Telling.{Tells, supported_line}
 use Rattle.opa_proof.specs.declared.verdict.Verdict.{Verdict}
 use Rattle.opa_proof.proofs.Renamed.{reports_get_yes_holds, reports_are_supported_holds, reports_tell_values_hold}
 use Rattle.opa_proof.proofs.Saying.{told_judges}
+use Rattle.opa_reply.proofs.OneReply.{one_said, said_or_not, never_long, never_too_long}
 use Rattle.opa_verified.specs.Laws.{IsHeldBy, IsVerified, HeldIsPrintable, ReportsAreVerified}
 use Rattle.opa_verified.proofs.CleanCases.{HasClean, clean_printable, nothing_clean, step_leaves_clean}
 use Rattle.opa_verified.proofs.CleanCommands.{IsCleanCommand, command_clean, reply_clean}
@@ -190,12 +191,8 @@ module _ (Says : Held → List ℕ → Command → Type 0) (SaysNothing : Held �
 
 -- ---- runs
 
--- a line isn't both too long and not
-not_both : {T : Type 0} (line : List ℕ) → is_too_long line ≡ true → is_too_long line ≡ false → T
-not_both line long short = let no : true ≡ false = sym long ∙ short in absurd (cc no)
-
 asks_something : (x : Held) (line : List ℕ) (c : Command) (f : CmdFault) → Asks x line c → AsksNothing x line f → f ≡ fault.NoMemory
-asks_something x line c f h (inl k) = not_both line k.0 h.0
+asks_something x line c f h (inl k) = never_too_long line k.0 h.0
 asks_something x line c f h (inr k) = refused_or_read_holds x.rules.model (text_of line) c f h.1 k.1
 
 commands_say : Sayings Asks AsksNothing
@@ -214,9 +211,6 @@ run_reports_hold = verified Asks AsksNothing commands_say conversation (λ x y l
 
 -- ---- interviews
 
-not_both_long : {T : Type 0} (line : List ℕ) → is_long_reply line ≡ true → is_long_reply line ≡ false → T
-not_both_long line long short = let no : true ≡ false = sym long ∙ short in absurd (cc no)
-
 is_asked : (m : Lists) (q : Question) → IsDeclared m q → HasAsked m q
 is_asked m (question.Attr a i) h = h
 is_asked m (question.Members r i) h = h
@@ -229,16 +223,8 @@ reply_is_clean : (m : Lists) (o : Option Question) (text : List ℕ) (k : Comman
 reply_is_clean m None text k h formed = subst IsCleanCommand (sym h) tt
 reply_is_clean m (Some q) text k h formed = reply_clean m q text k h formed
 
-one_said : (m : Lists) → IsModel m → (o : Option Question) (text : List ℕ) (c d : Command) → IsWellFormed c → IsWellFormed d → RepliesTo m o text c → RepliesTo m o text d → c ≡ d
-one_said m is None text c d wc wd h k = h ∙ sym k
-one_said m is (Some q) text c d wc wd h k = one_reply_holds m is q text c d wc wd h k
-
-said_or_not : (m : Lists) (o : Option Question) (text : List ℕ) (c : Command) (f : CmdFault) → RepliesTo m o text c → RepliesNotTo m o text f → f ≡ fault.NoMemory
-said_or_not m None text c f h k = absurd k
-said_or_not m (Some q) text c f h k = refused_or_replied_holds m q text c f h k
-
 says_something : (x : Held) (line : List ℕ) (c : Command) (f : CmdFault) → Asked x line c → AskedNothing x line f → f ≡ fault.NoMemory
-says_something x line c f h (inl k) = not_both_long line k.0 h.0
+says_something x line c f h (inl k) = never_long line k.0 h.0
 says_something x line c f h (inr k) = said_or_not x.rules.model (next_of x.rules x.case) (text_of line) c f h.1 k.1
 
 replies_say : Sayings Asked AskedNothing

@@ -1,15 +1,12 @@
 -- A text is cut before and behind an ASCII character.
-use Rattle.std.proofs.Common.{◌≡◌, ◌∙◌, ℕ, suc, ◌+◌, ◌<◌, List, [], ◌∷◌, ◌++◌, length, take, drop, get_or, refl, sym, ap, subst, arith, length-append}
+use Rattle.std.proofs.Common.{◌≡◌, ◌∙◌, ℕ, suc, ◌+◌, ◌<◌, List, [], ◌∷◌, ◌++◌, length, drop, get_or, refl, sym, ap, subst, arith, length-append}
 use Rattle.std.specs.Str.{IsUtf8}
 use Rattle.std.proofs.lemmas.Str.{IsUtf8-take, IsUtf8-drop, IsCharBoundary-before_ascii, IsCharBoundary-after_ascii}
+use Rattle.opa_spelled.proofs.Cutting.{taken}
 
 at_seam : (xs : List ℕ) (b : ℕ) (ys : List ℕ) → get_or (xs ++ b ∷ ys) (length xs) 0 ≡ b
 at_seam [] b ys = refl
 at_seam (x ∷ xs) b ys = at_seam xs b ys
-
-taken : (xs ys : List ℕ) → take (length xs) (xs ++ ys) ≡ xs
-taken [] ys = refl
-taken (x ∷ xs) ys = ap (λ zs. x ∷ zs) (taken xs ys)
 
 dropped : (xs : List ℕ) (b : ℕ) (ys : List ℕ) → drop (suc (length xs)) (xs ++ b ∷ ys) ≡ ys
 dropped [] b ys = refl

@@ -5,7 +5,6 @@ use Rattle.std.specs.List.{slice_split, onto_first, AllByRecursion}
 use Rattle.std.specs.Str.{IsUtf8, bytes_eq}
 use Rattle.std.specs.Str.Lines.{strip_carriage_return}
 use lib.Utf8.{encode}
-use Rattle.std.proofs.lemmas.List.{length-drop}
 use Rattle.std.proofs.lemmas.List.Splits.{slice_split-cons_no, slice_split-cons_yes}
 use Rattle.std.proofs.lemmas.Slice.Eq.{bytes_eq-Decides}
 use Rattle.std.proofs.lemmas.Str.{IsUtf8-take, IsUtf8-past_char, IsCharBoundary-before_ascii}
@@ -14,7 +13,9 @@ use Rattle.opa_layout.specs.declared.block.BlockLine.{BlockLine}
 use Rattle.opa_layout.specs.Lines.{Row, numbered, without_mark, rows}
 use Rattle.opa_layout.specs.Indents.{is_passed, is_blank, past_blanks}
 use Rattle.opa_layout.specs.Blocks.{kept, line_of, block_lines}
+use Rattle.opa_layout.proofs.ShortLaws.{unmarked as unmarked_few}
 use Rattle.opa_verified.proofs.Seams.{before, behind}
+use Rattle.opa_verified.proofs.JsonStrings.{is_number}
 
 -- ---- parts between line feeds
 
@@ -30,16 +31,13 @@ onto_parts : (run : List ℕ) (b : ℕ) (ps : List (List ℕ)) → Parts (run ++
 onto_parts run b [] h = absurd h
 onto_parts run b (x ∷ xs) h = (subst IsUtf8 (append_assoc run (b ∷ []) x) h.0, h.1)
 
-is_small : (b n : ℕ) → (b == n) ≡ true → n < 128 → b < 128
-is_small b n h l = grind (arith, h, l)
-
 split_parts : (bs run : List ℕ) → IsUtf8 (run ++ bs) → Parts run (slice_split (λ b. b == 10) bs)
 split_parts [] run u = (u, tt)
 split_parts (b ∷ bs) run u = go (b == 10) refl (split_parts bs)
   where
     go : (t : Bool) → (b == 10) ≡ t → ((run : List ℕ) → IsUtf8 (run ++ bs) → Parts run (slice_split (λ b. b == 10) bs)) → Parts run (slice_split (λ b. b == 10) (b ∷ bs))
     go true e rec =
-        let small = is_small b 10 e (grind arith) in
+        let small = is_number b 10 e (grind arith) in
         let now : IsUtf8 (run ++ []) = subst IsUtf8 (sym (append-nil run)) (before run b bs small u) in
         subst (Parts run) (sym (slice_split-cons_yes (λ b. b == 10) b bs e)) (now, all_parts (slice_split (λ b. b == 10) bs) (rec [] (behind run b bs small u)))
     go false e rec =
@@ -69,7 +67,7 @@ shorn x false e u = u
 shorn [] true e u = u
 shorn (b ∷ x) true e u =
     let last : length (b ∷ x) - 1 < length (b ∷ x) = omega arith in
-    IsUtf8-take (b ∷ x) (length (b ∷ x) - 1) u (IsCharBoundary-before_ascii (b ∷ x) (length (b ∷ x) - 1) last (is_small (slice_index (b ∷ x) (length (b ∷ x) - 1)) 13 e (grind arith)))
+    IsUtf8-take (b ∷ x) (length (b ∷ x) - 1) u (IsCharBoundary-before_ascii (b ∷ x) (length (b ∷ x) - 1) last (is_number (slice_index (b ∷ x) (length (b ∷ x) - 1)) 13 e (grind arith)))
 
 stripped : (x : List ℕ) → IsUtf8 x → IsUtf8 (strip_carriage_return x)
 stripped x u = shorn x (slice_index x (length x - 1) == 13) refl u
@@ -102,10 +100,6 @@ without_mark_text bytes u = go (bytes_eq (take 3 bytes) (239 ∷ 187 ∷ 191 ∷
     go : (t : Bool) → bytes_eq (take 3 bytes) (239 ∷ 187 ∷ 191 ∷ []) ≡ t → IsUtf8 (cond t (drop 3 bytes) bytes)
     go true e = unmarked bytes e u
     go false e = u
-
-unmarked_few : (x : List ℕ) (t : Bool) → length (cond t (drop 3 x) x) ≤ length x
-unmarked_few x true = omega (arith, length-drop 3 x)
-unmarked_few x false = omega arith
 
 pub rows_are_texts : (bytes : List ℕ) → IsUtf8 bytes → length bytes ≤ MOST_FILE → AllByRecursion RowIsText (rows bytes)
 rows_are_texts bytes u l =

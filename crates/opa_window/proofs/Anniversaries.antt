@@ -1,6 +1,6 @@
 -- The years from a day, anniversary by anniversary.
 use Rattle.std.proofs.Common.{◌≡◌, inl, inr, ℕ, ◌+◌, ◌-◌, ◌<◌, ◌≤◌, List, Option, Some, refl, sym, ap, subst, ◌∙◌, arith, ℤ, pos, ◌+ℤ◌, ◌≤ℤ◌}
-use Rattle.std.specs.Prelude.{Result, Ok, Err, OnOk, min, unwrap_or, negsuc, ◌-ℤ◌}
+use Rattle.std.specs.Prelude.{min, unwrap_or, negsuc, ◌-ℤ◌}
 use Rattle.std.proofs.lemmas.Bool.{cases_lt, lt-ltb, le-ltb, lt-leb}
 use Rattle.opa_date.specs.declared.TheConstants.{DAYS}
 use Rattle.opa_date.specs.Gregorian.{date_of}
@@ -34,10 +34,6 @@ module _ (n : ℕ) where
     pub told : IsYearsBetween n new.0 years
     pub turns : next ≡ min (years_later n (years + 1)) DAYS
     pub done : Reaches old new.0 since new
-
-pub on_ok_weaker : {T E : Type 0} (r : Result T E) (P Q : Type 0) → (P → Q) → OnOk r P → OnOk r Q
-on_ok_weaker (Ok _) P Q f p = f p
-on_ok_weaker (Err _) P Q f p = p
 
 distance : (a b z : ℤ) → z ≡ b -ℤ a → a ≤ℤ b → (k : ℕ) × (b ≡ a +ℤ pos k)
 distance a b (pos k) is le = (k, grind (arith, is))

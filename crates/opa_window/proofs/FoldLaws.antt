@@ -1,5 +1,5 @@
 -- The greatest, the least and the longest run are what their names say.
-use Rattle.std.proofs.Common.{◌≡◌, ◌⊎◌, inl, inr, ℕ, zero, suc, ◌+◌, ◌<◌, ◌≤◌, Bool, true, false, List, [], ◌∷◌, ◌++◌, length, map, refl, sym, ◌∙◌, ap, subst, arith, ℤ, ◌≤ℤ◌}
+use Rattle.std.proofs.Common.{◌≡◌, ◌⊎◌, inl, inr, ℕ, zero, suc, ◌+◌, ◌<◌, ◌≤◌, Bool, true, false, List, [], ◌∷◌, ◌++◌, length, map, refl, sym, ◌∙◌, ap, subst, arith, ℤ, ◌≤ℤ◌, ltb-false}
 use Rattle.std.specs.Prelude.{max, int_lt, nat_lt, slice_index_or, if◌then◌else◌}
 use Rattle.std.specs.List.{Contains}
 use Rattle.std.proofs.lemmas.Bool.{cases_lt}
@@ -76,19 +76,16 @@ le_same x = grind arith
 nat_true : (x y : ℕ) → nat_lt x y ≡ true → x ≤ y
 nat_true x y e = grind (arith, e)
 
-nat_false : (x y : ℕ) → nat_lt x y ≡ false → y ≤ x
-nat_false x y e = grind (arith, e)
-
 pub greatest_is_greatest : GreatestIsGreatest
 greatest_is_greatest = (
   best_is value.Num is_less (λ i j. i ≤ℤ j) lt_true lt_false le_same le_chain,
-  best_is value.Day is_less (λ i j. i ≤ j) nat_true nat_false (λ x. omega arith) (λ x y z h k. omega arith),
+  best_is value.Day is_less (λ i j. i ≤ j) nat_true ltb-false (λ x. omega arith) (λ x y z h k. omega arith),
 )
 
 pub least_is_least : LeastIsLeast
 least_is_least = (
   best_is value.Num is_more (λ i j. j ≤ℤ i) (λ x y e. lt_true y x e) (λ x y e. lt_false y x e) le_same (λ x y z h k. le_chain z y x k h),
-  best_is value.Day is_more (λ i j. j ≤ i) (λ x y e. nat_true y x e) (λ x y e. nat_false y x e) (λ x. omega arith) (λ x y z h k. omega arith),
+  best_is value.Day is_more (λ i j. j ≤ i) (λ x y e. nat_true y x e) (λ x y e. ltb-false y x e) (λ x. omega arith) (λ x y z h k. omega arith),
 )
 
 -- the true values in front are a run

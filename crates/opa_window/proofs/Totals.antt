@@ -3,15 +3,10 @@ use Rattle.std.proofs.Common.{◌≡◌, ℕ, zero, suc, ◌+◌, ◌-◌, ◌*�
 use Rattle.std.specs.Prelude.{ℤ, pos, negsuc, ◌*ℤ◌, ◌+ℤ◌, neg_ℤ, ◌≤ℤ◌}
 use Rattle.std.proofs.Math.IntN.{+ℤ_assoc, +ℤ_comm, +ℤ_idl, zero-*ℤ, suc_ℤ-*ℤ, pos-*ℤ-pos, pos-*ℤ-negsuc}
 use Rattle.std.proofs.Math.Nat.{mul-le-mul_left, add-mul}
+use Rattle.opa_io.proofs.Numbers.{sum_above, sum_below}
 use Rattle.opa_value.specs.declared.value.Value.{Value}
 use Rattle.opa_window.specs.Folds.{count_of, total}
 use Rattle.opa_window.specs.Runs.{day_count, times, spread}
-
-lower : (a b : ℕ) (x y : ℤ) → (neg_ℤ (pos a) ≤ℤ x) → (neg_ℤ (pos b) ≤ℤ y) → (neg_ℤ (pos (a + b)) ≤ℤ (x +ℤ y))
-lower a b x y h k = grind (arith, h, k)
-
-upper : (a b : ℕ) (x y : ℤ) → (x ≤ℤ pos a) → (y ≤ℤ pos b) → ((x +ℤ y) ≤ℤ pos (a + b))
-upper a b x y h k = grind (arith, h, k)
 
 total_times : (n : ℕ) (v : Value) (rest : List Value) → total (times n v ++ rest) ≡ (pos n *ℤ count_of v) +ℤ total rest
 total_times zero v rest = sym (ap (λ z. z +ℤ total rest) (zero-*ℤ (count_of v)) ∙ +ℤ_idl (total rest))
@@ -52,6 +47,6 @@ module _ (B : ℕ) where
       record {
         fewer = omega (arith, f);
         whole_sum = ap (λ z. z +ℤ total (spread new)) (next ∙ ap (λ z. sum +ℤ z) value) ∙ +ℤ_assoc sum (pos n *ℤ count_of v) (total (spread new)) ∙ t;
-        below = rw (← k) (rw next (lower ((day_count whole - (n + day_count new)) * B) (n * B) sum more below lo));
-        above = rw (← k) (rw next (upper ((day_count whole - (n + day_count new)) * B) (n * B) sum more above hi));
+        below = rw (← k) (rw next (sum_above ((day_count whole - (n + day_count new)) * B) (n * B) sum more below lo));
+        above = rw (← k) (rw next (sum_below ((day_count whole - (n + day_count new)) * B) (n * B) sum more above hi));
       }

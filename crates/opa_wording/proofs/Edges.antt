@@ -4,6 +4,7 @@ use Rattle.std.specs.Prelude.{codes, not, ◌||◌, ◌==◌, if◌then◌else�
 use Rattle.std.specs.List.{list_any, list_all}
 use Rattle.std.specs.Str.{chars, bytes_eq}
 use Rattle.std.proofs.lemmas.Slice.Eq.{bytes_eq-Decides}
+use Rattle.opa_io.proofs.Lists.{length_map}
 use Rattle.opa_value.specs.declared.value.Value.{Value}
 use Rattle.opa_value.specs.declared.value.Value.TheVariants as value
 use Rattle.opa_value.specs.NumberText.{plain_text}
@@ -16,11 +17,10 @@ use Rattle.opa_words.specs.declared.kinds.TokenKind.{TokenKind}
 use Rattle.opa_words.specs.declared.kinds.TokenKind.TheVariants as kind
 use Rattle.opa_words.specs.Kinds.{IsToken}
 use Rattle.opa_words.specs.Reserved.{is_ending, is_word_kind}
-use Rattle.opa_words.proofs.Letters.{starts, Starts, token_starts}
+use Rattle.opa_words.proofs.Letters.{starts, Starts, token_starts, none_of}
 use Rattle.opa_words.specs.Pieces.{Piece, IsPiece, word, symbol, number, date, text}
 use Rattle.opa_words.specs.Written.{Written, AreWritten, joined}
 use Rattle.opa_words.proofs.Ascii.{ascii_chars}
-use Rattle.opa_words.proofs.Separate.{none_of}
 use Rattle.opa_text.specs.Laws.{CanBeWritten}
 use Rattle.opa_text.specs.Texts.{bool_text}
 use Rattle.opa_tree.specs.declared.kinds.OpKind.{OpKind}
@@ -33,7 +33,7 @@ use Rattle.opa_wording.specs.Signs.{is_infix, op_piece, quant_text, window_text,
 use Rattle.opa_wording.specs.Wordings.{Wording, token, bracketed, together, placed, part, separator, alike, apart, call, denial, operation, literal, signed, phrase, phrase_word, words_from, phrase_of_attribute, listed, over_days, date_text, wording}
 use Rattle.opa_wording.specs.Grammatical.{IsGrammatical, AreGrammatical}
 use Rattle.opa_wording.specs.Grammatical as tree
-use Rattle.opa_wording.proofs.TreesWell.{literal_well, some_operands, mapped_length}
+use Rattle.opa_wording.proofs.TreesWell.{literal_well, some_operands}
 use Rattle.opa_wording.proofs.WordingLaws.{wording-Const, wording-Attr, wording-All, wording-Any, wording-Not, wording-Op, wording-Certain, wording-Known, wording-Over, wording-Window, wording-Rolling}
 
 -- ---- the first token
@@ -212,7 +212,7 @@ module _ (m : Lists) (phrases : PhrasesEnd m) where
     tree_edged (tree.IsGrammatical.not e h) = subst HasEdges (sym (wording-Not m e)) (denial_edges (wording m e) (tree_edged h))
     tree_edged (tree.IsGrammatical.operation k es r l hs) =
         let some = some_operands k in
-        subst HasEdges (sym (wording-Op m k es)) (operation_edges k (map (wording m) es) some.0 (mapped_length (wording m) es ∙ l ∙ some.1) (trees_edged hs))
+        subst HasEdges (sym (wording-Op m k es)) (operation_edges k (map (wording m) es) some.0 (length_map (wording m) es ∙ l ∙ some.1) (trees_edged hs))
     tree_edged (tree.IsGrammatical.round e z range h) =
         let es : List Expr = e ∷ V.Const (value.Num (pos z)) ∷ [] in
         subst HasEdges (sym (wording-Op m op.Round es)) (operation_edges op.Round (map (wording m) es) 1 refl (tree_edged h, (literal_edged (value.Num (pos z)) (range, tt), tt)))

@@ -4,7 +4,7 @@ use Rattle.std.specs.Prelude.{codes, ◌&&◌, nat_lt, if◌then◌else◌}
 use Rattle.std.specs.Option.{option_map}
 use Rattle.std.specs.List.{list_all, position_or_len}
 use Rattle.std.specs.Str.{IsUtf8, bytes_eq}
-use Rattle.std.proofs.lemmas.Bool.{and_parts}
+use Rattle.std.proofs.lemmas.Bool.{and_parts, not-true}
 use Rattle.std.proofs.lemmas.Option.{slice_get_within}
 use Rattle.std.proofs.lemmas.Slice.Eq.{bytes_eq-Decides}
 use Rattle.opa_model.specs.declared.ids.AttrId.{AttrId}
@@ -31,7 +31,7 @@ use Rattle.opa_wording.specs.Laid.{ended, equated, phrase_words}
 use Rattle.opa_wording.specs.Told.{told, all_told}
 use Rattle.opa_wording.specs.Wordings.{token, phrase, phrase_of_attribute, words_from}
 use Rattle.opa_wording.proofs.Edges.{EndsPlainly, plainly_after, no_ending, token_plain, PhrasesEnd}
-use Rattle.opa_wording.proofs.PhrasePieces.{AreWordPieces, behind, split, of_tokens, text_led, IsLed, phrase_split, not_true}
+use Rattle.opa_wording.proofs.PhrasePieces.{AreWordPieces, behind, split, of_tokens, text_led, IsLed, phrase_split}
 use Rattle.opa_wording.proofs.ReadableModels.{attribute_held}
 use Rattle.opa_wording.proofs.WordsFound.{joined_texts}
 use Rattle.opa_wording.proofs.Foremost.{AllDiffer, one_place}
@@ -60,7 +60,7 @@ phrase_ends : (text : List ℕ) → IsUtf8 text → IsPhrase text → (s : Bool)
 phrase_ends text u h s =
     let most = and_parts (begins_well text h.tokens && list_all (λ (t : Token). is_phrase_kind t.kind) h.tokens) (not (ends_badly text h.tokens)) h.phrase in
     let parts = and_parts (begins_well text h.tokens) (list_all (λ (t : Token). is_phrase_kind t.kind) h.tokens) most.0 in
-    tokens_end text s h.tokens parts.0 (not_true (ends_badly text h.tokens) most.1) (of_tokens text h.tokens u (tokens_within text h.tokens u h.cut) (tokens_of_kind text h.tokens u h.cut) parts.1) h.spaced
+    tokens_end text s h.tokens parts.0 (not-true (ends_badly text h.tokens) most.1) (of_tokens text h.tokens u (tokens_within text h.tokens u h.cut) (tokens_of_kind text h.tokens u h.cut) parts.1) h.spaced
 
 pub phrases_end : (m : Lists) → All IsPhrase (attribute_phrases m) → All IsUtf8 (attribute_phrases m) → PhrasesEnd m
 phrases_end m p u a has s = phrase_ends (phrase_of_attribute (attribute_at m a)) (attribute_held IsUtf8 m.attributes a.0 has u) (attribute_held IsPhrase m.attributes a.0 has p) s

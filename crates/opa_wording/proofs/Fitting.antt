@@ -1,14 +1,14 @@
 -- Readings of trees that are within the limits are kept.
-use Rattle.std.proofs.Common.{◌≡◌, ◌≤◌, ◌+◌, ℕ, List, [], ◌∷◌, ◌++◌, map, max, Bool, true, false, not, Option, Some, None, option_map, refl, sym, ap, ap₂, subst, ◌∙◌, arith}
+use Rattle.std.proofs.Common.{◌≡◌, ◌≤◌, ◌+◌, ℕ, List, [], ◌∷◌, ◌++◌, map, max, Bool, true, false, not, Option, Some, None, option_map, refl, sym, ap, ap₂, subst, ◌∙◌, arith, le-leb}
 use Rattle.std.specs.Prelude.{◌&&◌, ◌||◌, nat_le, nat_lt, if◌then◌else◌}
+use Rattle.std.proofs.lemmas.Bool.{and_from}
 use Rattle.opa_tree.specs.declared.expr.Expr.{Expr}
 use Rattle.opa_tree.specs.declared.expr.Row.{Row}
 use Rattle.opa_tree.specs.declared.expr.Expr.TheVariants as V
 use Rattle.opa_tree.specs.declared.faults.RbKind.TheVariants as kind
 use Rattle.opa_tree.specs.Trees.{depth, highest, row_depth}
 use Rattle.opa_tree.proofs.DepthLaws.{depth-All, depth-Any, depth-Table}
-use Rattle.opa_tree.proofs.Folds.{fold-All, fold-Any, fold-Table, fold-of_row}
-use Rattle.opa_tree.specs.declared.expr.Expr.TheFolds.{fold-Row}
+use Rattle.opa_tree.proofs.Folds.{fold-All, fold-Any, fold-Table}
 use Rattle.opa_sentence.specs.declared.measure.Measure.{Measure}
 use Rattle.opa_io.specs.declared.limits.TheConstants.{MOST_DEPTH, MOST_NODES, MOST_NESTING}
 use Rattle.opa_sentence.specs.declared.names.Names.{Names}
@@ -22,6 +22,7 @@ use Rattle.opa_sentence.specs.Measures.{nodes, nodes_step, nodes_row, total, bes
 use Rattle.opa_sentence.specs.Rows.{row_nodes}
 use Rattle.opa_sentence.specs.Readings as says
 use Rattle.opa_sentence.proofs.MeasureLaws.{is_measured_holds}
+use Rattle.opa_sentence.proofs.SizeLaws.{rows_wide}
 use Rattle.opa_parse.specs.declared.group.Cases.{Cases}
 use Rattle.opa_parse.specs.declared.group.Joint.TheVariants as joint
 use Rattle.opa_parse.specs.declared.group.Joint.{Joint}
@@ -44,12 +45,6 @@ pub record IsKept (m : Measure) (d n : ℕ) : Type 0 where
 abbrev pub IsSmall : ℕ → ℕ → Type 0
 IsSmall d n = (d ≤ MOST_DEPTH) × (n ≤ MOST_NODES)
 
-true_both : (a b : Bool) → a ≡ true → b ≡ true → (a && b) ≡ true
-true_both a b p q = ap (λ x. x && b) p ∙ q
-
-le_true : (n k : ℕ) → n ≤ k → nat_le n k ≡ true
-le_true n k h = grind (arith, h)
-
 pub kept_capped : (m : Measure) (d n : ℕ) → IsKept m d n → IsSmall d n → IsKept (capped m) d n
 kept_capped m d n h s = record {
   named = h.named;
@@ -63,14 +58,14 @@ pub kept_fits : (m : Measure) (d n : ℕ) → IsKept m d n → IsSmall d n → f
 kept_fits m d n h s =
     let deep : m.depth ≤ MOST_DEPTH = omega (arith, h.depth, s.0) in
     let wide : m.nodes ≤ MOST_NODES = omega (arith, h.nodes, s.1) in
-    true_both (m.named && m.short) (nat_le m.depth MOST_DEPTH && (nat_le m.nodes MOST_NODES && nat_le m.nesting MOST_NESTING)) (true_both m.named m.short h.named h.short)
-    (true_both (nat_le m.depth MOST_DEPTH) (nat_le m.nodes MOST_NODES && nat_le m.nesting MOST_NESTING) (le_true m.depth MOST_DEPTH deep)
-    (true_both (nat_le m.nodes MOST_NODES) (nat_le m.nesting MOST_NESTING) (le_true m.nodes MOST_NODES wide) (le_true m.nesting MOST_NESTING h.nesting)))
+    and_from (m.named && m.short) (nat_le m.depth MOST_DEPTH && (nat_le m.nodes MOST_NODES && nat_le m.nesting MOST_NESTING)) (and_from m.named m.short h.named h.short)
+    (and_from (nat_le m.depth MOST_DEPTH) (nat_le m.nodes MOST_NODES && nat_le m.nesting MOST_NESTING) (le-leb m.depth MOST_DEPTH deep)
+    (and_from (nat_le m.nodes MOST_NODES) (nat_le m.nesting MOST_NESTING) (le-leb m.nodes MOST_NODES wide) (le-leb m.nesting MOST_NESTING h.nesting)))
 
 kept_beside : (m k : Measure) (d n e o : ℕ) → IsKept m d n → IsKept k e o → IsKept (beside m k) (max d e) (n + o)
 kept_beside m k d n e o h g = record {
-  named = true_both m.named k.named h.named g.named;
-  short = true_both m.short k.short h.short g.short;
+  named = and_from m.named k.named h.named g.named;
+  short = and_from m.short k.short h.short g.short;
   depth = ap₂ max h.depth g.depth;
   nodes = ap₂ (λ a b. a + b) h.nodes g.nodes;
   nesting = omega (arith, h.nesting, g.nesting);
@@ -242,11 +237,6 @@ case_said cs rows v c r k hv hc small =
       kept = whole;
       unmarked = ap₂ (λ (a b : List Mark). a ++ (b ++ c.marks)) k.unmarked hv.unmarked ∙ hc.unmarked;
     }
-
-rows_wide : (rows : List Row) → map (fold-Row ℕ ℕ nodes_step nodes_row) rows ≡ map row_nodes rows
-unfolding nodes
-rows_wide [] = refl
-rows_wide (r ∷ rows) = ap (λ d. d ∷ map (fold-Row ℕ ℕ nodes_step nodes_row) rows) (fold-of_row ℕ ℕ nodes_step nodes_row r) ∙ ap (λ ds. row_nodes r ∷ ds) (rows_wide rows)
 
 pub nodes-Table : (rows : List Row) (last : Expr) → nodes (V.Table rows last) ≡ 1 + (all_row_nodes rows + nodes last)
 unfolding nodes

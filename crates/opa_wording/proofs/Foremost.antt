@@ -1,32 +1,14 @@
 -- The phrase that is the longest at the front of lexemes.
-use Rattle.std.proofs.Common.{◌≡◌, ◌≢◌, ◌<◌, ◌≤◌, ◌+◌, ℕ, zero, suc, List, [], ◌∷◌, length, Bool, true, false, cond, Some, None, slice_get, refl, sym, ap, subst, ◌∙◌, arith}
+use Rattle.std.proofs.Common.{◌≡◌, ◌≢◌, ◌<◌, ◌≤◌, ◌+◌, ℕ, zero, suc, List, [], length, Bool, true, false, Some, None, slice_get, refl, sym, ap, subst, ◌∙◌, arith}
 use Rattle.std.specs.Prelude.{nat_lt, AllPairs}
 use Rattle.std.specs.Option.{option_map, option_or}
-use Rattle.std.specs.Str.{bytes_eq}
 use Rattle.std.proofs.lemmas.Option.{slice_get_within, get_or_from_slice_get}
-use Rattle.std.proofs.lemmas.Slice.Eq.{bytes_eq-Decides}
 use Rattle.opa_words.specs.Phrases.{first_position}
 use Rattle.opa_sentence.specs.Lexemes.{Lexeme}
 use Rattle.opa_sentence.specs.Phrases.{front_text, phrase_at, longest_within, longest}
+use Rattle.opa_sentence.proofs.LongestLaws.{first_at, no_first}
 
 -- ---- where a text stands
-
-pub first_place : (t : List ℕ) (k : ℕ) (ps : List (List ℕ)) (i : ℕ) → slice_get ps i ≡ Some t → ((j : ℕ) → j < i → slice_get ps j ≡ Some t → ⊥) → first_position t k ps ≡ Some (k + i)
-first_place t k [] i at none = absurd (cc at)
-first_place t k (p ∷ ps) zero at none = ap (λ b. cond b (Some k) (first_position t (k + 1) ps)) ((bytes_eq-Decides t p).1 (let e : p ≡ t = cc at in sym e)) ∙ ap (λ n. Some n) (let e : k ≡ k + 0 = omega arith in e)
-first_place t k (p ∷ ps) (suc i) at none = go (bytes_eq t p) refl (first_place t (k + 1) ps i at (λ j below h. none (suc j) (omega (arith, below)) h))
-  where
-    go : (b : Bool) → bytes_eq t p ≡ b → first_position t (k + 1) ps ≡ Some (k + 1 + i) → cond b (Some k) (first_position t (k + 1) ps) ≡ Some (k + suc i)
-    go true e r = absurd (none 0 (omega arith) (ap (λ x. Some x) (sym ((bytes_eq-Decides t p).0 e))))
-    go false e r = r ∙ ap (λ n. Some n) (let f : k + 1 + i ≡ k + suc i = omega arith in f)
-
-no_place : (t : List ℕ) (k : ℕ) (ps : List (List ℕ)) → ((j : ℕ) → slice_get ps j ≡ Some t → ⊥) → first_position t k ps ≡ None
-no_place t k [] none = refl
-no_place t k (p ∷ ps) none = go (bytes_eq t p) refl (no_place t (k + 1) ps (λ j h. none (suc j) h))
-  where
-    go : (b : Bool) → bytes_eq t p ≡ b → first_position t (k + 1) ps ≡ None → cond b (Some k) (first_position t (k + 1) ps) ≡ None
-    go true e r = absurd (none 0 (ap (λ x. Some x) (sym ((bytes_eq-Decides t p).0 e))))
-    go false e r = r
 
 -- where all differ, a text stands at one place
 abbrev pub AllDiffer : List (List ℕ) → Type 0
@@ -36,7 +18,7 @@ pub one_place : (ps : List (List ℕ)) → AllDiffer ps → (t : List ℕ) (i j 
 one_place ps h t i j at below other = h j i [] below (slice_get_within ps i t at) (get_or_from_slice_get ps j t [] other ∙ sym (get_or_from_slice_get ps i t [] at))
 
 pub place_of : (ps : List (List ℕ)) → AllDiffer ps → (t : List ℕ) (i : ℕ) → slice_get ps i ≡ Some t → first_position t 0 ps ≡ Some i
-place_of ps h t i at = first_place t 0 ps i at (λ j below other. one_place ps h t i j at below other) ∙ ap (λ n. Some n) (let e : 0 + i ≡ i = omega arith in e)
+place_of ps h t i at = first_at t 0 ps i at (λ j below other. one_place ps h t i j at below other) ∙ ap (λ n. Some n) (let e : 0 + i ≡ i = omega arith in e)
 
 -- ---- the longest
 
@@ -48,7 +30,7 @@ pub record IsForemost (ps : List (List ℕ)) (ts : List Lexeme) (i n : ℕ) : Ty
   pub no_more : (k : ℕ) → n < k → k ≤ length ts → (j : ℕ) → slice_get ps j ≡ Some (front_text k ts) → ⊥
 
 none_longer : (ps : List (List ℕ)) (ts : List Lexeme) (i n k : ℕ) → IsForemost ps ts i n → n < k → k ≤ length ts → phrase_at ps k ts ≡ None
-none_longer ps ts i n k h low high = ap (option_map (λ j. (j, k))) (no_place (front_text k ts) 0 ps (h.no_more k low high))
+none_longer ps ts i n k h low high = ap (option_map (λ j. (j, k))) (no_first (front_text k ts) 0 ps (h.no_more k low high))
 
 foremost_within : (ps : List (List ℕ)) (ts : List Lexeme) (i n : ℕ) → IsForemost ps ts i n → (k : ℕ) → n ≤ k → k ≤ length ts → longest_within ps k ts ≡ Some (i, n)
 foremost_within ps ts i n h zero low high = absurd (omega (arith, low, h.some))

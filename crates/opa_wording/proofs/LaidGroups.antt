@@ -17,6 +17,7 @@ use Rattle.opa_words.specs.Written.{Written, AreWritten, spaced}
 use Rattle.opa_sentence.specs.declared.names.Names.{Names}
 use Rattle.opa_sentence.specs.Grammar.{LINE}
 use Rattle.opa_sentence.specs.Measures.{nodes, total}
+use Rattle.opa_text.proofs.WrittenValues.{named_piece}
 use Rattle.opa_parse.specs.declared.group.Group.{Group}
 use Rattle.opa_parse.specs.declared.group.Joint.{Joint}
 use Rattle.opa_parse.specs.declared.group.Joint.TheVariants as joint
@@ -37,7 +38,7 @@ use Rattle.opa_wording.specs.Told.{all_told, SpellsTree, PhrasesAreRead, Phrases
 use Rattle.opa_wording.proofs.Edges.{EndsPlainly, PhrasesEnd, tree_edged}
 use Rattle.opa_wording.proofs.TreesWell.{tree_well}
 use Rattle.opa_wording.proofs.TreesSpelled.{lines_spell_trees_holds}
-use Rattle.opa_wording.proofs.TreesWritten.{word_piece, and_word, or_word}
+use Rattle.opa_wording.proofs.TreesWritten.{and_word, or_word}
 use Rattle.opa_wording.proofs.RuleTexts.{opened}
 use Rattle.opa_wording.proofs.Fitting.{IsSmallTree, AreSmall, IsSaid, AreSaid, line_said, one_said, more_said, several_said, joined_tree, joined_depth, joined_nodes}
 use Rattle.opa_wording.proofs.LaidWords.{plain_ending, word_ending, IsItem, item_line, tree_line}
@@ -81,8 +82,8 @@ connector joint.And = codes "and"
 connector joint.Or = codes "or"
 
 pub connector_piece : (j : Joint) → IsPiece (word (connector j))
-connector_piece joint.And = word_piece (codes "and") refl and_word
-connector_piece joint.Or = word_piece (codes "or") refl or_word
+connector_piece joint.And = named_piece (codes "and") refl and_word
+connector_piece joint.Or = named_piece (codes "or") refl or_word
 
 connector_ends : (j : Joint) → is_ending (connector j) ≡ true
 connector_ends joint.And = refl

@@ -13,13 +13,13 @@ use Rattle.opa_words.specs.Kinds.{is_word}
 use Rattle.opa_words.specs.Reserved.{is_reserved}
 use Rattle.std.proofs.lemmas.List.Elements.{All-from_recursion}
 use Rattle.std.specs.List.{AllByRecursion}
+use Rattle.opa_io.proofs.Bools.{and_first, and_second}
 use Rattle.opa_layout.specs.declared.block.BlockLine.{BlockLine}
 use Rattle.opa_layout.specs.declared.fault.LayoutFault.{LayoutFault}
 use Rattle.opa_layout.specs.Lines.{Row, numbered, rows_from, without_mark}
 use Rattle.opa_layout.specs.Indents.{is_blank, past_blanks, is_void, is_passed, levels, level, is_odd, has_odd_space}
 use Rattle.opa_layout.specs.Blocks.{line_of, kept, block_lines}
 use Rattle.opa_layout.specs.Faults.{is_over, is_astray, next_most, faults_from, layout_faults}
-use Rattle.opa_words.proofs.Letters.{left, right}
 use Rattle.opa_words.specs.Pieces.{Piece, IsPiece, word}
 use Rattle.opa_words.specs.Written.{Written, AreWritten, text_of}
 use Rattle.opa_words.proofs.Separate.{all_append}
@@ -54,12 +54,12 @@ no_return b h = grind (arith, h)
 
 no_feeds : (bs : List ℕ) → list_all unbroken bs ≡ true → AllByRecursion (λ b. (b == 10) ≡ false) bs
 no_feeds [] h = tt
-no_feeds (b ∷ bs) h = (no_feed b (left (unbroken b) (list_all unbroken bs) h), no_feeds bs (right (unbroken b) (list_all unbroken bs) h))
+no_feeds (b ∷ bs) h = (no_feed b (and_first (unbroken b) (list_all unbroken bs) h), no_feeds bs (and_second (unbroken b) (list_all unbroken bs) h))
 
 no_return_at : (bs : List ℕ) (i : ℕ) → list_all unbroken bs ≡ true → (get_or bs i 0 == 13) ≡ false
 no_return_at [] i h = refl
-no_return_at (b ∷ bs) zero h = no_return b (left (unbroken b) (list_all unbroken bs) h)
-no_return_at (b ∷ bs) (suc i) h = no_return_at bs i (right (unbroken b) (list_all unbroken bs) h)
+no_return_at (b ∷ bs) zero h = no_return b (and_first (unbroken b) (list_all unbroken bs) h)
+no_return_at (b ∷ bs) (suc i) h = no_return_at bs i (and_second (unbroken b) (list_all unbroken bs) h)
 
 unstripped : (bs : List ℕ) → list_all unbroken bs ≡ true → strip_carriage_return bs ≡ bs
 unstripped bs h = ap (λ b. cond b (take (length bs - 1) bs) bs) (no_return_at bs (length bs - 1) h)
@@ -248,7 +248,7 @@ front_three (a ∷ b ∷ c ∷ rest) e =
 
 word_first : (cs : List ℕ) → is_word cs ≡ true → (c : ℕ) (more : List ℕ) → slice_get (cs ++ more) 0 ≡ Some c → begins_word c ≡ true
 word_first [] h c more e = absurd (cc h)
-word_first (d ∷ cs) h c more e = subst (λ x. begins_word x ≡ true) (let same : d ≡ c = cc e in same) (left (begins_word d) (list_all continues_word cs) h)
+word_first (d ∷ cs) h c more e = subst (λ x. begins_word x ≡ true) (let same : d ≡ c = cc e in same) (and_first (begins_word d) (list_all continues_word cs) h)
 
 unmarked : (t more : List ℕ) → IsUtf8 t → is_word (chars t) ≡ true → without_mark (t ++ more) ≡ t ++ more
 unmarked t more u h = go (bytes_eq (take 3 (t ++ more)) (239 ∷ 187 ∷ 191 ∷ [])) refl

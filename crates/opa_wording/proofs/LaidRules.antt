@@ -40,6 +40,7 @@ use Rattle.opa_parse.specs.declared.block.Opening.TheVariants as opens
 use Rattle.opa_parse.specs.Openings.{opening, past_equals}
 use Rattle.opa_parse.specs.Phrasing.{IsReadable}
 use Rattle.opa_verbs.specs.Phrasing.{IsPhrase}
+use Rattle.opa_text.proofs.WrittenValues.{named_piece}
 use Rattle.opa_parse.specs.Sayings.{of_line, no_cases, with_case, tabled}
 use Rattle.opa_wording.specs.Grammatical.{IsGrammatical, AreGrammatical}
 use Rattle.opa_wording.specs.Grammatical as tree
@@ -59,7 +60,7 @@ use Rattle.opa_wording.proofs.PhrasesFound.{readable_is_read_holds, operands_dif
 use Rattle.opa_wording.proofs.ReadableModels.{readable_is_written_holds, attribute_held}
 use Rattle.opa_wording.proofs.RuleTexts.{opened}
 use Rattle.opa_wording.proofs.TreesWell.{tree_well, phrase_well}
-use Rattle.opa_wording.proofs.TreesWritten.{word_piece, sign_piece}
+use Rattle.opa_wording.proofs.TreesWritten.{sign_piece}
 
 if_word : is_word (codes "if") ≡ true
 unfolding ucd_derived
@@ -70,10 +71,10 @@ unfolding ucd_derived
 otherwise_word = refl
 
 pub if_piece : IsPiece (word (codes "if"))
-if_piece = word_piece (codes "if") refl if_word
+if_piece = named_piece (codes "if") refl if_word
 
 pub otherwise_piece : IsPiece (word (codes "otherwise"))
-otherwise_piece = word_piece (codes "otherwise") refl otherwise_word
+otherwise_piece = named_piece (codes "otherwise") refl otherwise_word
 
 equals_piece : IsPiece (symbol (codes "="))
 equals_piece = sign_piece (codes "=") refl refl

@@ -22,6 +22,7 @@ use Rattle.opa_parse.specs.declared.line.Ending.{Ending}
 use Rattle.opa_parse.specs.declared.line.Ending.TheVariants as ending
 use Rattle.opa_parse.specs.declared.line.Line.{Line}
 use Rattle.opa_parse.specs.Lines.{IsCut, IsLine, AreLines, ending_of, ending_word, body, is_none, head_of}
+use Rattle.opa_parse.proofs.WordLaws.{ending_at}
 use Rattle.opa_wording.specs.Laid.{Laid, at, ended, tree_words, block_line, block_from}
 use Rattle.opa_wording.specs.Limits.{LineFits}
 use Rattle.opa_wording.specs.Told.{told, all_told, SpellsTree}
@@ -63,11 +64,6 @@ pub told_append : (ws vs : List Written) → all_told (ws ++ vs) ≡ all_told ws
 told_append [] vs = refl
 told_append (w ∷ ws) vs = ap (λ ls. told w ∷ ls) (told_append ws vs)
 
-pub ending_last : (ts : List Lexeme) (t : Lexeme) → ending_of (ts ++ t ∷ []) ≡ ending_word t.text
-ending_last [] t = refl
-ending_last (u ∷ []) t = refl
-ending_last (u ∷ v ∷ ts) t = ending_last (v ∷ ts) t
-
 pub body_last : (ts : List Lexeme) (t : Lexeme) → body (ts ++ t ∷ []) ≡ (if is_ending t.text then ts else ts ++ t ∷ [])
 body_last [] t = refl
 body_last (u ∷ []) t = after (is_ending t.text)
@@ -100,7 +96,7 @@ pub record EndsWith (ws before : List Written) (e : Ending) : Type 0 where
 pub plain_ending : (ws : List Written) → EndsPlainly ws → EndsWith ws ws ending.Nothing
 plain_ending ws h =
     let words : all_told ws ≡ all_told h.before ++ told h.last ∷ [] = ap all_told h.is ∙ told_append h.before (h.last ∷ []) in record {
-      ending_is = ap ending_of words ∙ ending_last (all_told h.before) (told h.last) ∙ no_ending_word h.last.piece.text h.plain;
+      ending_is = ap ending_of words ∙ ending_at (all_told h.before) (told h.last) ∙ no_ending_word h.last.piece.text h.plain;
       body_is = ap body words ∙ body_last (all_told h.before) (told h.last) ∙ ap (λ b. if b then all_told h.before else all_told h.before ++ told h.last ∷ []) h.plain ∙ sym words;
     }
 
@@ -108,7 +104,7 @@ pub word_ending : (ws : List Written) (w : List ℕ) → is_ending w ≡ true �
 word_ending ws w h =
     let last : Lexeme = told (spaced (word w)) in
     let words : all_told (ended ws w) ≡ all_told ws ++ last ∷ [] = told_append ws (spaced (word w) ∷ []) in record {
-      ending_is = ap ending_of words ∙ ending_last (all_told ws) last;
+      ending_is = ap ending_of words ∙ ending_at (all_told ws) last;
       body_is = ap body words ∙ body_last (all_told ws) last ∙ ap (λ b. if b then all_told ws else all_told ws ++ last ∷ []) h;
     }
 

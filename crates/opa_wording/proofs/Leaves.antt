@@ -1,6 +1,6 @@
 -- Literals that are spelled as what they are.
-use Rattle.std.proofs.Common.{◌≡◌, ◌≤◌, ◌<◌, ℕ, suc, ℤ, pos, negsuc, ◌*◌, List, [], ◌∷◌, ◌++◌, Bool, true, false, cond, Some, None, refl, sym, ap, ◌∙◌, arith}
-use Rattle.std.specs.Prelude.{decimal, neg_ℤ, nat_le, nat_lt, ◌^◌, ◌/◌, ◌%◌, ◌==◌, take, if◌then◌else◌}
+use Rattle.std.proofs.Common.{◌≡◌, ◌≤◌, ◌<◌, ℕ, suc, ℤ, pos, negsuc, ◌*◌, List, [], ◌∷◌, ◌++◌, Bool, true, false, cond, Some, None, refl, sym, ap, ◌∙◌, arith, le-leb, lt-ltb}
+use Rattle.std.specs.Prelude.{decimal, neg_ℤ, ◌^◌, ◌/◌, ◌%◌, ◌==◌, take, if◌then◌else◌}
 use Rattle.std.specs.Int.RustNames.{unsigned_abs}
 use Rattle.std.specs.Option.{option_and_then}
 use Rattle.opa_value.specs.declared.value.Value.{Value}
@@ -32,20 +32,14 @@ use Rattle.opa_wording.proofs.Parts.{Says, IsSpelled, alike_spelled}
 pub number_read : (n : ℕ) → InRange (pos n) → number_in (plain_text (pos n)) ≡ Some (pos n)
 number_read n h = ap number_or_none (plain_back (pos n) h)
 
-le_true : (m n : ℕ) → m ≤ n → nat_le m n ≡ true
-le_true m n h = grind (arith, h)
-
 kept_is : (n : ℤ) → InRange n → kept n ≡ Some n
-kept_is n h = ap (λ b. cond b (Some n) None) (le_true (unsigned_abs n) most h)
+kept_is n h = ap (λ b. cond b (Some n) None) (le-leb (unsigned_abs n) most h)
 
 negative_read : (n : ℕ) → InRange (negsuc n) → negative_in (plain_text (pos (suc n))) ≡ Some (negsuc n)
 negative_read n h = ap (option_and_then (λ z. kept (neg_ℤ z))) (number_read (suc n) h) ∙ kept_is (negsuc n) h
 
-pub lt_true : (m n : ℕ) → m < n → nat_lt m n ≡ true
-lt_true m n h = grind (arith, h)
-
 day_read : (d : ℕ) → d < DAYS → day_in (date_text d) ≡ Some d
-day_read d h = ap day_in (ap (λ b. cond b (day_text d) []) (lt_true d DAYS h)) ∙ ap day_or_none (texts_are_read d h)
+day_read d h = ap day_in (ap (λ b. cond b (day_text d) []) (lt-ltb d DAYS h)) ∙ ap day_or_none (texts_are_read d h)
 
 -- ---- whole numbers
 

@@ -1,33 +1,18 @@
 -- The digits of a number are a token.
-use Rattle.std.proofs.Common.{◌≡◌, ◌<◌, ◌≤◌, ℕ, pos, List, [], ◌∷◌, ◌++◌, length, take, Bool, true, false, inl, inr, refl, sym, ap, subst, ◌∙◌, arith, append-nil, decimal}
+use Rattle.std.proofs.Common.{◌≡◌, ◌<◌, ◌≤◌, ℕ, pos, List, ◌++◌, length, take, false, inl, sym, ap, subst, ◌∙◌, arith, decimal}
 use Rattle.std.specs.Prelude.{◌-◌, ◌/◌, ◌%◌, ◌^◌}
-use Rattle.std.specs.Char.{is_ascii_digit}
 use Rattle.std.proofs.lemmas.Fmt.{decimal_nonempty, digits_decimal}
 use Rattle.opa_value.specs.Numbers.{InRange}
-use Rattle.opa_value.specs.NumberText.{plain_text, number_text, sign_text, behind_text, four_digits, decimals_needed, all_digits}
+use Rattle.opa_value.specs.NumberText.{plain_text, number_text, sign_text, behind_text, four_digits, decimals_needed}
 use Rattle.opa_value.proofs.Digits.{own}
 use Rattle.opa_value.proofs.ReadBack.{number_spelled, needed_shows}
 use Rattle.opa_words.specs.declared.kinds.TokenKind.TheVariants as kind
 use Rattle.opa_words.specs.Kinds.{IsNumber}
-use Rattle.opa_words.proofs.Letters.{left}
 use Rattle.opa_words.specs.Pieces.{IsPiece, number}
 use Rattle.opa_words.proofs.Ascii.{is_ascii}
 use Rattle.opa_words.proofs.LawsHold.{ascii_is_token_holds}
 use Rattle.opa_words.proofs.Separate.{all_wider, numeric, number_numeric}
-
-numeric_ascii : (c : ℕ) → numeric c ≡ true → is_ascii c ≡ true
-numeric_ascii c h = grind (arith, h)
-
-behind_digits : (ds : List ℕ) (whole : List ℕ) → all_digits whole ≡ true → 0 < length whole → all_digits ds ≡ true → length ds ≤ 4 → IsNumber (whole ++ behind_text ds)
-behind_digits [] whole w n h m = subst IsNumber (sym (append-nil whole)) (inl (w, n))
-behind_digits (d ∷ ds) whole w n h m = inr (whole, d ∷ ds, (w, n), (h, omega arith), m, refl)
-
-sign_first : (b : Bool) (whole rest : List ℕ) (t : List ℕ) → all_digits t ≡ true → 0 < length t → (more : List ℕ) → t ++ more ≡ sign_text b ++ (whole ++ rest) → b ≡ false
-sign_first false whole rest t h n more e = refl
-sign_first true whole rest [] h n more e = absurd (omega (arith, n))
-sign_first true whole rest (c ∷ t) h n more e =
-    let f : c ≡ 45 = cc e in
-    absurd (let g : is_ascii_digit 45 ≡ true = subst (λ x. is_ascii_digit x ≡ true) f (left (is_ascii_digit c) (all_digits t) h) in cc g)
+use Rattle.opa_text.proofs.WrittenValues.{numeric_ascii, behind_digits, sign_first}
 
 digits_number : (k size : ℕ) → k ≤ 4 → size % 10 ^ (4 - k) ≡ 0 → InRange (pos size) → IsNumber (number_text k (pos size))
 unfolding number_text

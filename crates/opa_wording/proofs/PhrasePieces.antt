@@ -6,11 +6,12 @@ use Rattle.std.specs.Char.{is_ascii_digit}
 use Rattle.std.specs.Str.{chars, IsUtf8}
 use lib.Utf8.{encode, encodes, next}
 use lib.Dec.{ltb}
-use Rattle.std.proofs.lemmas.Bool.{and_parts}
+use Rattle.std.proofs.lemmas.Bool.{and_parts, and_from, not-true}
 use Rattle.std.proofs.lemmas.List.Elements.{All-head, All-tail}
 use Rattle.std.proofs.lemmas.Str.{encode_ascii, encodes-chars, IsUtf8-between}
 use Rattle.ucd_derived.proofs.Computing.{ucd_derived}
 use Rattle.ucd_category.proofs.Computing.{ucd_category}
+use Rattle.opa_io.proofs.Bools.{and_first, and_second}
 use Rattle.opa_words.specs.declared.kinds.Token.{Token}
 use Rattle.opa_words.specs.declared.kinds.TokenKind.{TokenKind}
 use Rattle.opa_words.specs.declared.kinds.TokenKind.TheVariants as kind
@@ -18,11 +19,11 @@ use Rattle.opa_words.specs.Characters.{begins_word, continues_word, is_digit}
 use Rattle.opa_words.specs.Kinds.{is_word, IsNumber}
 use Rattle.opa_words.specs.Places.{IsWithin, IsOfKind, token_text}
 use Rattle.opa_words.specs.Reserved.{phrase_text, begins_well, ends_badly, is_phrase_kind, is_word_kind, is_reserved}
-use Rattle.opa_words.proofs.Letters.{left, right, both}
 use Rattle.opa_words.proofs.PlaceLaws.{tokens_within, tokens_of_kind}
 use Rattle.opa_words.specs.Pieces.{Piece, IsPiece, word, number, piece, pieces}
 use Rattle.opa_words.specs.Written.{Written, AreWritten, ends_before}
-use Rattle.opa_words.proofs.Separate.{none_of, all_append, numeric, number_numeric}
+use Rattle.opa_words.proofs.Separate.{all_append, numeric, number_numeric, all_wider}
+use Rattle.opa_words.proofs.Letters.{none_of}
 use Rattle.opa_verbs.specs.Phrasing.{IsPhrase}
 use Rattle.opa_wording.specs.Told.{is_sign}
 use Rattle.opa_wording.specs.Wordings.{token, phrase, phrase_word, words_from}
@@ -32,15 +33,11 @@ use Rattle.opa_wording.specs.Wordings.{token, phrase, phrase_word, words_from}
 abbrev pub not_space : ℕ → Bool
 not_space b = not (b == 32)
 
-pub not_true : (b : Bool) → not b ≡ true → b ≡ false
-not_true true h = absurd (cc h)
-not_true false h = refl
-
 pub skip : (s : Bool) (w bs more : List ℕ) → list_all not_space bs ≡ true → words_from s w (bs ++ more) ≡ words_from s (w ++ bs) more
 skip s w [] more h = ap (λ x. words_from s x more) (sym (append-nil w))
 skip s w (b ∷ bs) more h =
-    ap (λ c. cond c (token s (phrase_word w) ∷ words_from true [] (bs ++ more)) (words_from s (w ++ b ∷ []) (bs ++ more))) (not_true (b == 32) (left (not_space b) (list_all not_space bs) h))
-    ∙ skip s (w ++ b ∷ []) bs more (right (not_space b) (list_all not_space bs) h) ∙ ap (λ x. words_from s x more) (append_assoc w (b ∷ []) bs)
+    ap (λ c. cond c (token s (phrase_word w) ∷ words_from true [] (bs ++ more)) (words_from s (w ++ b ∷ []) (bs ++ more))) (not-true (b == 32) (and_first (not_space b) (list_all not_space bs) h))
+    ∙ skip s (w ++ b ∷ []) bs more (and_second (not_space b) (list_all not_space bs) h) ∙ ap (λ x. words_from s x more) (append_assoc w (b ∷ []) bs)
 
 -- a Word or a Number, as it stands in a phrase
 pub record IsWordPiece (p : Piece) : Type 0 where
@@ -83,18 +80,14 @@ first_letters_space : list_all (λ d. not (begins_word d)) (32 ∷ []) ≡ true
 unfolding ucd_derived
 first_letters_space = refl
 
-all_of : (p q : ℕ → Bool) (cs : List ℕ) → ((c : ℕ) → p c ≡ true → q c ≡ true) → list_all p cs ≡ true → list_all q cs ≡ true
-all_of p q [] f h = refl
-all_of p q (c ∷ cs) f h = both (q c) (list_all q cs) (f c (left (p c) (list_all p cs) h)) (all_of p q cs f (right (p c) (list_all p cs) h))
-
 word_unspaced : (cs : List ℕ) → is_word cs ≡ true → list_all not_space cs ≡ true
 word_unspaced [] h = refl
 word_unspaced (c ∷ cs) h =
-    both (not_space c) (list_all not_space cs) (space_not begins_word first_letters_space c (left (begins_word c) (list_all continues_word cs) h))
-    (all_of continues_word not_space cs (space_not continues_word letters_space) (right (begins_word c) (list_all continues_word cs) h))
+    and_from (not_space c) (list_all not_space cs) (space_not begins_word first_letters_space c (and_first (begins_word c) (list_all continues_word cs) h))
+    (all_wider continues_word not_space cs (space_not continues_word letters_space) (and_second (begins_word c) (list_all continues_word cs) h))
 
 number_unspaced : (cs : List ℕ) → IsNumber cs → list_all not_space cs ≡ true
-number_unspaced cs h = all_of numeric not_space cs (space_not numeric refl) (number_numeric cs h)
+number_unspaced cs h = all_wider numeric not_space cs (space_not numeric refl) (number_numeric cs h)
 
 -- ---- and their bytes
 
@@ -109,15 +102,15 @@ unfolding encode
 encode_unspaced c h = go (ltb c 128) (ltb c 2048) (ltb c 65536)
   where
     go : (x y z : Bool) → list_all not_space (cond x (c ∷ []) (cond y ((192 + c / 64) ∷ next c ∷ []) (cond z ((224 + c / 4096) ∷ next (c / 64) ∷ next c ∷ []) ((240 + c / 262144) ∷ next (c / 4096) ∷ next (c / 64) ∷ next c ∷ [])))) ≡ true
-    go true y z = both (not_space c) true h refl
-    go false true z = both (not_space (192 + c / 64)) (not_space (next c) && true) (not_low (192 + c / 64) (omega arith)) (both (not_space (next c)) true (next_high c) refl)
-    go false false true = both (not_space (224 + c / 4096)) (not_space (next (c / 64)) && (not_space (next c) && true)) (not_low (224 + c / 4096) (omega arith)) (both (not_space (next (c / 64))) (not_space (next c) && true) (next_high (c / 64)) (both (not_space (next c)) true (next_high c) refl))
-    go false false false = both (not_space (240 + c / 262144)) (not_space (next (c / 4096)) && (not_space (next (c / 64)) && (not_space (next c) && true))) (not_low (240 + c / 262144) (omega arith))
-        (both (not_space (next (c / 4096))) (not_space (next (c / 64)) && (not_space (next c) && true)) (next_high (c / 4096)) (both (not_space (next (c / 64))) (not_space (next c) && true) (next_high (c / 64)) (both (not_space (next c)) true (next_high c) refl)))
+    go true y z = and_from (not_space c) true h refl
+    go false true z = and_from (not_space (192 + c / 64)) (not_space (next c) && true) (not_low (192 + c / 64) (omega arith)) (and_from (not_space (next c)) true (next_high c) refl)
+    go false false true = and_from (not_space (224 + c / 4096)) (not_space (next (c / 64)) && (not_space (next c) && true)) (not_low (224 + c / 4096) (omega arith)) (and_from (not_space (next (c / 64))) (not_space (next c) && true) (next_high (c / 64)) (and_from (not_space (next c)) true (next_high c) refl))
+    go false false false = and_from (not_space (240 + c / 262144)) (not_space (next (c / 4096)) && (not_space (next (c / 64)) && (not_space (next c) && true))) (not_low (240 + c / 262144) (omega arith))
+        (and_from (not_space (next (c / 4096))) (not_space (next (c / 64)) && (not_space (next c) && true)) (next_high (c / 4096)) (and_from (not_space (next (c / 64))) (not_space (next c) && true) (next_high (c / 64)) (and_from (not_space (next c)) true (next_high c) refl)))
 
 encodes_unspaced : (cs : List ℕ) → list_all not_space cs ≡ true → list_all not_space (encodes cs) ≡ true
 encodes_unspaced [] h = refl
-encodes_unspaced (c ∷ cs) h = all_append not_space (encode c) (encodes cs) (encode_unspaced c (left (not_space c) (list_all not_space cs) h)) (encodes_unspaced cs (right (not_space c) (list_all not_space cs) h))
+encodes_unspaced (c ∷ cs) h = all_append not_space (encode c) (encodes cs) (encode_unspaced c (and_first (not_space c) (list_all not_space cs) h)) (encodes_unspaced cs (and_second (not_space c) (list_all not_space cs) h))
 
 -- ---- how they begin
 
@@ -192,12 +185,12 @@ made p cs is e u f same h = record {
 of_word : (t : List ℕ) → IsPiece (word t) → (cs : List ℕ) → chars t ≡ cs → is_word cs ≡ true → IsWordPiece (word t)
 of_word t is [] q h = absurd (cc h)
 of_word t is (c ∷ cs) q h =
-    made (word t) (c ∷ cs) is (sym (ap encodes q) ∙ encodes-chars t is.utf8) (word_unspaced (c ∷ cs) h) word refl (word_begins c (encodes cs) (left (begins_word c) (list_all continues_word cs) h))
+    made (word t) (c ∷ cs) is (sym (ap encodes q) ∙ encodes-chars t is.utf8) (word_unspaced (c ∷ cs) h) word refl (word_begins c (encodes cs) (and_first (begins_word c) (list_all continues_word cs) h))
 
 first_digit : (c : ℕ) (cs : List ℕ) → IsNumber (c ∷ cs) → is_digit c ≡ true
-first_digit c cs (inl h) = left (is_digit c) (list_all is_digit cs) h.0
+first_digit c cs (inl h) = and_first (is_digit c) (list_all is_digit cs) h.0
 first_digit c cs (inr ([], part, a, b, m, e)) = absurd (let n = a.1 in omega (arith, n))
-first_digit c cs (inr (d ∷ whole, part, a, b, m, e)) = let same : c ≡ d = cc e in subst (λ x. is_digit x ≡ true) (sym same) (left (is_digit d) (list_all is_digit whole) a.0)
+first_digit c cs (inr (d ∷ whole, part, a, b, m, e)) = let same : c ≡ d = cc e in subst (λ x. is_digit x ≡ true) (sym same) (and_first (is_digit d) (list_all is_digit whole) a.0)
 
 no_digits : IsNumber [] → ⊥
 no_digits (inl h) = let n = h.1 in absurd (omega (arith, n))
@@ -252,7 +245,7 @@ led_phrase text u (t ∷ ts) w k b h e =
       are_later = all.1;
       text_is = sym e ∙ text_led text t ts;
       is_word = begins.0;
-      unreserved = not_true (is_reserved (token_text text t)) begins.1;
+      unreserved = not-true (is_reserved (token_text text t)) begins.1;
     }
 
 pub phrase_led : (text : List ℕ) → IsUtf8 text → IsPhrase text → IsLed text

@@ -6,6 +6,7 @@ use Rattle.std.specs.Str.{IsUtf8, bytes_eq}
 use Rattle.std.specs.List.{list_any}
 use Rattle.std.proofs.lemmas.Bool.{and_parts}
 use Rattle.std.proofs.lemmas.List.Elements.{All-nil, All-head, All-tail, All-cons, All-append}
+use Rattle.opa_io.proofs.Places.{All_at}
 use Rattle.opa_model.specs.declared.ids.AttrId.{AttrId}
 use Rattle.opa_model.specs.declared.ids.RelId.{RelId}
 use Rattle.opa_model.specs.declared.lists.Lists.{Lists}
@@ -44,7 +45,7 @@ use Rattle.opa_wording.specs.Laws.{ReadableIsRead}
 use Rattle.opa_wording.proofs.PhrasePieces.{IsWordPiece, AreWordPieces, behind, IsLed, phrase_led, phrase_split}
 use Rattle.opa_wording.proofs.ReadableModels.{attribute_held, relation_held}
 use Rattle.opa_wording.proofs.Foremost.{AllDiffer, place_of, foremost_is_longest}
-use Rattle.opa_wording.proofs.WordsFound.{IsStrung, worded_strung, phrase_strung, exact_front, no_longer_front, one_of}
+use Rattle.opa_wording.proofs.WordsFound.{IsStrung, worded_strung, phrase_strung, exact_front, no_longer_front}
 
 -- ---- what stands in joined lists
 
@@ -263,7 +264,7 @@ stands ps d h t i at l s rest e =
       some = omega arith;
       all = let k = all_behind l.later rest in omega (arith, k);
       first = ap (λ x. first_position x 0 ps) (exact_front s l.first l.later rest ∙ sym l.text_is) ∙ place_of ps d t i at;
-      no_more = λ k low high j other. no_longer_front s l.first l.later l.is_first l.are_later rest e k low high (front_text k ts) (one_of IsStrung ps j (front_text k ts) other h) refl;
+      no_more = λ k low high j other. no_longer_front s l.first l.later l.is_first l.are_later rest e k low high (front_text k ts) (All_at IsStrung ps j (front_text k ts) other h) refl;
     })
 
 module _ (m : Lists) (inferences : List Inferred) (h : IsReadable m inferences) (texts : AreTexts m) (others : OthersAreTexts m inferences) where

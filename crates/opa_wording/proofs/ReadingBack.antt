@@ -1,7 +1,8 @@
 -- What is written reads back.
 use Rattle.std.proofs.Common.{◌≡◌, ◌≤◌, ◌+◌, ◌*◌, inl, ℕ, List, [], ◌∷◌, ◌++◌, length, Bool, true, false, Option, Some, None, refl, sym, ap, ap₂, subst, ◌∙◌, append-nil, arith}
-use Rattle.std.specs.Prelude.{codes, ◌||◌, ◌&&◌, ◌==◌, nat_lt, nat_le, if◌then◌else◌}
+use Rattle.std.specs.Prelude.{codes, ◌||◌, ◌==◌, nat_lt, nat_le, if◌then◌else◌}
 use Rattle.std.specs.Str.{chars, IsUtf8, bytes_eq}
+use Rattle.std.proofs.lemmas.Bool.{and_right}
 use Rattle.opa_model.specs.declared.ids.AttrId.{AttrId}
 use Rattle.opa_model.specs.declared.lists.Lists.{Lists}
 use Rattle.opa_model.specs.Lookups.{attribute_at}
@@ -181,10 +182,6 @@ headed_lines ls h = subst (λ ks. IsHeaded (block_from 1 ks)) (sym h.lines_are) 
 not_lt : (n k : ℕ) → n ≤ k → nat_lt k n ≡ false
 not_lt n k h = grind (arith, h)
 
-and_never : (a b : Bool) → b ≡ false → (a && b) ≡ false
-and_never true b h = h
-and_never false b h = refl
-
 few_rules : (0 == MOST_RULES) ≡ false
 few_rules = refl
 
@@ -193,7 +190,7 @@ faultless_said before file line a by_if s e h deep wide =
     let d = h.says.kept.depth in
     let n = h.says.kept.nodes in
     let shallow : nat_lt MOST_DEPTH s.reading.measure.depth ≡ false = not_lt s.reading.measure.depth MOST_DEPTH (omega (arith, d, deep)) in
-    let within : passes MOST_NODES before s.reading.measure.nodes ≡ false = and_never (nat_le before MOST_NODES) (nat_lt MOST_NODES (before + s.reading.measure.nodes)) (not_lt (before + s.reading.measure.nodes) MOST_NODES (omega (arith, n, wide))) in
+    let within : passes MOST_NODES before s.reading.measure.nodes ≡ false = and_right (nat_le before MOST_NODES) (nat_lt MOST_NODES (before + s.reading.measure.nodes)) (not_lt (before + s.reading.measure.nodes) MOST_NODES (omega (arith, n, wide))) in
     ap (λ b. (when b (fault_at file line fault_kind.Limit) ++ size_faults before file line s.reading) ++ ([] ++ marked file s.marks)) few_rules
     ∙ ap₂ (λ (b c : Bool). (when b (fault_at file line fault_kind.Limit) ++ when c (fault_at file line fault_kind.Limit)) ++ marked file s.marks) shallow within
     ∙ ap (marked file) h.unmarked

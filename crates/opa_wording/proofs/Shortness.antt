@@ -1,5 +1,7 @@
 -- What is spelled has no text over its number, where its tree has none.
 use Rattle.std.proofs.Common.{◌≡◌, ℕ, ℤ, List, [], ◌∷◌, ◌++◌, map, Bool, true, false, ◌&&◌, cond, Option, Some, None, slice_get, refl, sym, ap, ◌∙◌}
+use Rattle.std.proofs.lemmas.Bool.{and_from}
+use Rattle.opa_io.proofs.Bools.{and_first, and_second}
 use Rattle.opa_value.specs.declared.value.Value.{Value}
 use Rattle.opa_value.specs.declared.value.Value.TheVariants as value
 use Rattle.opa_model.specs.declared.ids.AttrId.{AttrId}
@@ -86,17 +88,6 @@ short-Table rows last = fold-Table Bool Bool short_step short_row rows last ∙ 
 
 -- ---- readings
 
-pub and_left : (a b : Bool) → (a && b) ≡ true → a ≡ true
-and_left true b h = refl
-and_left false b h = absurd (cc h)
-
-pub and_right : (a b : Bool) → (a && b) ≡ true → b ≡ true
-and_right true b h = h
-and_right false b h = absurd (cc h)
-
-and_both : (a b : Bool) → a ≡ true → b ≡ true → (a && b) ≡ true
-and_both a b p q = ap (λ x. x && b) p ∙ q
-
 -- where the tree has no long text, there was none
 abbrev pub Tells : Bool → Expr → Type 0
 Tells s e = has_short_texts e ≡ true → s ≡ true
@@ -111,15 +102,15 @@ abbrev ShortParts : Parts → Type 0
 ShortParts p = Of (TellsAll p.measure.short) p.trees
 
 last_short : (es : List Expr) (e : Expr) → all_true (map has_short_texts (es ++ e ∷ [])) ≡ true → (all_true (map has_short_texts es) ≡ true) × (has_short_texts e ≡ true)
-last_short [] e h = (refl, and_left (has_short_texts e) true h)
+last_short [] e h = (refl, and_first (has_short_texts e) true h)
 last_short (x ∷ es) e h =
-    let r = last_short es e (and_right (has_short_texts x) (all_true (map has_short_texts (es ++ e ∷ []))) h) in
-    (and_both (has_short_texts x) (all_true (map has_short_texts es)) (and_left (has_short_texts x) (all_true (map has_short_texts (es ++ e ∷ []))) h) r.0, r.1)
+    let r = last_short es e (and_second (has_short_texts x) (all_true (map has_short_texts (es ++ e ∷ []))) h) in
+    (and_from (has_short_texts x) (all_true (map has_short_texts es)) (and_first (has_short_texts x) (all_true (map has_short_texts (es ++ e ∷ []))) h) r.0, r.1)
 
 with_short : (a b : Bool) (ts : Option (List Expr)) (t : Option Expr) → Of (TellsAll a) ts → Of (Tells b) t → Of (TellsAll (a && b)) (with_tree ts t)
 with_short a b None t h k = tt
 with_short a b (Some es) None h k = tt
-with_short a b (Some es) (Some e) h k = λ s. let l = last_short es e s in and_both a b (h l.0) (k l.1)
+with_short a b (Some es) (Some e) h k = λ s. let l = last_short es e s in and_from a b (h l.0) (k l.1)
 
 part_short : (p : Parts) (r : Reading) → ShortParts p → Short r → ShortParts (says.with_part unbounded p r)
 part_short p r h k = with_short p.measure.short r.measure.short p.trees r.tree h k

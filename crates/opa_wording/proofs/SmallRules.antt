@@ -2,6 +2,7 @@
 use Rattle.std.proofs.Common.{◌≡◌, ◌≤◌, ◌*◌, ℕ, List, [], ◌∷◌, ◌++◌, map, Bool, true, ◌&&◌, Some, sym, ap, subst, ◌∙◌, arith}
 use Rattle.std.specs.Prelude.{if◌then◌else◌}
 use Rattle.std.specs.List.{AllByRecursion}
+use Rattle.opa_io.proofs.Bools.{and_first, and_second}
 use Rattle.opa_model.specs.declared.lists.Lists.{Lists}
 use Rattle.opa_tree.specs.declared.expr.Expr.{Expr}
 use Rattle.opa_tree.specs.declared.expr.Row.{Row}
@@ -29,7 +30,7 @@ use Rattle.opa_wording.proofs.LaidRules.{single_form}
 use Rattle.opa_wording.proofs.LinesGiven.{Of}
 use Rattle.opa_wording.proofs.PhrasesFound.{readable_is_read_holds}
 use Rattle.opa_wording.proofs.RuleTexts.{opened}
-use Rattle.opa_wording.proofs.Shortness.{and_left, and_right, short-All, short-Any, short-Table, Tells, short_by}
+use Rattle.opa_wording.proofs.Shortness.{short-All, short-Any, short-Table, Tells, short_by}
 use Rattle.opa_wording.proofs.TightLines.{AreParts, tree_parts}
 use Rattle.opa_wording.proofs.TreesSpelled.{lines_spell_trees_holds}
 
@@ -40,7 +41,7 @@ AreShortTrees es = AllByRecursion (λ e. has_short_texts e ≡ true) es
 
 each_short : (es : List Expr) → all_true (map has_short_texts es) ≡ true → AreShortTrees es
 each_short [] h = tt
-each_short (e ∷ es) h = (and_left (has_short_texts e) (all_true (map has_short_texts es)) h, each_short es (and_right (has_short_texts e) (all_true (map has_short_texts es)) h))
+each_short (e ∷ es) h = (and_first (has_short_texts e) (all_true (map has_short_texts es)) h, each_short es (and_second (has_short_texts e) (all_true (map has_short_texts es)) h))
 
 joined_short : (j : Joint) (es : List Expr) → has_short_texts (joined_tree j es) ≡ all_true (map has_short_texts es)
 joined_short joint.And es = short-All es
@@ -63,9 +64,9 @@ short_rows rs = all_true (map (λ (r : Row). has_short_texts r.cond && has_short
 cases_short : (m : Lists) (rs : List Row) → AreRows m rs → short_rows rs ≡ true → AreShortTrees (case_trees rs)
 cases_short m [] h s = tt
 cases_short m (r ∷ rs) h s =
-    let here = and_left (has_short_texts r.cond && has_short_texts r.value) (short_rows rs) s in (
-      and_right (has_short_texts r.cond) (has_short_texts r.value) here,
-      short_append (group_trees r.cond) (case_trees rs) (group_short m r.cond h.0.cond (and_left (has_short_texts r.cond) (has_short_texts r.value) here)) (cases_short m rs h.1 (and_right (has_short_texts r.cond && has_short_texts r.value) (short_rows rs) s)),
+    let here = and_first (has_short_texts r.cond && has_short_texts r.value) (short_rows rs) s in (
+      and_second (has_short_texts r.cond) (has_short_texts r.value) here,
+      short_append (group_trees r.cond) (case_trees rs) (group_short m r.cond h.0.cond (and_first (has_short_texts r.cond) (has_short_texts r.value) here)) (cases_short m rs h.1 (and_second (has_short_texts r.cond && has_short_texts r.value) (short_rows rs) s)),
     )
 
 tree_short : (m : Lists) (by_if : Bool) (e : Expr) → IsTree m by_if e → has_short_texts e ≡ true → AreShortTrees (if by_if then group_trees e else concluded_trees_by e (out-Expr e))
@@ -74,7 +75,7 @@ tree_short m by_if e (IsTree.equation x h) s = subst AreShortTrees (sym (single_
 tree_short m by_if e (IsTree.table rows last some hs h) s =
     let all = sym (short-Table rows last) ∙ s in
     subst AreShortTrees (sym (ap (concluded_trees_by (V.Table rows last)) (opened (Table rows last) (V.Table rows last) (V.rolls-Table rows last))))
-    (short_append (case_trees rows) (last ∷ []) (cases_short m rows hs (and_left (short_rows rows) (has_short_texts last) all)) (and_right (short_rows rows) (has_short_texts last) all, tt))
+    (short_append (case_trees rows) (last ∷ []) (cases_short m rows hs (and_first (short_rows rows) (has_short_texts last) all)) (and_second (short_rows rows) (has_short_texts last) all, tt))
 
 -- ---- and are within the limits
 

@@ -1,8 +1,10 @@
 -- The phrases of a model, and the lines of blocks, are texts, one after another.
-use Rattle.std.proofs.Common.{◌≡◌, ◌≤◌, ◌+◌, ℕ, zero, suc, List, [], ◌∷◌, length, drop, map, flat_map, option_map, Option, Some, None, slice_get, All, refl, sym, ap, subst, ◌∙◌, arith}
+use Rattle.std.proofs.Common.{◌≡◌, ◌≤◌, ◌+◌, ℕ, List, [], ◌∷◌, length, drop, map, flat_map, option_map, Option, Some, slice_get, All, refl, sym, ap, subst}
 use Rattle.std.specs.Str.{IsUtf8}
 use Rattle.std.proofs.lemmas.Str.{IsUtf8-append}
 use Rattle.std.proofs.lemmas.List.Elements.{All-nil, All-cons, All-append}
+use Rattle.std.proofs.lemmas.Option.{slice_get_past}
+use Rattle.opa_io.proofs.Places.{drop_whole, drop_at}
 use Rattle.opa_model.specs.declared.lists.Lists.{Lists}
 use Rattle.opa_model.specs.declared.things.Attribute.{Attribute}
 use Rattle.opa_model.specs.declared.things.Relation.{Relation}
@@ -34,31 +36,17 @@ denied m s v at a b c =
     subst (λ (o : Option Verb). All IsUtf8 (by_verb s o)) (sym at)
     (All-cons IsUtf8 (beside s.subject (beside v.negative s.rest)) [] (beside_utf8 s.subject (beside v.negative s.rest) a (beside_utf8 v.negative s.rest b c)) (All-nil IsUtf8))
 
-none_at : {A : Type 0} (xs : List A) (n : ℕ) → length xs ≤ n → slice_get xs n ≡ None
-none_at [] n h = refl
-none_at (x ∷ xs) zero h = absurd (omega (arith, h))
-none_at (x ∷ xs) (suc n) h = none_at xs n (omega (arith, h))
-
 pub undenied : (m : Lists) (s : Sentence) → length m.verbs ≤ s.verb → All IsUtf8 (denials_by m (Some s))
-undenied m s h = subst (λ (o : Option Verb). All IsUtf8 (by_verb s o)) (sym (none_at m.verbs s.verb h)) (All-nil IsUtf8)
+undenied m s h = subst (λ (o : Option Verb). All IsUtf8 (by_verb s o)) (sym (slice_get_past m.verbs s.verb h)) (All-nil IsUtf8)
 
 -- ---- one more
 
-drop_one : {A : Type 0} (xs : List A) (n : ℕ) (x : A) → slice_get xs n ≡ Some x → drop n xs ≡ x ∷ drop (n + 1) xs
-drop_one [] n x e = absurd (cc e)
-drop_one (y ∷ ys) zero x e = let f : y ≡ x = cc e in ap (λ z. z ∷ ys) f
-drop_one (y ∷ ys) (suc n) x e = drop_one ys n x e ∙ ap (λ k. x ∷ drop k (y ∷ ys)) (let f : suc (n + 1) ≡ suc n + 1 = omega arith in f)
-
-drop_all : {A : Type 0} (xs : List A) → drop (length xs) xs ≡ []
-drop_all [] = refl
-drop_all (x ∷ xs) = drop_all xs
-
 -- what holds of the texts of the others holds of all, and so with one more
 pub one_more : {A : Type 0} (f : A → List (List ℕ)) (xs : List A) (n : ℕ) (x : A) → slice_get xs n ≡ Some x → All IsUtf8 (f x) → (All IsUtf8 (flat_map f (drop n xs)) → All IsUtf8 (flat_map f xs)) → All IsUtf8 (flat_map f (drop (n + 1) xs)) → All IsUtf8 (flat_map f xs)
-one_more f xs n x at here before later = before (subst (λ ys. All IsUtf8 (flat_map f ys)) (sym (drop_one xs n x at)) (All-append IsUtf8 (f x) (flat_map f (drop (n + 1) xs)) here later))
+one_more f xs n x at here before later = before (subst (λ ys. All IsUtf8 (flat_map f ys)) (sym (drop_at xs n x at)) (All-append IsUtf8 (f x) (flat_map f (drop (n + 1) xs)) here later))
 
 pub no_more : {A : Type 0} (f : A → List (List ℕ)) (xs : List A) (n : ℕ) → n ≡ length xs → (All IsUtf8 (flat_map f (drop n xs)) → All IsUtf8 (flat_map f xs)) → All IsUtf8 (flat_map f xs)
-no_more f xs n e before = before (subst (λ k. All IsUtf8 (flat_map f (drop k xs))) (sym e) (subst (λ ys. All IsUtf8 (flat_map f ys)) (sym (drop_all xs)) (All-nil IsUtf8)))
+no_more f xs n e before = before (subst (λ k. All IsUtf8 (flat_map f (drop k xs))) (sym e) (subst (λ ys. All IsUtf8 (flat_map f ys)) (sym (drop_whole xs)) (All-nil IsUtf8)))
 
 pub one_text : (t : List ℕ) → IsUtf8 t → All IsUtf8 (t ∷ [])
 one_text t u = All-cons IsUtf8 t [] u (All-nil IsUtf8)

@@ -1,7 +1,8 @@
 -- A model of three bools of the global entity.
-use Rattle.std.proofs.Common.{◌≡◌, ◌≢◌, ◌↔◌, IsTrue, ℕ, zero, suc, ◌<◌, List, [], ◌∷◌, Option, Some, All, AllPairs, IfSome, IsSome, slice_get, refl, sym, subst, arith}
+use Rattle.std.proofs.Common.{◌≡◌, ◌≢◌, ◌↔◌, IsTrue, ℕ, zero, suc, ◌<◌, List, [], ◌∷◌, Option, Some, All, IfSome, IsSome, slice_get, refl, sym, subst, arith}
 use Rattle.std.proofs.lemmas.List.Elements.{All-nil, All-cons}
 use Rattle.std.proofs.lemmas.List.Kept.{AllPairs-cons}
+use Rattle.opa_io.proofs.Lists.{no_pairs, All_one}
 use Rattle.opa_model.specs.declared.ids.AttrId.{AttrId}
 use Rattle.opa_model.specs.declared.things.Attribute.{Attribute}
 use Rattle.opa_model.specs.declared.things.Entity.{Entity}
@@ -15,14 +16,8 @@ use Rattle.opa_model.specs.Lookups.{attribute_at}
 use Rattle.opa_model.specs.Models.{HasEntity, HasAttribute, HasVerb, HasItem, HasDecimals, IsModel, IsContained, IsOverAll}
 use Rattle.opa_model.specs.Samples.{IsGlobalBool}
 
-one : {X : Type 0} (P : X → Type 0) (x : X) → P x → All P (x ∷ [])
-one P x p = All-cons P x [] p (All-nil P)
-
 three : {X : Type 0} (P : X → Type 0) (x y z : X) → P x → P y → P z → All P (x ∷ y ∷ z ∷ [])
-three P x y z p q r = All-cons P x (y ∷ z ∷ []) p (All-cons P y (z ∷ []) q (one P z r))
-
-no_pairs : {X : Type 0} (R : X → X → Type 0) → AllPairs R []
-no_pairs R i j d lt within = absurd (omega arith)
+three P x y z p q r = All-cons P x (y ∷ z ∷ []) p (All-cons P y (z ∷ []) q (All_one P z r))
 
 module _ (e : Entity) (a b c : Attribute) (v : Verb) where
   abbrev pub bools : Lists
@@ -46,17 +41,17 @@ module _ (e : Entity) (a b c : Attribute) (v : Verb) where
     has_global = omega arith;
     few = record { entities = omega arith; attributes = omega arith; relations = omega arith; verbs = omega arith; screens = omega arith; goals = omega arith };
     in_range = record {
-      parents = one (λ (x : Entity). HasEntity bools x.parent) e (omega (arith, root));
+      parents = All_one (λ (x : Entity). HasEntity bools x.parent) e (omega (arith, root));
       owners = three (λ (x : Attribute). HasEntity bools x.entity) a b c (omega (arith, is_a.of_global)) (omega (arith, is_b.of_global)) (omega (arith, is_c.of_global));
       verbs = three (λ (x : Attribute). IfSome x.sentence (HasVerb bools)) a b c (said a is_a) (said b is_b) (said c is_c);
       sources = All-nil (λ (r : Relation). HasEntity bools r.source);
       targets = All-nil (λ (r : Relation). HasEntity bools r.target);
       items = All-nil (λ (s : Screen). All (HasItem bools) s.items);
-      goals = one (HasAttribute bools) (record { 0 = 0 }) (omega arith);
+      goals = All_one (HasAttribute bools) (record { 0 = 0 }) (omega arith);
     };
-    goals_are_global = one (λ (id : AttrId). IfSome (attribute_at bools id) (λ x. x.entity.0 ≡ 0)) (record { 0 = 0 }) is_a.of_global;
-    phrases_differ = AllPairs-cons (λ p q. p ≢ q) a.phrase (b.phrase ∷ c.phrase ∷ []) (All-cons (λ p. a.phrase ≢ p) b.phrase (c.phrase ∷ []) ab (one (λ p. a.phrase ≢ p) c.phrase ac))
-        (AllPairs-cons (λ p q. p ≢ q) b.phrase (c.phrase ∷ []) (one (λ p. b.phrase ≢ p) c.phrase bc) (AllPairs-cons (λ p q. p ≢ q) c.phrase [] (All-nil (λ p. c.phrase ≢ p)) (no_pairs (λ p q. p ≢ q))));
+    goals_are_global = All_one (λ (id : AttrId). IfSome (attribute_at bools id) (λ x. x.entity.0 ≡ 0)) (record { 0 = 0 }) is_a.of_global;
+    phrases_differ = AllPairs-cons (λ p q. p ≢ q) a.phrase (b.phrase ∷ c.phrase ∷ []) (All-cons (λ p. a.phrase ≢ p) b.phrase (c.phrase ∷ []) ab (All_one (λ p. a.phrase ≢ p) c.phrase ac))
+        (AllPairs-cons (λ p q. p ≢ q) b.phrase (c.phrase ∷ []) (All_one (λ p. b.phrase ≢ p) c.phrase bc) (AllPairs-cons (λ p q. p ≢ q) c.phrase [] (All-nil (λ p. c.phrase ≢ p)) (no_pairs (λ p q. p ≢ q))));
     decimals = three HasDecimals a b c (decimals_of a is_a) (decimals_of b is_b) (decimals_of c is_c);
     bools_have_sentences = three (λ (x : Attribute). IsSome x.sentence ↔ (x.kind ≡ kind.Bool)) a b c (is_saying a is_a) (is_saying b is_b) (is_saying c is_c);
     items_differ = no_pairs (λ i j. i ≢ j);

@@ -5,8 +5,10 @@ use Rattle.std.specs.List.{list_all, AllByRecursion}
 use Rattle.std.specs.Str.{chars, IsUtf8}
 use lib.Utf8.{encodes}
 use Rattle.std.proofs.lemmas.Str.{encodes-chars, encodes-append, encode_ascii, chars-nil}
+use Rattle.std.proofs.lemmas.Bool.{and_from}
 use Rattle.ucd_derived.proofs.Computing.{ucd_derived}
 use Rattle.ucd_category.proofs.Computing.{ucd_category}
+use Rattle.opa_io.proofs.Bools.{and_first, and_second}
 use Rattle.opa_model.specs.declared.lists.Lists.{Lists}
 use Rattle.opa_tree.specs.declared.expr.Expr.{Expr}
 use Rattle.opa_tree.specs.declared.expr.Row.{Row}
@@ -20,7 +22,7 @@ use Rattle.opa_words.specs.declared.kinds.TokenKind.{TokenKind}
 use Rattle.opa_words.specs.declared.kinds.TokenKind.TheVariants as kind
 use Rattle.opa_words.specs.Characters.{begins_word, continues_word}
 use Rattle.opa_words.specs.Kinds.{IsToken, is_word, is_symbol, doubled, quoted}
-use Rattle.opa_words.proofs.Letters.{left, right, both, starts, token_starts, date_parts}
+use Rattle.opa_words.proofs.Letters.{starts, token_starts, date_parts}
 use Rattle.opa_layout.specs.Indents.{is_blank}
 use Rattle.opa_words.specs.Written.{Written, AreWritten, text_of, gap}
 use Rattle.opa_words.proofs.Separate.{all_wider, numeric, number_numeric, dated, date_dated}
@@ -67,14 +69,14 @@ first_letters_shown = refl
 word_shown : (cs : List ℕ) → is_word cs ≡ true → list_all shown cs ≡ true
 word_shown [] h = refl
 word_shown (c ∷ cs) h =
-    both (shown c) (list_all shown cs) (avoiding blanks begins_word first_letters_shown c (left (begins_word c) (list_all continues_word cs) h))
-    (all_wider continues_word shown cs (avoiding blanks continues_word letters_shown) (right (begins_word c) (list_all continues_word cs) h))
+    and_from (shown c) (list_all shown cs) (avoiding blanks begins_word first_letters_shown c (and_first (begins_word c) (list_all continues_word cs) h))
+    (all_wider continues_word shown cs (avoiding blanks continues_word letters_shown) (and_second (begins_word c) (list_all continues_word cs) h))
 
 symbol_shown : (cs : List ℕ) → is_symbol cs ≡ true → list_all shown cs ≡ true
 symbol_shown [] h = refl
-symbol_shown (c ∷ []) h = both (shown c) true (avoiding blanks (starts kind.Symbol) refl c (token_starts kind.Symbol (c ∷ []) h)) refl
+symbol_shown (c ∷ []) h = and_from (shown c) true (avoiding blanks (starts kind.Symbol) refl c (token_starts kind.Symbol (c ∷ []) h)) refl
 symbol_shown (c ∷ d ∷ []) h =
-    both (shown c) (shown d && true) (avoiding blanks (starts kind.Symbol) refl c (token_starts kind.Symbol (c ∷ d ∷ []) h)) (both (shown d) true (avoiding blanks compares refl d (second_compares c d h)) refl)
+    and_from (shown c) (shown d && true) (avoiding blanks (starts kind.Symbol) refl c (token_starts kind.Symbol (c ∷ d ∷ []) h)) (and_from (shown d) true (avoiding blanks compares refl d (second_compares c d h)) refl)
 symbol_shown (c ∷ d ∷ e ∷ cs) h = absurd (cc h)
 
 shown_high : (b : ℕ) → 128 ≤ b → shown b ≡ true
@@ -85,8 +87,8 @@ shown_blank b h = grind (arith, h)
 
 all_shown : (bs : List ℕ) → list_all shown bs ≡ true → ends_blank bs ≡ false
 all_shown [] h = refl
-all_shown (b ∷ []) h = shown_blank b (left (shown b) true h)
-all_shown (b ∷ c ∷ bs) h = all_shown (c ∷ bs) (right (shown b) (list_all shown (c ∷ bs)) h)
+all_shown (b ∷ []) h = shown_blank b (and_first (shown b) true h)
+all_shown (b ∷ c ∷ bs) h = all_shown (c ∷ bs) (and_second (shown b) (list_all shown (c ∷ bs)) h)
 
 after_more : (xs : List ℕ) (y : ℕ) (ys : List ℕ) → ends_blank (xs ++ y ∷ ys) ≡ ends_blank (y ∷ ys)
 after_more [] y ys = refl

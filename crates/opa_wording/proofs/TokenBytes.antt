@@ -6,16 +6,18 @@ use Rattle.std.specs.Str.{chars}
 use lib.Utf8.{encode, encodes, next}
 use lib.Dec.{ltb}
 use Rattle.std.proofs.lemmas.Str.{encodes-chars}
+use Rattle.std.proofs.lemmas.Bool.{and_from}
 use Rattle.ucd_derived.proofs.Computing.{ucd_derived}
 use Rattle.ucd_category.proofs.Computing.{ucd_category}
+use Rattle.opa_io.proofs.Bools.{and_first, and_second}
 use Rattle.opa_words.specs.declared.kinds.TokenKind.{TokenKind}
 use Rattle.opa_words.specs.declared.kinds.TokenKind.TheVariants as kind
 use Rattle.opa_words.specs.Characters.{begins_word, continues_word, is_control}
 use Rattle.opa_words.specs.Kinds.{IsToken, is_word, is_symbol, doubled}
-use Rattle.opa_words.proofs.Letters.{left, right, both, starts, Starts, token_starts, date_parts}
+use Rattle.opa_words.proofs.Letters.{starts, Starts, token_starts, date_parts, none_of}
 use Rattle.opa_words.specs.Pieces.{Piece, IsPiece}
 use Rattle.opa_words.specs.Written.{Written, AreWritten, text_of, gap}
-use Rattle.opa_words.proofs.Separate.{none_of, all_wider, all_append, numeric, number_numeric, dated, date_dated}
+use Rattle.opa_words.proofs.Separate.{all_wider, all_append, numeric, number_numeric, dated, date_dated}
 
 -- it is none of these
 abbrev pub avoids : List ℕ → ℕ → Bool
@@ -67,19 +69,19 @@ doubled_unbroken (c ∷ cs) h = let n = no_control c cs h in go (c == 34) (plain
   where
     go : (b : Bool) → unbroken c ≡ true → list_all unbroken (doubled cs) ≡ true → list_all unbroken (cond b (34 ∷ 34 ∷ doubled cs) (c ∷ doubled cs)) ≡ true
     go true u r = r
-    go false u r = both (unbroken c) (list_all unbroken (doubled cs)) u r
+    go false u r = and_from (unbroken c) (list_all unbroken (doubled cs)) u r
 
 word_unbroken : (cs : List ℕ) → is_word cs ≡ true → list_all unbroken cs ≡ true
 word_unbroken [] h = refl
 word_unbroken (c ∷ cs) h =
-    both (unbroken c) (list_all unbroken cs) (avoiding breaks begins_word first_letters_unbroken c (left (begins_word c) (list_all continues_word cs) h))
-    (all_wider continues_word unbroken cs (avoiding breaks continues_word letters_unbroken) (right (begins_word c) (list_all continues_word cs) h))
+    and_from (unbroken c) (list_all unbroken cs) (avoiding breaks begins_word first_letters_unbroken c (and_first (begins_word c) (list_all continues_word cs) h))
+    (all_wider continues_word unbroken cs (avoiding breaks continues_word letters_unbroken) (and_second (begins_word c) (list_all continues_word cs) h))
 
 symbol_unbroken : (cs : List ℕ) → is_symbol cs ≡ true → list_all unbroken cs ≡ true
 symbol_unbroken [] h = refl
-symbol_unbroken (c ∷ []) h = both (unbroken c) true (avoiding breaks (starts kind.Symbol) refl c (token_starts kind.Symbol (c ∷ []) h)) refl
+symbol_unbroken (c ∷ []) h = and_from (unbroken c) true (avoiding breaks (starts kind.Symbol) refl c (token_starts kind.Symbol (c ∷ []) h)) refl
 symbol_unbroken (c ∷ d ∷ []) h =
-    both (unbroken c) (unbroken d && true) (avoiding breaks (starts kind.Symbol) refl c (token_starts kind.Symbol (c ∷ d ∷ []) h)) (both (unbroken d) true (avoiding breaks compares refl d (second_compares c d h)) refl)
+    and_from (unbroken c) (unbroken d && true) (avoiding breaks (starts kind.Symbol) refl c (token_starts kind.Symbol (c ∷ d ∷ []) h)) (and_from (unbroken d) true (avoiding breaks compares refl d (second_compares c d h)) refl)
 symbol_unbroken (c ∷ d ∷ e ∷ cs) h = absurd (cc h)
 
 token_unbroken : (k : TokenKind) (cs : List ℕ) → IsToken k cs → list_all unbroken cs ≡ true
@@ -122,15 +124,15 @@ module _ (q : ℕ → Bool) (high : (b : ℕ) → 128 ≤ b → q b ≡ true) wh
   encode_passes c h = go (ltb c 128) (ltb c 2048) (ltb c 65536)
     where
       go : (x y z : Bool) → list_all q (cond x (c ∷ []) (cond y ((192 + c / 64) ∷ next c ∷ []) (cond z ((224 + c / 4096) ∷ next (c / 64) ∷ next c ∷ []) ((240 + c / 262144) ∷ next (c / 4096) ∷ next (c / 64) ∷ next c ∷ [])))) ≡ true
-      go true y z = both (q c) true h refl
-      go false true z = both (q (192 + c / 64)) (q (next c) && true) (high (192 + c / 64) (omega arith)) (both (q (next c)) true (next_passes c) refl)
-      go false false true = both (q (224 + c / 4096)) (q (next (c / 64)) && (q (next c) && true)) (high (224 + c / 4096) (omega arith)) (both (q (next (c / 64))) (q (next c) && true) (next_passes (c / 64)) (both (q (next c)) true (next_passes c) refl))
-      go false false false = both (q (240 + c / 262144)) (q (next (c / 4096)) && (q (next (c / 64)) && (q (next c) && true))) (high (240 + c / 262144) (omega arith))
-          (both (q (next (c / 4096))) (q (next (c / 64)) && (q (next c) && true)) (next_passes (c / 4096)) (both (q (next (c / 64))) (q (next c) && true) (next_passes (c / 64)) (both (q (next c)) true (next_passes c) refl)))
+      go true y z = and_from (q c) true h refl
+      go false true z = and_from (q (192 + c / 64)) (q (next c) && true) (high (192 + c / 64) (omega arith)) (and_from (q (next c)) true (next_passes c) refl)
+      go false false true = and_from (q (224 + c / 4096)) (q (next (c / 64)) && (q (next c) && true)) (high (224 + c / 4096) (omega arith)) (and_from (q (next (c / 64))) (q (next c) && true) (next_passes (c / 64)) (and_from (q (next c)) true (next_passes c) refl))
+      go false false false = and_from (q (240 + c / 262144)) (q (next (c / 4096)) && (q (next (c / 64)) && (q (next c) && true))) (high (240 + c / 262144) (omega arith))
+          (and_from (q (next (c / 4096))) (q (next (c / 64)) && (q (next c) && true)) (next_passes (c / 4096)) (and_from (q (next (c / 64))) (q (next c) && true) (next_passes (c / 64)) (and_from (q (next c)) true (next_passes c) refl)))
 
   pub encodes_passes : (cs : List ℕ) → list_all q cs ≡ true → list_all q (encodes cs) ≡ true
   encodes_passes [] h = refl
-  encodes_passes (c ∷ cs) h = all_append q (encode c) (encodes cs) (encode_passes c (left (q c) (list_all q cs) h)) (encodes_passes cs (right (q c) (list_all q cs) h))
+  encodes_passes (c ∷ cs) h = all_append q (encode c) (encodes cs) (encode_passes c (and_first (q c) (list_all q cs) h)) (encodes_passes cs (and_second (q c) (list_all q cs) h))
 
   first_passes : (c : ℕ) (more : List ℕ) → q c ≡ true → BeginsWell (encode c ++ more)
   unfolding encode

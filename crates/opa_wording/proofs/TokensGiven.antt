@@ -1,12 +1,15 @@
 -- What the tokens of a text are: digits, texts between quotes and signs.
-use Rattle.std.proofs.Common.{◌≡◌, ◌<◌, ◌≤◌, ℕ, ℤ, pos, neg_ℤ, List, [], ◌∷◌, ◌++◌, length, get_or, Bool, true, false, cond, Option, Some, None, Result, Ok, Err, All, refl, sym, ap, subst, ◌∙◌, arith, append-nil}
+use Rattle.std.proofs.Common.{◌≡◌, ◌<◌, ◌≤◌, ℕ, ℤ, pos, neg_ℤ, List, [], ◌∷◌, ◌++◌, length, Bool, true, false, cond, Option, Some, None, Result, Ok, Err, All, refl, sym, ap, subst, ◌∙◌, arith}
 use Rattle.std.specs.Prelude.{◌==◌, codes, nat_le, if◌then◌else◌, unsigned_abs}
 use Rattle.std.specs.List.{list_any}
 use Rattle.std.specs.Option.{option_and_then}
 use Rattle.std.specs.Str.{chars, IsUtf8, bytes_eq}
-use lib.Utf8.{scalar, scalars, encode, encodes}
+use lib.Utf8.{scalar, scalars, encodes}
 use Rattle.std.proofs.lemmas.List.Elements.{All-head, All-tail}
-use Rattle.std.proofs.lemmas.Str.{encodes-chars, encodes-append, inside_one, chars-encodes, scalars-chars, IsUtf8-between}
+use Rattle.std.proofs.lemmas.Str.{encodes-chars, chars-encodes, scalars-chars, IsUtf8-between}
+use Rattle.std.proofs.lemmas.Bool.{and_from}
+use Rattle.opa_io.proofs.Characters.{quote_is}
+use Rattle.opa_io.proofs.Bools.{and_first, and_second}
 use Rattle.opa_value.specs.declared.number.NumFault.{NumFault}
 use Rattle.opa_value.specs.Numbers.{most, InRange, in_range, kept}
 use Rattle.opa_value.specs.NumberText.{read_number, Reads, Spells as SpellsNumber, sign_text, signed, size_of, behind_text}
@@ -23,12 +26,9 @@ use Rattle.opa_words.specs.declared.kinds.TokenKind.{TokenKind}
 use Rattle.opa_words.specs.declared.kinds.TokenKind.TheVariants as kind
 use Rattle.opa_words.specs.Characters.{is_control}
 use Rattle.opa_words.specs.Cuts.{Cuts}
-use Rattle.opa_words.specs.Kinds.{doubled, quoted, IsToken}
+use Rattle.opa_words.specs.Kinds.{doubled, IsToken}
 use Rattle.opa_words.specs.Places.{IsWithin, IsOfKind, token_text}
-use Rattle.opa_words.specs.Quotes.{HasNoQuote}
-use Rattle.opa_words.proofs.Letters.{left, right, both, apart}
 use Rattle.opa_words.proofs.PlaceLaws.{tokens_within, tokens_of_kind}
-use Rattle.opa_words.proofs.QuoteLaws.{no_quote, read_ends}
 use Rattle.opa_sentence.specs.declared.class.Class.{Class}
 use Rattle.opa_sentence.specs.declared.class.Class.TheVariants as class
 use Rattle.opa_sentence.specs.declared.functions.Function.{Function}
@@ -37,44 +37,12 @@ use Rattle.opa_sentence.specs.Lexemes.{Lexeme, lexemes, class_of, word_class, sy
 use Rattle.opa_sentence.specs.Literals.{number_in, number_or_none, negative_in, day_in, day_or_none}
 use Rattle.opa_words.specs.Quoted.{unquoted}
 use Rattle.opa_words.proofs.QuotedLaws.{reads_quoted_holds}
+use Rattle.opa_words.proofs.Quoting.{encodes_quoted}
 use Rattle.opa_wording.specs.Grammatical.{is_round}
 use Rattle.opa_wording.specs.Told.{is_sign}
 use Rattle.opa_wording.proofs.PhrasePieces.{of_number}
 
 -- ---- texts between quotes
-
-quote_is : (b : ℕ) → (b == 34) ≡ true → b ≡ 34
-quote_is b h = grind (arith, h)
-
-quote_test : (b : ℕ) → b ≡ 34 → (b == 34) ≡ true
-quote_test b h = grind (arith, h)
-
-doubled-append : (bs cs : List ℕ) → doubled (bs ++ cs) ≡ doubled bs ++ doubled cs
-doubled-append [] cs = refl
-doubled-append (b ∷ bs) cs = go (b == 34) (doubled-append bs cs)
-  where
-    go : (t : Bool) → doubled (bs ++ cs) ≡ doubled bs ++ doubled cs → cond t (34 ∷ 34 ∷ doubled (bs ++ cs)) (b ∷ doubled (bs ++ cs)) ≡ cond t (34 ∷ 34 ∷ doubled bs) (b ∷ doubled bs) ++ doubled cs
-    go true h = ap (λ x. 34 ∷ 34 ∷ x) h
-    go false h = ap (λ x. b ∷ x) h
-
-doubled_plain : (bs : List ℕ) → HasNoQuote bs → doubled bs ≡ bs
-doubled_plain bs h = read_ends [] bs bs bs refl h refl
-
-encode_plain : (c : ℕ) → (c == 34) ≡ false → HasNoQuote (encode c)
-encode_plain c h = no_quote (encode c) (λ i l e. let k : c ≡ get_or (encode c) i 0 = inside_one c [] (encode c) i (sym (append-nil (encode c))) l (omega (arith, e)) in apart (c == 34) (quote_test c (k ∙ e)) h)
-
-encodes_doubled : (cs : List ℕ) → encodes (doubled cs) ≡ doubled (encodes cs)
-unfolding encode
-encodes_doubled [] = refl
-encodes_doubled (c ∷ cs) = go (c == 34) refl (encodes_doubled cs)
-  where
-    go : (t : Bool) → (c == 34) ≡ t → encodes (doubled cs) ≡ doubled (encodes cs) → encodes (cond t (34 ∷ 34 ∷ doubled cs) (c ∷ doubled cs)) ≡ doubled (encode c ++ encodes cs)
-    go true e h = ap (λ x. 34 ∷ 34 ∷ x) h ∙ ap (λ x. doubled (encode x ++ encodes cs)) (sym (quote_is c e))
-    go false e h = ap (λ x. encode c ++ x) h ∙ ap (λ x. x ++ doubled (encodes cs)) (sym (doubled_plain (encode c) (encode_plain c e))) ∙ sym (doubled-append (encode c) (encodes cs))
-
-encodes_quoted : (cs : List ℕ) → encodes (quoted cs) ≡ quoted (encodes cs)
-unfolding encode
-encodes_quoted cs = ap (λ x. 34 ∷ x) (encodes-append (doubled cs) (34 ∷ []) ∙ ap (λ x. x ++ 34 ∷ []) (encodes_doubled cs))
 
 -- characters that have a code inside quotes
 scalars_inside : (cs : List ℕ) → scalars (doubled cs ++ 34 ∷ []) ≡ true → scalars cs ≡ true
@@ -82,8 +50,8 @@ scalars_inside [] h = refl
 scalars_inside (c ∷ cs) h = go (c == 34) refl h (scalars_inside cs)
   where
     go : (t : Bool) → (c == 34) ≡ t → scalars (cond t (34 ∷ 34 ∷ doubled cs) (c ∷ doubled cs) ++ 34 ∷ []) ≡ true → (scalars (doubled cs ++ 34 ∷ []) ≡ true → scalars cs ≡ true) → scalars (c ∷ cs) ≡ true
-    go true e k r = both (scalar c) (scalars cs) (subst (λ x. scalar x ≡ true) (sym (quote_is c e)) refl) (r k)
-    go false e k r = both (scalar c) (scalars cs) (left (scalar c) (scalars (doubled cs ++ 34 ∷ [])) k) (r (right (scalar c) (scalars (doubled cs ++ 34 ∷ [])) k))
+    go true e k r = and_from (scalar c) (scalars cs) (subst (λ x. scalar x ≡ true) (sym (quote_is c e)) refl) (r k)
+    go false e k r = and_from (scalar c) (scalars cs) (and_first (scalar c) (scalars (doubled cs ++ 34 ∷ [])) k) (r (and_second (scalar c) (scalars (doubled cs ++ 34 ∷ [])) k))
 
 text_quoted : (t : List ℕ) → IsUtf8 t → IsToken kind.Text (chars t) → CanBeQuoted (unquoted t)
 text_quoted t u h =

@@ -1,6 +1,7 @@
 -- The line of a tree is cut into the tokens that it is written as.
-use Rattle.std.proofs.Common.{◌≡◌, ◌≤◌, ℕ, suc, pos, negsuc, List, [], ◌∷◌, ◌++◌, length, map, Bool, true, false, cond, refl, sym, ap, subst, ◌∙◌, append_assoc, append-nil, decimal}
+use Rattle.std.proofs.Common.{◌≡◌, ◌≤◌, ℕ, suc, pos, negsuc, List, [], ◌∷◌, ◌++◌, length, map, Bool, true, false, cond, refl, sym, ap, subst, ◌∙◌, append_assoc, append-nil, decimal, lt-ltb}
 use Rattle.std.specs.Prelude.{codes, ◌==◌, if◌then◌else◌}
+use Rattle.opa_io.proofs.Lists.{length_map}
 use Rattle.opa_value.specs.declared.value.Value.{Value}
 use Rattle.opa_value.specs.declared.value.Value.TheVariants as value
 use Rattle.opa_value.specs.NumberText.{plain_text}
@@ -13,7 +14,7 @@ use Rattle.opa_words.specs.Pieces.{Piece, IsPiece, word, number, date}
 use Rattle.opa_words.specs.Written.{Written, AreWritten, joined, ends_before}
 use Rattle.opa_words.proofs.LawsHold.{written_is_cut_holds}
 use Rattle.opa_text.specs.Laws.{CanBeWritten}
-use Rattle.opa_text.proofs.WrittenValues.{Apart, apart_ends, value_written}
+use Rattle.opa_text.proofs.WrittenValues.{Apart, apart_ends, value_written, named_piece, comma_apart}
 use Rattle.opa_tree.specs.declared.kinds.OpKind.{OpKind}
 use Rattle.opa_tree.specs.declared.kinds.OpKind.TheVariants as op
 use Rattle.opa_tree.specs.declared.expr.Expr.{Expr}
@@ -21,15 +22,14 @@ use Rattle.opa_tree.specs.declared.expr.Expr.TheVariants as V
 use Rattle.opa_tree.specs.Trees.{op_arity}
 use Rattle.opa_wording.specs.declared.joint.Joint.TheVariants as between
 use Rattle.opa_wording.specs.Signs.{is_infix, op_piece, quant_text, window_text, rolling_text}
-use Rattle.opa_wording.specs.Wordings.{Wording, token, bracketed, together, alike, apart, in_brackets, call, denial, operation, literal, signed, phrase, phrase_word, words_from, phrase_of_attribute, phrase_of_relation, listed, over_days, wording}
+use Rattle.opa_wording.specs.Wordings.{Wording, token, bracketed, together, alike, apart, in_brackets, call, denial, operation, literal, phrase, phrase_word, words_from, phrase_of_attribute, phrase_of_relation, listed, over_days, wording}
 use Rattle.opa_wording.specs.Grammatical.{IsGrammatical, AreGrammatical}
 use Rattle.opa_wording.specs.Grammatical as tree
 use Rattle.opa_wording.specs.Told.{PhrasesAreWritten}
 use Rattle.opa_wording.specs.Laws.{LinesAreCut}
-use Rattle.opa_wording.proofs.Leaves.{lt_true}
 use Rattle.opa_wording.proofs.Numbers.{number_piece, whole_piece}
 use Rattle.opa_wording.proofs.WordingLaws.{wording-Const, wording-Attr, wording-All, wording-Any, wording-Not, wording-Op, wording-Certain, wording-Known, wording-Over, wording-Window, wording-Rolling}
-use Rattle.opa_wording.proofs.TreesWritten.{Well, IsWell, AreWell, alike_well, apart_well, brackets_well, named_well, together_well, together_leads, more_well, word_piece, sign_piece, not_word, certain_word, known_word, quant_word, quant_ascii, window_word, window_ascii, rolling_word, rolling_ascii, call_piece, comma_apart, alone_ends}
+use Rattle.opa_wording.proofs.TreesWritten.{Well, IsWell, AreWell, alike_well, apart_well, brackets_well, named_well, together_well, together_leads, more_well, sign_piece, not_word, certain_word, known_word, quant_word, quant_ascii, window_word, window_ascii, rolling_word, rolling_ascii, call_piece, alone_ends}
 
 -- ---- phrases
 
@@ -73,11 +73,7 @@ literal_well (value.Num (pos n)) c s rest a r = digits_well s n c rest a r
 literal_well (value.Num (negsuc n)) c s rest a r = (sign_piece (codes "-") refl refl, alone_ends 45 refl refl (joined (number (plain_text (pos (suc n)))) ∷ rest), digits_well false (suc n) c rest a r)
 literal_well (value.Words t) c s rest a r = value_written s kinds.Number (value.Words t) rest c a r
 literal_well (value.Day d) c s rest a r =
-    subst (λ t. AreWritten (token s (date t) ∷ rest)) (sym (ap (λ b. cond b (day_text d) []) (lt_true d DAYS c))) (value_written s kinds.Number (value.Day d) rest c a r)
-
-signed_leads : (b : Bool) (digits : List ℕ) (p : Piece) (rest : List Written) → ends_before p (signed true b digits ++ rest) ≡ true
-signed_leads true digits p rest = refl
-signed_leads false digits p rest = refl
+    subst (λ t. AreWritten (token s (date t) ∷ rest)) (sym (ap (λ b. cond b (day_text d) []) (lt-ltb d DAYS c))) (value_written s kinds.Number (value.Day d) rest c a r)
 
 literal_leads : (v : Value) (p : Piece) (rest : List Written) → ends_before p (literal true v ++ rest) ≡ true
 literal_leads value.Unknown p rest = refl
@@ -103,10 +99,6 @@ operation_well k ws n l h = go (is_infix k) refl
     go : (b : Bool) → is_infix k ≡ b → IsWell (operation k ws)
     go true i = subst (λ b. IsWell (if b then apart (λ s. together (between.Sign k) s true ws) else alike (λ s. call s (op_piece k) ws))) (sym i) (infix_well k i ws n l h)
     go false i = subst (λ b. IsWell (if b then apart (λ s. together (between.Sign k) s true ws) else alike (λ s. call s (op_piece k) ws))) (sym i) (call_well (op_piece k) (call_piece k i) ws h)
-
-pub mapped_length : {A B : Type 0} (f : A → B) (xs : List A) → length (map f xs) ≡ length xs
-mapped_length f [] = refl
-mapped_length f (x ∷ xs) = ap suc (mapped_length f xs)
 
 abbrev pub IsMore : ℕ → Type 0
 IsMore c = (n : ℕ) × (c ≡ suc n)
@@ -137,7 +129,7 @@ some_operands op.YearsBetween = (1, refl)
 some_operands op.Concatenate = (1, refl)
 
 denial_well : (w : Wording) → IsWell w → (s : Bool) → Well (denial s w)
-denial_well w h s rest a r = (word_piece (codes "not") refl not_word, h.factor_leads (word (codes "not")) rest, h.factor true rest a r)
+denial_well w h s rest a r = (named_piece (codes "not") refl not_word, h.factor_leads (word (codes "not")) rest, h.factor true rest a r)
 
 days_well : (n : ℕ) → n ≤ 36600 → (w : Wording) → IsWell w → Well (over_days n w)
 days_well n few w h rest a r =
@@ -170,24 +162,24 @@ module _ (m : Lists) (phrases : PhrasesAreWritten m) where
     tree_well (tree.IsGrammatical.not e h) = subst IsWell (sym (wording-Not m e)) (alike_well (λ s. denial s (wording m e)) (denial_well (wording m e) (tree_well h)) (λ p rest. refl))
     tree_well (tree.IsGrammatical.operation k es r l hs) =
         let some = some_operands k in
-        subst IsWell (sym (wording-Op m k es)) (operation_well k (map (wording m) es) some.0 (mapped_length (wording m) es ∙ l ∙ some.1) (trees_well hs))
+        subst IsWell (sym (wording-Op m k es)) (operation_well k (map (wording m) es) some.0 (length_map (wording m) es ∙ l ∙ some.1) (trees_well hs))
     tree_well (tree.IsGrammatical.round e z range h) =
         subst IsWell (sym (wording-Op m op.Round (e ∷ V.Const (value.Num (pos z)) ∷ [])))
         (operation_well op.Round (map (wording m) (e ∷ V.Const (value.Num (pos z)) ∷ [])) 1 refl
         (tree_well h, (subst IsWell (sym (wording-Const m (value.Num (pos z)))) (alike_well (λ s. literal s (value.Num (pos z))) (literal_well (value.Num (pos z)) (range, tt)) (literal_leads (value.Num (pos z)))), tt)))
-    tree_well (tree.IsGrammatical.certain e h) = subst IsWell (sym (wording-Certain m e)) (call_well (word (codes "Certain")) (word_piece (codes "Certain") refl certain_word) (wording m e ∷ []) (tree_well h, tt))
-    tree_well (tree.IsGrammatical.known e h) = subst IsWell (sym (wording-Known m e)) (call_well (word (codes "CurrentlyKnown")) (word_piece (codes "CurrentlyKnown") refl known_word) (wording m e ∷ []) (tree_well h, tt))
+    tree_well (tree.IsGrammatical.certain e h) = subst IsWell (sym (wording-Certain m e)) (call_well (word (codes "Certain")) (named_piece (codes "Certain") refl certain_word) (wording m e ∷ []) (tree_well h, tt))
+    tree_well (tree.IsGrammatical.known e h) = subst IsWell (sym (wording-Known m e)) (call_well (word (codes "CurrentlyKnown")) (named_piece (codes "CurrentlyKnown") refl known_word) (wording m e ∷ []) (tree_well h, tt))
     tree_well (tree.IsGrammatical.over q r es has l hs) =
         let ws : List Wording = map (wording m) es in
         subst IsWell (sym (wording-Over m q r es))
         (alike_well (λ s. token s (word (quant_text q)) ∷ bracketed false (listed m r ws))
-        (λ s. named_well s (word (quant_text q)) (listed m r ws) (word_piece (quant_text q) (quant_ascii q) (quant_word q)) (listed_well (phrase_of_relation (relation_at m r)) (phrases.relations r has) ws (trees_well hs)))
+        (λ s. named_well s (word (quant_text q)) (listed m r ws) (named_piece (quant_text q) (quant_ascii q) (quant_word q)) (listed_well (phrase_of_relation (relation_at m r)) (phrases.relations r has) ws (trees_well hs)))
         (λ p rest. refl))
-    tree_well (tree.IsGrammatical.window k es l hs) = subst IsWell (sym (wording-Window m k es)) (call_well (word (window_text k)) (word_piece (window_text k) (window_ascii k) (window_word k)) (map (wording m) es) (trees_well hs))
+    tree_well (tree.IsGrammatical.window k es l hs) = subst IsWell (sym (wording-Window m k es)) (call_well (word (window_text k)) (named_piece (window_text k) (window_ascii k) (window_word k)) (map (wording m) es) (trees_well hs))
     tree_well (tree.IsGrammatical.rolling always k e few h) =
         subst IsWell (sym (wording-Rolling m always k e))
         (alike_well (λ s. token s (word (rolling_text always)) ∷ bracketed false (over_days k (wording m e)))
-        (λ s. named_well s (word (rolling_text always)) (over_days k (wording m e)) (word_piece (rolling_text always) (rolling_ascii always) (rolling_word always)) (days_well k few (wording m e) (tree_well h)))
+        (λ s. named_well s (word (rolling_text always)) (over_days k (wording m e)) (named_piece (rolling_text always) (rolling_ascii always) (rolling_word always)) (days_well k few (wording m e) (tree_well h)))
         (λ p rest. refl))
 
     pub trees_well : {es : List Expr} → AreGrammatical m es → AreWell (map (wording m) es)

@@ -6,11 +6,11 @@ use Rattle.std.specs.Str.{chars}
 use Rattle.ucd_derived.proofs.Computing.{ucd_derived}
 use Rattle.opa_words.specs.declared.kinds.TokenKind.TheVariants as kind
 use Rattle.opa_words.specs.Kinds.{is_word, is_symbol, is_single}
-use Rattle.opa_words.specs.Pieces.{Piece, IsPiece, word, symbol}
+use Rattle.opa_words.specs.Pieces.{Piece, IsPiece, symbol}
 use Rattle.opa_words.specs.Written.{Written, AreWritten, joined, ends_before, begins_apart, stands_alone}
 use Rattle.opa_words.proofs.Ascii.{is_ascii, ascii_chars}
 use Rattle.opa_words.proofs.LawsHold.{ascii_is_token_holds}
-use Rattle.opa_text.proofs.WrittenValues.{Apart, apart_ends}
+use Rattle.opa_text.proofs.WrittenValues.{Apart, apart_ends, named_piece, comma_apart}
 use Rattle.opa_tree.specs.declared.kinds.OpKind.{OpKind}
 use Rattle.opa_tree.specs.declared.kinds.OpKind.TheVariants as op
 use Rattle.opa_tree.specs.declared.kinds.Quant.{Quant}
@@ -26,9 +26,6 @@ use Rattle.opa_wording.specs.Wordings.{Wording, token, bracketed, separator, pla
 
 pub sign_piece : (t : List ℕ) → list_all is_ascii t ≡ true → is_symbol t ≡ true → IsPiece (symbol t)
 sign_piece t a h = ascii_is_token_holds kind.Symbol t a h
-
-pub word_piece : (t : List ℕ) → list_all is_ascii t ≡ true → is_word t ≡ true → IsPiece (word t)
-word_piece t a h = ascii_is_token_holds kind.Word t a h
 
 pub not_word : is_word (codes "not") ≡ true
 unfolding ucd_derived
@@ -165,18 +162,18 @@ infix_symbol k h = absurd (cc h)
 
 pub call_piece : (k : OpKind) → is_infix k ≡ false → IsPiece (op_piece k)
 call_piece op.Neg i = sign_piece (codes "-") refl refl
-call_piece op.Round i = word_piece (codes "Round") refl (op_word op.Round i (λ h. absurd (cc h)))
-call_piece op.Min i = word_piece (codes "Minimum") refl (op_word op.Min i (λ h. absurd (cc h)))
-call_piece op.Max i = word_piece (codes "Maximum") refl (op_word op.Max i (λ h. absurd (cc h)))
-call_piece op.AddDays i = word_piece (codes "AddDays") refl (op_word op.AddDays i (λ h. absurd (cc h)))
-call_piece op.AddMonths i = word_piece (codes "AddMonths") refl (op_word op.AddMonths i (λ h. absurd (cc h)))
-call_piece op.AddYears i = word_piece (codes "AddYears") refl (op_word op.AddYears i (λ h. absurd (cc h)))
-call_piece op.DaysBetween i = word_piece (codes "DaysBetween") refl (op_word op.DaysBetween i (λ h. absurd (cc h)))
-call_piece op.YearsBetween i = word_piece (codes "YearsBetween") refl (op_word op.YearsBetween i (λ h. absurd (cc h)))
-call_piece op.YearOf i = word_piece (codes "YearOf") refl (op_word op.YearOf i (λ h. absurd (cc h)))
-call_piece op.MonthOf i = word_piece (codes "MonthOf") refl (op_word op.MonthOf i (λ h. absurd (cc h)))
-call_piece op.DayOf i = word_piece (codes "DayOf") refl (op_word op.DayOf i (λ h. absurd (cc h)))
-call_piece op.Concatenate i = word_piece (codes "Concatenate") refl (op_word op.Concatenate i (λ h. absurd (cc h)))
+call_piece op.Round i = named_piece (codes "Round") refl (op_word op.Round i (λ h. absurd (cc h)))
+call_piece op.Min i = named_piece (codes "Minimum") refl (op_word op.Min i (λ h. absurd (cc h)))
+call_piece op.Max i = named_piece (codes "Maximum") refl (op_word op.Max i (λ h. absurd (cc h)))
+call_piece op.AddDays i = named_piece (codes "AddDays") refl (op_word op.AddDays i (λ h. absurd (cc h)))
+call_piece op.AddMonths i = named_piece (codes "AddMonths") refl (op_word op.AddMonths i (λ h. absurd (cc h)))
+call_piece op.AddYears i = named_piece (codes "AddYears") refl (op_word op.AddYears i (λ h. absurd (cc h)))
+call_piece op.DaysBetween i = named_piece (codes "DaysBetween") refl (op_word op.DaysBetween i (λ h. absurd (cc h)))
+call_piece op.YearsBetween i = named_piece (codes "YearsBetween") refl (op_word op.YearsBetween i (λ h. absurd (cc h)))
+call_piece op.YearOf i = named_piece (codes "YearOf") refl (op_word op.YearOf i (λ h. absurd (cc h)))
+call_piece op.MonthOf i = named_piece (codes "MonthOf") refl (op_word op.MonthOf i (λ h. absurd (cc h)))
+call_piece op.DayOf i = named_piece (codes "DayOf") refl (op_word op.DayOf i (λ h. absurd (cc h)))
+call_piece op.Concatenate i = named_piece (codes "Concatenate") refl (op_word op.Concatenate i (λ h. absurd (cc h)))
 call_piece k i = absurd (cc i)
 
 -- ---- what ends before what
@@ -199,9 +196,6 @@ opening_apart false ws = ap begins_apart (ascii_chars (codes "(") refl)
 
 closing_apart : (ws : List Written) → Apart (joined (symbol (codes ")")) ∷ ws)
 closing_apart ws = ap begins_apart (ascii_chars (codes ")") refl)
-
-pub comma_apart : (ws : List Written) → Apart (joined (symbol (codes ",")) ∷ ws)
-comma_apart ws = ap begins_apart (ascii_chars (codes ",") refl)
 
 -- tokens, and what goes on apart from them
 abbrev pub Well : List Written → Type 0
@@ -245,8 +239,8 @@ IsJoint j = Unit {0}
 
 separator_piece : (j : Joint) → IsJoint j → IsPiece (separator j).piece
 separator_piece between.Comma h = sign_piece (codes ",") refl refl
-separator_piece between.And h = word_piece (codes "and") refl and_word
-separator_piece between.Or h = word_piece (codes "or") refl or_word
+separator_piece between.And h = named_piece (codes "and") refl and_word
+separator_piece between.Or h = named_piece (codes "or") refl or_word
 separator_piece (between.Sign k) h = sign_piece (op_text k) (op_ascii k) (infix_symbol k h)
 
 separator_apart : (j : Joint) (ws : List Written) → Apart (separator j ∷ ws)

@@ -1,12 +1,11 @@
 -- The words of a phrase at the front of written tokens, and that no longer phrase stands there.
-use Rattle.std.proofs.Common.{◌≡◌, ◌<◌, ◌≤◌, ℕ, zero, suc, List, [], ◌∷◌, ◌++◌, length, take, map, Bool, true, false, cond, All, Some, slice_get, refl, sym, ap, subst, ◌∙◌, arith, append_assoc, append-nil}
+use Rattle.std.proofs.Common.{◌≡◌, ◌<◌, ◌≤◌, ℕ, zero, suc, List, [], ◌∷◌, ◌++◌, length, take, map, Bool, true, false, cond, All, refl, sym, ap, subst, ◌∙◌, arith, append_assoc, append-nil}
 use Rattle.std.specs.Prelude.{codes, ◌==◌}
 use Rattle.std.specs.Char.{is_ascii_digit}
 use Rattle.std.specs.List.{list_any, list_all}
 use Rattle.std.specs.Str.{IsUtf8}
 use Rattle.std.proofs.lemmas.Bool.{and_parts}
-use Rattle.std.proofs.lemmas.Option.{slice_get_within, get_or_from_slice_get}
-use Rattle.std.proofs.lemmas.List.Elements.{All-get_or}
+use Rattle.opa_io.proofs.Bools.{never_both}
 use Rattle.opa_words.specs.declared.kinds.Token.{Token}
 use Rattle.opa_words.specs.Places.{IsWithin, IsOfKind}
 use Rattle.opa_words.specs.Reserved.{joined, phrase_text, is_phrase_kind}
@@ -87,17 +86,13 @@ word_text c cs = go (is_ascii_digit c)
     go true = refl
     go false = refl
 
-both_ways : (b : Bool) → b ≡ true → b ≡ false → ⊥
-both_ways true h k = absurd (cc k)
-both_ways false h k = absurd (cc h)
-
 abbrev first_piece : List Written → Piece
 first_piece [] = word []
 first_piece (w ∷ ws) = w.piece
 
 none_signed : (ps qs : List Piece) (x : Piece) (rest : List Written) → AreWordPieces qs → behind ps ++ token true x ∷ rest ≡ behind qs → is_sign x.text ≡ true → ⊥
 none_signed [] [] x rest h e s = absurd (cc e)
-none_signed [] (q ∷ qs) x rest h e s = let same : x ≡ q = ap first_piece e in both_ways (is_sign x.text) s (ap (λ (p : Piece). is_sign p.text) same ∙ h.0.unsigned)
+none_signed [] (q ∷ qs) x rest h e s = let same : x ≡ q = ap first_piece e in never_both (is_sign x.text) s (ap (λ (p : Piece). is_sign p.text) same ∙ h.0.unsigned)
 none_signed (p ∷ ps) [] x rest h e s = absurd (cc e)
 none_signed (p ∷ ps) (q ∷ qs) x rest h e s = let same : behind ps ++ token true x ∷ rest ≡ behind qs = cc e in none_signed ps qs x rest h.1 same s
 
@@ -162,9 +157,6 @@ no_longer_front s p ps hp hps (t ∷ ts) e (suc k) low high other h is =
     no_sign_inside p ps hp hps t.text r.more other sign h (is ∙ joined_strung p.text (texts (take k (all_told (behind ps) ++ t ∷ ts))) ∙ ap (λ x. p.text ++ x) r.is)
 
 -- ---- one of many texts
-
-pub one_of : {X : Type 0} (P : X → Type 0) (xs : List X) (n : ℕ) (x : X) → slice_get xs n ≡ Some x → All P xs → P x
-one_of P xs n x at all = subst P (get_or_from_slice_get xs n x x at) (All-get_or P xs n x (slice_get_within xs n x at) all)
 
 all_texts : (ps : List Piece) → strung (texts (all_told (behind ps))) ≡ led ps
 all_texts [] = refl

@@ -9,7 +9,7 @@ use Rattle.unicode.specs.GeneralCategoryGroup.{in_group}
 use Rattle.ucd_category.specs.declared.GeneralCategoryGroup.TheVariants.{Mark}
 use Rattle.ucd_derived.proofs.Computing.{ucd_derived}
 use Rattle.ucd_category.proofs.Computing.{ucd_category}
-use Rattle.opa_words.proofs.Letters.{left, right}
+use Rattle.opa_io.proofs.Bools.{and_first, and_second}
 
 -- the test passes at so many numbers from one on
 abbrev holds_from : (ℕ → Bool) → ℕ → ℕ → Bool
@@ -23,8 +23,8 @@ at_first p from c false e here later low = later (grind (arith, e, low))
 at_each : (p : ℕ → Bool) (from n c : ℕ) → holds_from p from n ≡ true → from ≤ c → c < from + n → p c ≡ true
 at_each p from zero c h low high = absurd (omega (arith, low, high))
 at_each p from (suc n) c h low high =
-    at_first p from c (nat_eq from c) refl (left (p from) (holds_from p (from + 1) n) h)
-    (λ above. at_each p (from + 1) n c (right (p from) (holds_from p (from + 1) n) h) above (omega (arith, high))) low
+    at_first p from c (nat_eq from c) refl (and_first (p from) (holds_from p (from + 1) n) h)
+    (λ above. at_each p (from + 1) n c (and_second (p from) (holds_from p (from + 1) n) h) above (omega (arith, high))) low
 
 abbrev same : Bool → Bool → Bool
 same true b = b

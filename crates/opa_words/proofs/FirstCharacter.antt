@@ -4,12 +4,13 @@ use Rattle.std.specs.Prelude.{Some, slice_get}
 use Rattle.std.specs.Str.{chars, IsUtf8}
 use lib.Utf8.{scalar, scalars, encode, encodes}
 use Rattle.std.proofs.lemmas.Str.{chars-encodes}
-use Rattle.opa_words.proofs.Letters.{both, left}
+use Rattle.std.proofs.lemmas.Bool.{and_from}
+use Rattle.opa_io.proofs.Bools.{and_first}
 
 -- the first of a text's characters is one
 pub first_scalar : (cs : List ℕ) (c : ℕ) → scalars cs ≡ true → Some c ≡ slice_get cs 0 → scalar c ≡ true
 first_scalar [] c h e = absurd (cc e)
-first_scalar (x ∷ xs) c h e = let one : x ≡ c = cc (sym e) in subst (λ k. scalar k ≡ true) one (left (scalar x) (scalars xs) h)
+first_scalar (x ∷ xs) c h e = let one : x ≡ c = cc (sym e) in subst (λ k. scalar k ≡ true) one (and_first (scalar x) (scalars xs) h)
 
 -- a text without bytes has no characters
 pub no_characters : (text : List ℕ) → length text ≡ 0 → chars text ≡ []
@@ -21,6 +22,6 @@ no_characters (b ∷ bs) e = absurd (omega (arith, e))
 pub chars_of_first : (text rest : List ℕ) (c : ℕ) → scalar c ≡ true → IsUtf8 rest → text ≡ encode c ++ rest → chars text ≡ c ∷ chars rest
 chars_of_first text rest c is utf8 e =
     let cs = utf8.0 in
-    let all : scalars (c ∷ cs) ≡ true = both (scalar c) (scalars cs) is utf8.1.0 in
+    let all : scalars (c ∷ cs) ≡ true = and_from (scalar c) (scalars cs) is utf8.1.0 in
     let left : chars rest ≡ cs = ap chars (sym utf8.1.1) ∙ chars-encodes cs utf8.1.0 in
     ap chars (e ∙ ap (λ s. encode c ++ s) (sym utf8.1.1)) ∙ chars-encodes (c ∷ cs) all ∙ ap (λ s. c ∷ s) (sym left)

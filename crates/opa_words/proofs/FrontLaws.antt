@@ -10,19 +10,10 @@ use Rattle.opa_words.specs.Scan.{one, past_quote, text}
 use Rattle.opa_words.specs.Quotes.{HasNoQuote, SplitsAtQuote, IsQuoted}
 use Rattle.opa_words.specs.Fronts.{HasInFront, BeginsWithText, BeginsWithNoText}
 use Rattle.std.proofs.lemmas.List.{append_cancel_right}
+use Rattle.opa_io.proofs.Characters.{quote_is}
+use Rattle.opa_io.proofs.Bools.{neither_first, neither_second}
 use Rattle.opa_words.proofs.QuoteLaws.{quoted_tells_apart}
 use Rattle.opa_words.proofs.Scans.{AtMost, text_found, text_reaches}
-
-or_left : (a b : Bool) → (a || b) ≡ false → a ≡ false
-or_left true b h = absurd (cc h)
-or_left false b h = refl
-
-or_right : (a b : Bool) → (a || b) ≡ false → b ≡ false
-or_right true b h = absurd (cc h)
-or_right false b h = h
-
-is_quote : (b : ℕ) → (b == 34) ≡ true → b ≡ 34
-is_quote b h = grind (arith, h)
 
 -- ---- the next quote
 
@@ -31,13 +22,13 @@ one_quote [] None h = refl
 one_quote (b ∷ bs) None h = go (b == 34) refl
   where
     go : (t : Bool) → (b == 34) ≡ t → None ≡ cond t (Some bs) None
-    go true e = absurd (h bs (ap (λ x. x ∷ bs) (is_quote b e)))
+    go true e = absurd (h bs (ap (λ x. x ∷ bs) (quote_is b e)))
     go false e = refl
 one_quote bs (Some x) h = sym (ap (one (λ b. b == 34)) h)
 
 pub no_quote_ahead : (bs : List ℕ) → HasNoQuote bs → None ≡ past_quote bs
 no_quote_ahead [] h = refl
-no_quote_ahead (b ∷ bs) h = go (b == 34) (is_control b) (or_left (b == 34) (list_any (λ x. x == 34) bs) h) (no_quote_ahead bs (or_right (b == 34) (list_any (λ x. x == 34) bs) h))
+no_quote_ahead (b ∷ bs) h = go (b == 34) (is_control b) (neither_first (b == 34) (list_any (λ x. x == 34) bs) h) (no_quote_ahead bs (neither_second (b == 34) (list_any (λ x. x == 34) bs) h))
   where
     go : (t d : Bool) → t ≡ false → None ≡ past_quote bs → None ≡ cond t (Some bs) (cond d None (past_quote bs))
     go true d e k = absurd (cc e)
@@ -46,7 +37,7 @@ no_quote_ahead (b ∷ bs) h = go (b == 34) (is_control b) (or_left (b == 34) (li
 
 quote_ahead_at : (front later : List ℕ) → HasNoQuote front → past_quote (front ++ 34 ∷ later) ≡ cond (list_any is_control front) None (Some later)
 quote_ahead_at [] later h = refl
-quote_ahead_at (b ∷ front) later h = go (b == 34) (is_control b) (or_left (b == 34) (list_any (λ x. x == 34) front) h) (quote_ahead_at front later (or_right (b == 34) (list_any (λ x. x == 34) front) h))
+quote_ahead_at (b ∷ front) later h = go (b == 34) (is_control b) (neither_first (b == 34) (list_any (λ x. x == 34) front) h) (quote_ahead_at front later (neither_second (b == 34) (list_any (λ x. x == 34) front) h))
   where
     go : (t d : Bool) → t ≡ false → past_quote (front ++ 34 ∷ later) ≡ cond (list_any is_control front) None (Some later)
         → cond t (Some (front ++ 34 ∷ later)) (cond d None (past_quote (front ++ 34 ∷ later))) ≡ cond (d || list_any is_control front) None (Some later)

@@ -4,24 +4,11 @@ use Rattle.std.specs.Prelude.{◌&&◌, ◌||◌, ◌==◌, not, codes}
 use Rattle.std.proofs.Common.{inl, inr}
 use Rattle.std.specs.List.{list_all, list_any}
 use Rattle.ucd_derived.proofs.Computing.{ucd_derived}
+use Rattle.opa_io.proofs.Bools.{and_first, and_second}
 use Rattle.opa_words.specs.declared.kinds.TokenKind.{TokenKind}
 use Rattle.opa_words.specs.declared.kinds.TokenKind.TheVariants as kind
 use Rattle.opa_words.specs.Characters.{begins_word, continues_word, is_digit}
 use Rattle.opa_words.specs.Kinds.{IsToken, is_date, is_word, is_symbol, is_single, AreDigits, IsNumber}
-
-pub left : (a b : Bool) → (a && b) ≡ true → a ≡ true
-left true b h = refl
-left false b h = absurd (cc h)
-
-pub right : (a b : Bool) → (a && b) ≡ true → b ≡ true
-right true b h = h
-right false b h = absurd (cc h)
-
-pub both : (a b : Bool) → a ≡ true → b ≡ true → (a && b) ≡ true
-both a b p q = ap (λ t. t && b) p ∙ q
-
-pub apart : (b : Bool) → b ≡ true → b ≡ false → ⊥
-apart b p q = let e : true ≡ false = sym p ∙ q in absurd (cc e)
 
 -- the first character of a token of the kind
 abbrev pub starts : TokenKind → ℕ → Bool
@@ -32,9 +19,9 @@ starts kind.Text c = c == 34
 starts kind.Symbol c = list_any (λ d. c == d) (codes "()[],:;/+-*=<>")
 
 -- a character of the list is none that passes
-none_of : (p : ℕ → Bool) (c : ℕ) (ds : List ℕ) → list_all (λ d. not (p d)) ds ≡ true → list_any (λ d. c == d) ds ≡ true → p c ≡ true → ⊥
+pub none_of : (p : ℕ → Bool) (c : ℕ) (ds : List ℕ) → list_all (λ d. not (p d)) ds ≡ true → list_any (λ d. c == d) ds ≡ true → p c ≡ true → ⊥
 none_of p c [] a h q = absurd (cc h)
-none_of p c (d ∷ ds) a h q = go (c == d) refl (none_of p c ds (right (not (p d)) (list_all (λ d. not (p d)) ds) a))
+none_of p c (d ∷ ds) a h q = go (c == d) refl (none_of p c ds (and_second (not (p d)) (list_all (λ d. not (p d)) ds) a))
   where
     same : (p d : Bool) → p ≡ true → p ≡ d → not d ≡ true → ⊥
     same true true h e n = absurd (cc n)
@@ -42,7 +29,7 @@ none_of p c (d ∷ ds) a h q = go (c == d) refl (none_of p c ds (right (not (p d
     same false d h e n = absurd (cc h)
 
     go : (t : Bool) → (c == d) ≡ t → (list_any (λ d. c == d) ds ≡ true → p c ≡ true → ⊥) → ⊥
-    go true e r = same (p c) (p d) q (ap p (grind (arith, e))) (left (not (p d)) (list_all (λ d. not (p d)) ds) a)
+    go true e r = same (p c) (p d) q (ap p (grind (arith, e))) (and_first (not (p d)) (list_all (λ d. not (p d)) ds) a)
     go false e r = r (ap (λ t. t || list_any (λ d. c == d) ds) (sym e) ∙ h) q
 
 abbrev digits : List ℕ
@@ -145,15 +132,15 @@ one_start c false e k = less_or_more c (c == 60) refl k
 
 two_start : (c d : ℕ) (t : Bool) → (c == 60) ≡ t → ((t && ((d == 61) || (d == 62))) || ((c == 62) && (d == 61))) ≡ true → starts kind.Symbol c ≡ true
 two_start c d true e k = subst (λ x. starts kind.Symbol x ≡ true) (let f : 60 ≡ c = grind (arith, e) in f) refl
-two_start c d false e k = subst (λ x. starts kind.Symbol x ≡ true) (let g = left (c == 62) (d == 61) k in let f : 62 ≡ c = grind (arith, g) in f) refl
+two_start c d false e k = subst (λ x. starts kind.Symbol x ≡ true) (let g = and_first (c == 62) (d == 61) k in let f : 62 ≡ c = grind (arith, g) in f) refl
 
 digits_start : (cs back : List ℕ) → AreDigits cs → Starts kind.Number (cs ++ back)
 digits_start [] back h = absurd (omega (arith, h.1))
-digits_start (c ∷ cs) back h = left (is_digit c) (list_all is_digit cs) h.0
+digits_start (c ∷ cs) back h = and_first (is_digit c) (list_all is_digit cs) h.0
 
 digits_first : (cs : List ℕ) → AreDigits cs → Starts kind.Number cs
 digits_first [] h = absurd (omega (arith, h.1))
-digits_first (c ∷ cs) h = left (is_digit c) (list_all is_digit cs) h.0
+digits_first (c ∷ cs) h = and_first (is_digit c) (list_all is_digit cs) h.0
 
 -- the characters of a date
 pub record DateParts (cs : List ℕ) : Type 0 where
@@ -168,7 +155,7 @@ pub record DateParts (cs : List ℕ) : Type 0 where
   pub digits : list_all is_digit (a ∷ b ∷ c ∷ d ∷ f ∷ g ∷ i ∷ j ∷ []) ≡ true
   pub is : cs ≡ a ∷ b ∷ c ∷ d ∷ 45 ∷ f ∷ g ∷ 45 ∷ i ∷ j ∷ []
 
-hyphen_is : (e : ℕ) → (e == 45) ≡ true → e ≡ 45
+pub hyphen_is : (e : ℕ) → (e == 45) ≡ true → e ≡ 45
 hyphen_is e h = grind (arith, h)
 
 pub date_parts : (cs : List ℕ) → is_date cs ≡ true → DateParts cs
@@ -183,9 +170,9 @@ date_parts (a ∷ b ∷ c ∷ d ∷ e ∷ f ∷ g ∷ []) h = absurd (cc h)
 date_parts (a ∷ b ∷ c ∷ d ∷ e ∷ f ∷ g ∷ k ∷ []) h = absurd (cc h)
 date_parts (a ∷ b ∷ c ∷ d ∷ e ∷ f ∷ g ∷ k ∷ i ∷ []) h = absurd (cc h)
 date_parts (a ∷ b ∷ c ∷ d ∷ e ∷ f ∷ g ∷ k ∷ i ∷ j ∷ []) h =
-    let front : (list_all is_digit (a ∷ b ∷ c ∷ d ∷ f ∷ g ∷ i ∷ j ∷ []) && (e == 45)) ≡ true = left (list_all is_digit (a ∷ b ∷ c ∷ d ∷ f ∷ g ∷ i ∷ j ∷ []) && (e == 45)) (k == 45) h in
-    let first : e ≡ 45 = hyphen_is e (right (list_all is_digit (a ∷ b ∷ c ∷ d ∷ f ∷ g ∷ i ∷ j ∷ [])) (e == 45) front) in
-    let second : k ≡ 45 = hyphen_is k (right (list_all is_digit (a ∷ b ∷ c ∷ d ∷ f ∷ g ∷ i ∷ j ∷ []) && (e == 45)) (k == 45) h) in
+    let front : (list_all is_digit (a ∷ b ∷ c ∷ d ∷ f ∷ g ∷ i ∷ j ∷ []) && (e == 45)) ≡ true = and_first (list_all is_digit (a ∷ b ∷ c ∷ d ∷ f ∷ g ∷ i ∷ j ∷ []) && (e == 45)) (k == 45) h in
+    let first : e ≡ 45 = hyphen_is e (and_second (list_all is_digit (a ∷ b ∷ c ∷ d ∷ f ∷ g ∷ i ∷ j ∷ [])) (e == 45) front) in
+    let second : k ≡ 45 = hyphen_is k (and_second (list_all is_digit (a ∷ b ∷ c ∷ d ∷ f ∷ g ∷ i ∷ j ∷ []) && (e == 45)) (k == 45) h) in
     record {
       a = a;
       b = b;
@@ -195,14 +182,14 @@ date_parts (a ∷ b ∷ c ∷ d ∷ e ∷ f ∷ g ∷ k ∷ i ∷ j ∷ []) h =
       g = g;
       i = i;
       j = j;
-      digits = left (list_all is_digit (a ∷ b ∷ c ∷ d ∷ f ∷ g ∷ i ∷ j ∷ [])) (e == 45) front;
+      digits = and_first (list_all is_digit (a ∷ b ∷ c ∷ d ∷ f ∷ g ∷ i ∷ j ∷ [])) (e == 45) front;
       is = ap (λ x. a ∷ b ∷ c ∷ d ∷ x ∷ f ∷ g ∷ k ∷ i ∷ j ∷ []) first ∙ ap (λ x. a ∷ b ∷ c ∷ d ∷ 45 ∷ f ∷ g ∷ x ∷ i ∷ j ∷ []) second;
     }
 date_parts (a ∷ b ∷ c ∷ d ∷ e ∷ f ∷ g ∷ k ∷ i ∷ j ∷ x ∷ cs) h = absurd (cc h)
 
 word_start : (f : List ℕ) → is_word f ≡ true → Starts kind.Word f
 word_start [] h = absurd (cc h)
-word_start (c ∷ cs) h = left (begins_word c) (list_all continues_word cs) h
+word_start (c ∷ cs) h = and_first (begins_word c) (list_all continues_word cs) h
 
 symbol_start : (f : List ℕ) → is_symbol f ≡ true → Starts kind.Symbol f
 symbol_start [] h = absurd (cc h)
@@ -215,7 +202,7 @@ number_start f (inl h) = digits_first f h
 number_start f (inr h) = subst (Starts kind.Number) (sym h.5) (digits_start h.0 (46 ∷ h.1) h.2)
 
 date_start : (f : List ℕ) → DateParts f → Starts kind.Date f
-date_start f p = subst (Starts kind.Date) (sym p.is) (left (is_digit p.a) (list_all is_digit (p.b ∷ p.c ∷ p.d ∷ p.f ∷ p.g ∷ p.i ∷ p.j ∷ [])) p.digits)
+date_start f p = subst (Starts kind.Date) (sym p.is) (and_first (is_digit p.a) (list_all is_digit (p.b ∷ p.c ∷ p.d ∷ p.f ∷ p.g ∷ p.i ∷ p.j ∷ [])) p.digits)
 
 -- a token of the kind begins so
 pub token_starts : (k : TokenKind) (f : List ℕ) → IsToken k f → Starts k f

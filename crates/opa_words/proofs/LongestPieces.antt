@@ -1,10 +1,12 @@
 -- Which token is the longest, by what follows it.
 use Rattle.std.proofs.Common.{◌≡◌, ◌≤◌, ◌<◌, ℕ, List, [], ◌∷◌, ◌++◌, length, Bool, true, false, refl, sym, ap, subst, ◌∙◌, arith}
 use Rattle.std.specs.Prelude.{◌||◌, ◌==◌, cond, nat_le}
+use Rattle.opa_io.proofs.Bools.{never_both}
+use Rattle.opa_io.proofs.Characters.{quote_test}
 use Rattle.opa_words.specs.declared.kinds.TokenKind.{TokenKind}
 use Rattle.opa_words.specs.declared.kinds.TokenKind.TheVariants as kind
 use Rattle.opa_words.specs.Kinds.{IsToken, IsLongest, is_single, is_symbol, doubled, quoted}
-use Rattle.opa_words.proofs.Letters.{apart, starts, token_starts, Peers, peers}
+use Rattle.opa_words.proofs.Letters.{starts, token_starts, Peers, peers}
 use Rattle.opa_words.specs.Written.{parts}
 use Rattle.opa_words.proofs.Separate.{parts_none}
 
@@ -29,14 +31,8 @@ longer (b ∷ p) (c ∷ f) rest r e h =
     let x = longer p f rest r (let k : f ++ r ≡ p ++ rest = cc e in k) (omega (arith, h)) in
     record { first = x.first; later = x.later; is = (let k : c ≡ b = cc e in ap (λ y. y ∷ f) k) ∙ ap (λ y. b ∷ y) x.is; back = x.back; from = x.from }
 
-quote_is : (c : ℕ) → (c == 34) ≡ true → c ≡ 34
-quote_is c h = grind (arith, h)
-
-quote_test : (c : ℕ) → c ≡ 34 → (c == 34) ≡ true
-quote_test c h = grind (arith, h)
-
 not_quote : (c : ℕ) (t : Bool) → (c == 34) ≡ t → t ≡ false → c ≡ 34 → ⊥
-not_quote c t e f q = apart (c == 34) (quote_test c q) (e ∙ f)
+not_quote c t e f q = never_both (c == 34) (quote_test c q) (e ∙ f)
 
 -- after a text between quotes comes a quote, or no longer text between quotes goes on there
 goes_on : (xs ys : List ℕ) (c : ℕ) (g : List ℕ) → doubled ys ++ 34 ∷ [] ≡ doubled xs ++ 34 ∷ c ∷ g → c ≡ 34
@@ -70,7 +66,7 @@ text_goes_on p f c g s t e h =
     let k : quoted t.0 ≡ quoted s.0 ++ c ∷ g = sym t.2 ∙ e ∙ ap (λ x. x ++ c ∷ g) s.2 in
     let m : doubled t.0 ++ 34 ∷ [] ≡ (doubled s.0 ++ 34 ∷ []) ++ c ∷ g = cc k in
     let q : c ≡ 34 = goes_on s.0 t.0 c g (m ∙ seam (doubled s.0)) in
-    apart (parts c) h (ap parts q)
+    never_both (parts c) h (ap parts q)
   where
     seam : (xs : List ℕ) → (xs ++ 34 ∷ []) ++ c ∷ g ≡ xs ++ 34 ∷ c ∷ g
     seam [] = refl

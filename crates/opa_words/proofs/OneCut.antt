@@ -1,5 +1,6 @@
 -- A line is cut in one way.
-use Rattle.std.proofs.Common.{◌≡◌, ℕ, ◌-◌, List, [], ◌∷◌, refl, sym, ap, subst, ◌∙◌, Bool, true, false}
+use Rattle.std.proofs.Common.{◌≡◌, ℕ, ◌-◌, List, [], ◌∷◌, refl, sym, ap, subst, ◌∙◌, true, false}
+use Rattle.opa_io.proofs.Bools.{never_both}
 use Rattle.opa_words.specs.declared.kinds.TokenKind.{TokenKind}
 use Rattle.opa_words.specs.declared.kinds.Token.{Token}
 use Rattle.opa_words.specs.Characters.{width, is_blank}
@@ -9,20 +10,17 @@ use Rattle.opa_words.specs.Cuts as c
 use Rattle.opa_words.specs.Cuts.{Cuts, Stuck}
 use Rattle.opa_words.specs.Laws.{OneCut, CutOrStuck, OneLongest}
 
-apart : (b : Bool) → b ≡ true → b ≡ false → ⊥
-apart b p q = let e : true ≡ false = sym p ∙ q in absurd (cc e)
-
 module _ (total : ℕ) where
   abbrev Only : List ℕ → List Token → Type 0
   Only cs ts = (us : List Token) → Cuts total cs us → ts ≡ us
 
   after_blank : (x : ℕ) (cs : List ℕ) (ts : List Token) → is_blank x ≡ true → Only cs ts → (us : List Token) → Cuts total (x ∷ cs) us → ts ≡ us
   after_blank x cs ts b one us (c.Cuts.blank b' d) = one us d
-  after_blank x cs ts b one us (c.Cuts.cut k rest b' is d) = absurd (apart (is_blank x) b b')
+  after_blank x cs ts b one us (c.Cuts.cut k rest b' is d) = absurd (never_both (is_blank x) b b')
 
   after_cut : (x : ℕ) (cs : List ℕ) (ts : List Token) (k : TokenKind) (rest : List ℕ) → is_blank x ≡ false → IsLongest (x ∷ cs) k rest → Only rest ts → (us : List Token) → Cuts total (x ∷ cs) us
       → record { kind = k; start = total - width (x ∷ cs); end = total - width rest } ∷ ts ≡ us
-  after_cut x cs ts k rest b is one us (c.Cuts.blank b' d) = absurd (apart (is_blank x) b' b)
+  after_cut x cs ts k rest b is one us (c.Cuts.blank b' d) = absurd (never_both (is_blank x) b' b)
   after_cut x cs ts k rest b is one us (c.Cuts.cut {ts = vs} l left b' is' d) =
       let f = one_longest (x ∷ cs) k l rest left is is' in
       let e : ts ≡ vs = one vs (subst (λ r. Cuts total r vs) (sym f.1) d) in
@@ -41,13 +39,13 @@ module _ (total : ℕ) where
   Never cs = (p : ℕ) → Stuck total cs p → ⊥
 
   blank_never : (x : ℕ) (cs : List ℕ) → is_blank x ≡ true → Never cs → (p : ℕ) → Stuck total (x ∷ cs) p → ⊥
-  blank_never x cs b n p (c.Stuck.here b' is) = apart (is_blank x) b b'
+  blank_never x cs b n p (c.Stuck.here b' is) = never_both (is_blank x) b b'
   blank_never x cs b n p (c.Stuck.blank b' d) = n p d
-  blank_never x cs b n p (c.Stuck.cut k rest b' is d) = apart (is_blank x) b b'
+  blank_never x cs b n p (c.Stuck.cut k rest b' is d) = never_both (is_blank x) b b'
 
   cut_never : (x : ℕ) (cs : List ℕ) (k : TokenKind) (rest : List ℕ) → is_blank x ≡ false → IsLongest (x ∷ cs) k rest → Never rest → (p : ℕ) → Stuck total (x ∷ cs) p → ⊥
   cut_never x cs k rest b is n p (c.Stuck.here b' none) = none k is.front rest is.split is.token
-  cut_never x cs k rest b is n p (c.Stuck.blank b' d) = apart (is_blank x) b' b
+  cut_never x cs k rest b is n p (c.Stuck.blank b' d) = never_both (is_blank x) b' b
   cut_never x cs k rest b is n p (c.Stuck.cut l left b' is' d) = n p (subst (λ r. Stuck total r p) (sym (one_longest (x ∷ cs) k l rest left is is').1) d)
 
   end_never : (p : ℕ) → Stuck total [] p → ⊥

@@ -6,6 +6,8 @@ use lib.Utf8.{scalar, scalars, encodes}
 use Rattle.std.proofs.lemmas.List.Elements.{All-from_recursion}
 use Rattle.std.proofs.lemmas.Str.{encodes-chars, scalars-chars, chars-encodes, encodes-append, len_utf8_bounds, encode_ascii, IsCharBoundary-at_seam}
 use Rattle.std.proofs.Math.Seq.{drop-append_seam, take-append_seam}
+use Rattle.std.proofs.lemmas.Bool.{and_from}
+use Rattle.opa_io.proofs.Bools.{and_first, and_second}
 use Rattle.opa_words.specs.declared.kinds.TokenKind.{TokenKind}
 use Rattle.opa_words.specs.declared.kinds.Token.{Token}
 use Rattle.opa_words.specs.declared.fault.WordFault.{WordFault}
@@ -15,7 +17,6 @@ use Rattle.opa_words.specs.Kinds.{IsToken, IsLongest}
 use Rattle.opa_words.specs.Cuts as c
 use Rattle.opa_words.specs.Cuts.{Cuts, Stuck, IsCause}
 use Rattle.opa_words.specs.Places.{IsWithin, IsOfKind, AreBlank, AreApart, IsAtCharacter}
-use Rattle.opa_words.proofs.Letters.{left, right, both}
 use Rattle.opa_words.proofs.CutLaws.{width_encodes, width_chars}
 
 pub width-append : (cs ds : List ℕ) → width (cs ++ ds) ≡ width cs + width ds
@@ -24,11 +25,11 @@ width-append (c ∷ cs) ds = omega (arith, width-append cs ds)
 
 scalars_front : (cs ds : List ℕ) → scalars (cs ++ ds) ≡ true → scalars cs ≡ true
 scalars_front [] ds h = refl
-scalars_front (c ∷ cs) ds h = both (scalar c) (scalars cs) (left (scalar c) (scalars (cs ++ ds)) h) (scalars_front cs ds (right (scalar c) (scalars (cs ++ ds)) h))
+scalars_front (c ∷ cs) ds h = and_from (scalar c) (scalars cs) (and_first (scalar c) (scalars (cs ++ ds)) h) (scalars_front cs ds (and_second (scalar c) (scalars (cs ++ ds)) h))
 
 scalars_back : (cs ds : List ℕ) → scalars (cs ++ ds) ≡ true → scalars ds ≡ true
 scalars_back [] ds h = h
-scalars_back (c ∷ cs) ds h = scalars_back cs ds (right (scalar c) (scalars (cs ++ ds)) h)
+scalars_back (c ∷ cs) ds h = scalars_back cs ds (and_second (scalar c) (scalars (cs ++ ds)) h)
 
 blank_byte : (b : ℕ) → is_blank b ≡ true → b < 128
 blank_byte b h = grind (arith, h)
@@ -36,11 +37,11 @@ blank_byte b h = grind (arith, h)
 -- blanks are their own bytes
 blanks : (cs : List ℕ) → list_all is_blank cs ≡ true → encodes cs ≡ cs
 blanks [] h = refl
-blanks (c ∷ cs) h = ap (λ x. x ++ encodes cs) (encode_ascii c (blank_byte c (left (is_blank c) (list_all is_blank cs) h))) ∙ ap (λ x. c ∷ x) (blanks cs (right (is_blank c) (list_all is_blank cs) h))
+blanks (c ∷ cs) h = ap (λ x. x ++ encodes cs) (encode_ascii c (blank_byte c (and_first (is_blank c) (list_all is_blank cs) h))) ∙ ap (λ x. c ∷ x) (blanks cs (and_second (is_blank c) (list_all is_blank cs) h))
 
 blank_push : (cs : List ℕ) (b : ℕ) → list_all is_blank cs ≡ true → is_blank b ≡ true → list_all is_blank (cs ++ b ∷ []) ≡ true
-blank_push [] b h k = both (is_blank b) true k refl
-blank_push (c ∷ cs) b h k = both (is_blank c) (list_all is_blank (cs ++ b ∷ [])) (left (is_blank c) (list_all is_blank cs) h) (blank_push cs b (right (is_blank c) (list_all is_blank cs) h) k)
+blank_push [] b h k = and_from (is_blank b) true k refl
+blank_push (c ∷ cs) b h k = and_from (is_blank c) (list_all is_blank (cs ++ b ∷ [])) (and_first (is_blank c) (list_all is_blank cs) h) (blank_push cs b (and_second (is_blank c) (list_all is_blank cs) h) k)
 
 module _ (bs : List ℕ) (utf8 : IsUtf8 bs) where
   spelled : (pre cs : List ℕ) → pre ++ cs ≡ chars bs → bs ≡ encodes pre ++ encodes cs

@@ -6,28 +6,19 @@ use Rattle.std.specs.List.{list_any}
 use Rattle.std.specs.Str.{chars, IsUtf8}
 use lib.Utf8.{encode, encodes}
 use Rattle.std.proofs.lemmas.Str.{encodes-chars, encodes-append, inside_one}
+use Rattle.opa_io.proofs.Characters.{quote_is}
+use Rattle.opa_io.proofs.Bools.{neither_first, neither_second}
 use Rattle.opa_words.specs.Kinds.{doubled, IsText}
 use Rattle.opa_words.specs.Quotes.{HasNoQuote, SplitsAtQuote, IsQuoted, QuotedTellsApart}
 
-not_quote : (b : ℕ) → b ≢ 34 → (b == 34) ≡ false
+pub not_quote : (b : ℕ) → b ≢ 34 → (b == 34) ≡ false
 not_quote b h = grind (arith, h)
-
-quote_is : (b : ℕ) → (b == 34) ≡ true → b ≡ 34
-quote_is b h = grind (arith, h)
 
 pub no_quote : (bs : List ℕ) → ((i : ℕ) → i < length bs → get_or bs i 0 ≢ 34) → HasNoQuote bs
 no_quote [] h = refl
 no_quote (b ∷ bs) h = ap (λ t. t || list_any (λ x. x == 34) bs) (not_quote b (h 0 (omega arith))) ∙ no_quote bs (λ i l. h (suc i) (omega (arith, l)))
 
-or_left : (a b : Bool) → (a || b) ≡ false → a ≡ false
-or_left true b h = absurd (cc h)
-or_left false b h = refl
-
-or_right : (a b : Bool) → (a || b) ≡ false → b ≡ false
-or_right true b h = absurd (cc h)
-or_right false b h = h
-
-doubled-append : (bs cs : List ℕ) → doubled (bs ++ cs) ≡ doubled bs ++ doubled cs
+pub doubled-append : (bs cs : List ℕ) → doubled (bs ++ cs) ≡ doubled bs ++ doubled cs
 doubled-append [] cs = refl
 doubled-append (b ∷ bs) cs = go (b == 34) (doubled-append bs cs)
   where
@@ -35,10 +26,10 @@ doubled-append (b ∷ bs) cs = go (b == 34) (doubled-append bs cs)
     go true h = ap (λ x. 34 ∷ 34 ∷ x) h
     go false h = ap (λ x. b ∷ x) h
 
-doubled_plain : (bs : List ℕ) → HasNoQuote bs → doubled bs ≡ bs
+pub doubled_plain : (bs : List ℕ) → HasNoQuote bs → doubled bs ≡ bs
 doubled_plain [] h = refl
 doubled_plain (b ∷ bs) h =
-    ap (λ t. cond t (34 ∷ 34 ∷ doubled bs) (b ∷ doubled bs)) (or_left (b == 34) (list_any (λ x. x == 34) bs) h) ∙ ap (λ x. b ∷ x) (doubled_plain bs (or_right (b == 34) (list_any (λ x. x == 34) bs) h))
+    ap (λ t. cond t (34 ∷ 34 ∷ doubled bs) (b ∷ doubled bs)) (neither_first (b == 34) (list_any (λ x. x == 34) bs) h) ∙ ap (λ x. b ∷ x) (doubled_plain bs (neither_second (b == 34) (list_any (λ x. x == 34) bs) h))
 
 doubled_split : (bs front later : List ℕ) → SplitsAtQuote bs front later → doubled bs ≡ front ++ 34 ∷ 34 ∷ doubled later
 doubled_split bs front later h = ap doubled h.0 ∙ doubled-append front (34 ∷ later) ∙ ap (λ x. x ++ 34 ∷ 34 ∷ doubled later) (doubled_plain front h.1)
@@ -63,11 +54,11 @@ read_ends out rest all out2 h s n = ap doubled n ∙ doubled-append out rest ∙
 
 -- ---- a Text token's bytes
 
-encode_plain : (c : ℕ) → (c == 34) ≡ false → HasNoQuote (encode c)
+pub encode_plain : (c : ℕ) → (c == 34) ≡ false → HasNoQuote (encode c)
 encode_plain c h = no_quote (encode c) (λ i l e. let k : c ≡ get_or (encode c) i 0 = inside_one c [] (encode c) i (sym (append-nil (encode c))) l (omega (arith, e)) in
     let same : c ≡ 34 = k ∙ e in let q : (c == 34) ≡ true = grind (arith, same) in let x : true ≡ false = sym q ∙ h in absurd (cc x))
 
-encodes_doubled : (cs : List ℕ) → encodes (doubled cs) ≡ doubled (encodes cs)
+pub encodes_doubled : (cs : List ℕ) → encodes (doubled cs) ≡ doubled (encodes cs)
 unfolding encode
 encodes_doubled [] = refl
 encodes_doubled (c ∷ cs) = go (c == 34) refl (encodes_doubled cs)

@@ -1,24 +1,18 @@
 -- What stands between quotes.
 use Rattle.std.proofs.Common.{◌≡◌, ◌≢◌, ℕ, List, [], ◌∷◌, ◌++◌, Bool, true, false, cond, refl, sym, ap, ◌∙◌, arith, append_assoc, append-nil}
-use Rattle.std.specs.Prelude.{◌==◌, ◌||◌}
+use Rattle.std.specs.Prelude.{◌==◌}
 use Rattle.std.specs.List.{list_any}
+use Rattle.opa_io.proofs.Bools.{neither_first, neither_second}
 use Rattle.opa_words.specs.Kinds.{doubled, quoted}
 use Rattle.opa_words.specs.Quotes.{SplitsAtQuote, HasNoQuote, IsQuoted}
 use Rattle.opa_words.specs.Quoted.{inside, after_quote, unquoted, ReadsQuoted}
-
-or_left : (a b : Bool) → (a || b) ≡ false → a ≡ false
-or_left true b h = absurd (cc h)
-or_left false b h = refl
-
-or_right : (a b : Bool) → (a || b) ≡ false → b ≡ false
-or_right true b h = absurd (cc h)
-or_right false b h = h
+use Rattle.opa_words.proofs.QuoteLaws.{not_quote}
 
 inside_front : (front later : List ℕ) → HasNoQuote front → inside false (front ++ later) ≡ front ++ inside false later
 inside_front [] later h = refl
 inside_front (f ∷ front) later h =
-    ap (λ t. cond t (inside true (front ++ later)) (f ∷ inside false (front ++ later))) (or_left (f == 34) (list_any (λ x. x == 34) front) h)
-    ∙ ap (λ cs. f ∷ cs) (inside_front front later (or_right (f == 34) (list_any (λ x. x == 34) front) h))
+    ap (λ t. cond t (inside true (front ++ later)) (f ∷ inside false (front ++ later))) (neither_first (f == 34) (list_any (λ x. x == 34) front) h)
+    ∙ ap (λ cs. f ∷ cs) (inside_front front later (neither_second (f == 34) (list_any (λ x. x == 34) front) h))
 
 -- up to a quote and behind it
 pub inside_goes : (out rest front later all mid : List ℕ) → out ++ inside false rest ≡ all → SplitsAtQuote rest front later → mid ≡ out ++ front → mid ++ inside true later ≡ all
@@ -38,16 +32,13 @@ inside_stops later all mid h is = sym (ap (λ x. mid ++ x) is ∙ append-nil mid
 pub inside_ends : (out rest all out2 : List ℕ) → out ++ inside false rest ≡ all → HasNoQuote rest → out2 ≡ out ++ rest → out2 ≡ all
 inside_ends out rest all out2 h s n = n ∙ ap (λ x. out ++ x) (sym (ap (inside false) (sym (append-nil rest)) ∙ inside_front rest [] s ∙ append-nil rest)) ∙ h
 
-other : (b : ℕ) → b ≢ 34 → (b == 34) ≡ false
-other b h = grind (arith, h)
-
 pub no_second : (cs : List ℕ) → ((d : List ℕ) → cs ≢ 34 ∷ d) → inside true cs ≡ []
 no_second [] h = refl
-no_second (c ∷ cs) h = ap (λ t. cond t (34 ∷ inside false cs) []) (other c (λ e. h cs (ap (λ x. x ∷ cs) e)))
+no_second (c ∷ cs) h = ap (λ t. cond t (34 ∷ inside false cs) []) (not_quote c (λ e. h cs (ap (λ x. x ∷ cs) e)))
 
 pub no_first : (cs : List ℕ) → ((d : List ℕ) → cs ≢ 34 ∷ d) → after_quote cs ≡ cs
 no_first [] h = refl
-no_first (c ∷ cs) h = ap (λ t. cond t cs (c ∷ cs)) (other c (λ e. h cs (ap (λ x. x ∷ cs) e)))
+no_first (c ∷ cs) h = ap (λ t. cond t cs (c ∷ cs)) (not_quote c (λ e. h cs (ap (λ x. x ∷ cs) e)))
 
 inside_doubled : (cs : List ℕ) → inside false (doubled cs ++ 34 ∷ []) ≡ cs
 inside_doubled [] = refl

@@ -1,9 +1,5 @@
 -- What follows from what is known of a result.
-use Rattle.std.specs.Prelude.{Result, Ok, Err, IfOk, IfErr}
-
-pub on_ok : {A E : Type 0} (P Q : A → Type 0) (r : Result A E) → ((x : A) → P x → Q x) → IfOk r P → IfOk r Q
-on_ok P Q (Ok x) f h = f x h
-on_ok P Q (Err e) f h = tt
+use Rattle.std.specs.Prelude.{Result, Ok, Err, IfErr}
 
 pub on_err : {A E : Type 0} (P Q : E → Type 0) (r : Result A E) → ((e : E) → P e → Q e) → IfErr r P → IfErr r Q
 on_err P Q (Ok x) f h = tt

@@ -3,12 +3,15 @@ use Rattle.std.proofs.Common.{◌≡◌, ◌≤◌, ℕ, zero, suc, List, [], �
 use Rattle.std.specs.Prelude.{Option, Some, None, ◌&&◌, ◌||◌, ◌==◌, ◌⊎◌}
 use Rattle.std.specs.List.{list_all, list_any}
 use Rattle.std.specs.Option.{option_map, option_or}
+use Rattle.std.proofs.lemmas.Bool.{and_from}
+use Rattle.opa_io.proofs.Characters.{quote_is}
+use Rattle.opa_io.proofs.Bools.{and_first, and_second, neither_first, neither_second}
 use Rattle.opa_words.specs.declared.kinds.TokenKind.{TokenKind}
 use Rattle.opa_words.specs.declared.kinds.TokenKind.TheVariants as kind
 use Rattle.opa_words.specs.Characters.{begins_word, continues_word, is_digit, is_control}
 use Rattle.opa_words.specs.Kinds.{IsToken, is_date, is_word, is_symbol, is_single, doubled, quoted, AreDigits, IsNumber, IsText}
 use Rattle.opa_words.specs.Scan.{past, one, digit, hyphen, point, fraction, whole, word, past_most, number, date, inside, text, second, symbol, ◌>>=◌}
-use Rattle.opa_words.proofs.Letters.{left, right, both, DateParts, date_parts}
+use Rattle.opa_words.proofs.Letters.{DateParts, date_parts}
 
 -- there is one, and no longer rest than this
 abbrev pub AtMost : Option (List ℕ) → ℕ → Type 0
@@ -36,7 +39,7 @@ stepped p (c ∷ cs) rest h = go (p c) refl h
 
 past_over : (p : ℕ → Bool) (front back : List ℕ) → list_all p front ≡ true → past p (front ++ back) ≡ past p back
 past_over p [] back h = refl
-past_over p (c ∷ front) back h = ap (λ t. cond t (past p (front ++ back)) (c ∷ (front ++ back))) (left (p c) (list_all p front) h) ∙ past_over p front back (right (p c) (list_all p front) h)
+past_over p (c ∷ front) back h = ap (λ t. cond t (past p (front ++ back)) (c ∷ (front ++ back))) (and_first (p c) (list_all p front) h) ∙ past_over p front back (and_second (p c) (list_all p front) h)
 
 pub past-shorter : (p : ℕ → Bool) (cs : List ℕ) → length (past p cs) ≤ length cs
 past-shorter p [] = omega arith
@@ -57,7 +60,7 @@ pasted p [] = record { front = []; passes = refl; is = refl }
 pasted p (c ∷ cs) = go (p c) refl (pasted p cs)
   where
     go : (t : Bool) → p c ≡ t → Fronted p cs (past p cs) → Fronted p (c ∷ cs) (cond t (past p cs) (c ∷ cs))
-    go true e f = record { front = c ∷ f.front; passes = both (p c) (list_all p f.front) e f.passes; is = ap (λ x. c ∷ x) f.is }
+    go true e f = record { front = c ∷ f.front; passes = and_from (p c) (list_all p f.front) e f.passes; is = ap (λ x. c ∷ x) f.is }
     go false e f = record { front = []; passes = refl; is = refl }
 
 -- ---- words
@@ -65,8 +68,8 @@ pasted p (c ∷ cs) = go (p c) refl (pasted p cs)
 word_reaches : (f r : List ℕ) → is_word f ≡ true → AtMost (word (f ++ r)) (length r)
 word_reaches [] r h = absurd (cc h)
 word_reaches (c ∷ cs) r h =
-    subst (λ o. AtMost (option_map (past continues_word) o) (length r)) (sym (step begins_word c (cs ++ r) (left (begins_word c) (list_all continues_word cs) h)))
-    (omega (arith, ap length (past_over continues_word cs r (right (begins_word c) (list_all continues_word cs) h)), past-shorter continues_word r))
+    subst (λ o. AtMost (option_map (past continues_word) o) (length r)) (sym (step begins_word c (cs ++ r) (and_first (begins_word c) (list_all continues_word cs) h)))
+    (omega (arith, ap length (past_over continues_word cs r (and_second (begins_word c) (list_all continues_word cs) h)), past-shorter continues_word r))
 
 -- a token of the kind stands before the rest
 pub record Found (k : TokenKind) (cs rest : List ℕ) : Type 0 where
@@ -85,7 +88,7 @@ word_found cs rest h =
     let more = pasted continues_word m.0 in
     record {
       front = first.c ∷ more.front;
-      token = both (begins_word first.c) (list_all continues_word more.front) first.passes more.passes;
+      token = and_from (begins_word first.c) (list_all continues_word more.front) first.passes more.passes;
       is = first.is ∙ ap (λ x. first.c ∷ x) more.is ∙ ap (λ x. first.c ∷ (more.front ++ x)) (sym m.2);
     }
 
@@ -104,8 +107,8 @@ most_over : (n : ℕ) (ds r : List ℕ) → list_all is_digit ds ≡ true → le
 most_over n [] r h l = most-shorter n r
 most_over zero (d ∷ ds) r h l = absurd (omega (arith, l))
 most_over (suc n) (d ∷ ds) r h l =
-    subst (λ t. length (cond t (past_most n (ds ++ r)) (d ∷ (ds ++ r))) ≤ length r) (sym (left (is_digit d) (list_all is_digit ds) h))
-    (most_over n ds r (right (is_digit d) (list_all is_digit ds) h) (omega (arith, l)))
+    subst (λ t. length (cond t (past_most n (ds ++ r)) (d ∷ (ds ++ r))) ≤ length r) (sym (and_first (is_digit d) (list_all is_digit ds) h))
+    (most_over n ds r (and_second (is_digit d) (list_all is_digit ds) h) (omega (arith, l)))
 
 pub record Digits (n : ℕ) (cs rest : List ℕ) : Type 0 where
   pub front : List ℕ
@@ -119,7 +122,7 @@ mosted (suc n) [] = record { front = []; digits = refl; few = omega arith; is = 
 mosted (suc n) (c ∷ cs) = go (is_digit c) refl (mosted n cs)
   where
     go : (t : Bool) → is_digit c ≡ t → Digits n cs (past_most n cs) → Digits (suc n) (c ∷ cs) (cond t (past_most n cs) (c ∷ cs))
-    go true e f = record { front = c ∷ f.front; digits = both (is_digit c) (list_all is_digit f.front) e f.digits; few = omega (arith, f.few); is = ap (λ x. c ∷ x) f.is }
+    go true e f = record { front = c ∷ f.front; digits = and_from (is_digit c) (list_all is_digit f.front) e f.digits; few = omega (arith, f.few); is = ap (λ x. c ∷ x) f.is }
     go false e f = record { front = []; digits = refl; few = omega arith; is = refl }
 
 fraction-shorter : (cs : List ℕ) (o : Option (List ℕ)) → ((x : List ℕ) → o ≡ Some x → length x ≤ length cs) → length (fraction cs o) ≤ length cs
@@ -146,8 +149,8 @@ number_is c cs h = ap (option_map (λ after. whole (past is_digit after))) (step
 whole_reaches : (f r : List ℕ) → AreDigits f → AtMost (number (f ++ r)) (length r)
 whole_reaches [] r h = absurd (omega (arith, h.1))
 whole_reaches (c ∷ cs) r h =
-    subst (λ o. AtMost o (length r)) (sym (number_is c (cs ++ r) (left (is_digit c) (list_all is_digit cs) h.0)))
-    (omega (arith, whole-shorter (past is_digit (cs ++ r)), ap length (past_over is_digit cs r (right (is_digit c) (list_all is_digit cs) h.0)), past-shorter is_digit r))
+    subst (λ o. AtMost o (length r)) (sym (number_is c (cs ++ r) (and_first (is_digit c) (list_all is_digit cs) h.0)))
+    (omega (arith, whole-shorter (past is_digit (cs ++ r)), ap length (past_over is_digit cs r (and_second (is_digit c) (list_all is_digit cs) h.0)), past-shorter is_digit r))
 
 point_is : (d : ℕ) (cs : List ℕ) → is_digit d ≡ true → point (46 ∷ d ∷ cs) ≡ Some cs
 point_is d cs h = step is_digit d cs h
@@ -155,14 +158,14 @@ point_is d cs h = step is_digit d cs h
 part_reaches : (part r : List ℕ) → AreDigits part → length part ≤ 4 → length (whole (46 ∷ (part ++ r))) ≤ length r
 part_reaches [] r h l = absurd (omega (arith, h.1))
 part_reaches (d ∷ ds) r h l =
-    subst (λ o. length (fraction (46 ∷ d ∷ (ds ++ r)) o) ≤ length r) (sym (point_is d (ds ++ r) (left (is_digit d) (list_all is_digit ds) h.0)))
-    (most_over 3 ds r (right (is_digit d) (list_all is_digit ds) h.0) (omega (arith, l)))
+    subst (λ o. length (fraction (46 ∷ d ∷ (ds ++ r)) o) ≤ length r) (sym (point_is d (ds ++ r) (and_first (is_digit d) (list_all is_digit ds) h.0)))
+    (most_over 3 ds r (and_second (is_digit d) (list_all is_digit ds) h.0) (omega (arith, l)))
 
 both_reach : (front part r : List ℕ) → AreDigits front → AreDigits part → length part ≤ 4 → AtMost (number (front ++ 46 ∷ (part ++ r))) (length r)
 both_reach [] part r h k l = absurd (omega (arith, h.1))
 both_reach (c ∷ cs) part r h k l =
-    subst (λ o. AtMost o (length r)) (sym (number_is c (cs ++ 46 ∷ (part ++ r)) (left (is_digit c) (list_all is_digit cs) h.0)))
-    (subst (λ x. length (whole x) ≤ length r) (sym (past_over is_digit cs (46 ∷ (part ++ r)) (right (is_digit c) (list_all is_digit cs) h.0))) (part_reaches part r k l))
+    subst (λ o. AtMost o (length r)) (sym (number_is c (cs ++ 46 ∷ (part ++ r)) (and_first (is_digit c) (list_all is_digit cs) h.0)))
+    (subst (λ x. length (whole x) ≤ length r) (sym (past_over is_digit cs (46 ∷ (part ++ r)) (and_second (is_digit c) (list_all is_digit cs) h.0))) (part_reaches part r k l))
 
 number_reaches : (f r : List ℕ) → IsNumber f → AtMost (number (f ++ r)) (length r)
 number_reaches f r (inl h) = whole_reaches f r h
@@ -180,7 +183,7 @@ fraction_found c w x (Some y) h e =
     let is : x ≡ (46 ∷ (b.c ∷ m.front)) ++ past_most 3 y = a.is ∙ ap (λ n. n ∷ t.0) dot ∙ ap (λ xs. 46 ∷ xs) (b.is ∙ ap (λ xs. b.c ∷ xs) m.is) in
     record {
       front = (c ∷ w) ++ 46 ∷ (b.c ∷ m.front);
-      token = inr (c ∷ w, b.c ∷ m.front, (h, omega arith), (both (is_digit b.c) (list_all is_digit m.front) b.passes m.digits, omega arith), omega (arith, m.few), refl);
+      token = inr (c ∷ w, b.c ∷ m.front, (h, omega arith), (and_from (is_digit b.c) (list_all is_digit m.front) b.passes m.digits, omega arith), omega (arith, m.few), refl);
       is = ap (λ xs. (c ∷ w) ++ xs) is ∙ sym (append_assoc (c ∷ w) (46 ∷ (b.c ∷ m.front)) (past_most 3 y));
     }
 
@@ -189,7 +192,7 @@ number_found cs rest h =
     let m = mapped (digit cs) (λ after. whole (past is_digit after)) rest h in
     let first = stepped is_digit cs m.0 m.1 in
     let more = pasted is_digit m.0 in
-    let f = fraction_found first.c more.front (past is_digit m.0) (point (past is_digit m.0)) (both (is_digit first.c) (list_all is_digit more.front) first.passes more.passes) refl in
+    let f = fraction_found first.c more.front (past is_digit m.0) (point (past is_digit m.0)) (and_from (is_digit first.c) (list_all is_digit more.front) first.passes more.passes) refl in
     record { front = f.front; token = f.token; is = first.is ∙ ap (λ x. first.c ∷ x) more.is ∙ f.is ∙ ap (λ x. f.front ++ x) (sym m.2) }
 
 -- ---- dates
@@ -200,21 +203,21 @@ then o f x y p q = ap (λ o. o >>= f) p ∙ q
 pub date_is : (cs : List ℕ) (p : DateParts cs) (r : List ℕ) → date (cs ++ r) ≡ Some r
 date_is cs p r =
     let all = p.digits in
-    let d1 = step is_digit p.a (p.b ∷ p.c ∷ p.d ∷ 45 ∷ p.f ∷ p.g ∷ 45 ∷ p.i ∷ p.j ∷ r) (left (is_digit p.a) (list_all is_digit (p.b ∷ p.c ∷ p.d ∷ p.f ∷ p.g ∷ p.i ∷ p.j ∷ [])) all) in
-    let a1 = right (is_digit p.a) (list_all is_digit (p.b ∷ p.c ∷ p.d ∷ p.f ∷ p.g ∷ p.i ∷ p.j ∷ [])) all in
-    let d2 = step is_digit p.b (p.c ∷ p.d ∷ 45 ∷ p.f ∷ p.g ∷ 45 ∷ p.i ∷ p.j ∷ r) (left (is_digit p.b) (list_all is_digit (p.c ∷ p.d ∷ p.f ∷ p.g ∷ p.i ∷ p.j ∷ [])) a1) in
-    let a2 = right (is_digit p.b) (list_all is_digit (p.c ∷ p.d ∷ p.f ∷ p.g ∷ p.i ∷ p.j ∷ [])) a1 in
-    let d3 = step is_digit p.c (p.d ∷ 45 ∷ p.f ∷ p.g ∷ 45 ∷ p.i ∷ p.j ∷ r) (left (is_digit p.c) (list_all is_digit (p.d ∷ p.f ∷ p.g ∷ p.i ∷ p.j ∷ [])) a2) in
-    let a3 = right (is_digit p.c) (list_all is_digit (p.d ∷ p.f ∷ p.g ∷ p.i ∷ p.j ∷ [])) a2 in
-    let d4 = step is_digit p.d (45 ∷ p.f ∷ p.g ∷ 45 ∷ p.i ∷ p.j ∷ r) (left (is_digit p.d) (list_all is_digit (p.f ∷ p.g ∷ p.i ∷ p.j ∷ [])) a3) in
-    let a4 = right (is_digit p.d) (list_all is_digit (p.f ∷ p.g ∷ p.i ∷ p.j ∷ [])) a3 in
-    let d5 = step is_digit p.f (p.g ∷ 45 ∷ p.i ∷ p.j ∷ r) (left (is_digit p.f) (list_all is_digit (p.g ∷ p.i ∷ p.j ∷ [])) a4) in
-    let a5 = right (is_digit p.f) (list_all is_digit (p.g ∷ p.i ∷ p.j ∷ [])) a4 in
-    let d6 = step is_digit p.g (45 ∷ p.i ∷ p.j ∷ r) (left (is_digit p.g) (list_all is_digit (p.i ∷ p.j ∷ [])) a5) in
-    let a6 = right (is_digit p.g) (list_all is_digit (p.i ∷ p.j ∷ [])) a5 in
-    let d7 = step is_digit p.i (p.j ∷ r) (left (is_digit p.i) (list_all is_digit (p.j ∷ [])) a6) in
-    let a7 = right (is_digit p.i) (list_all is_digit (p.j ∷ [])) a6 in
-    let d8 = step is_digit p.j r (left (is_digit p.j) true a7) in
+    let d1 = step is_digit p.a (p.b ∷ p.c ∷ p.d ∷ 45 ∷ p.f ∷ p.g ∷ 45 ∷ p.i ∷ p.j ∷ r) (and_first (is_digit p.a) (list_all is_digit (p.b ∷ p.c ∷ p.d ∷ p.f ∷ p.g ∷ p.i ∷ p.j ∷ [])) all) in
+    let a1 = and_second (is_digit p.a) (list_all is_digit (p.b ∷ p.c ∷ p.d ∷ p.f ∷ p.g ∷ p.i ∷ p.j ∷ [])) all in
+    let d2 = step is_digit p.b (p.c ∷ p.d ∷ 45 ∷ p.f ∷ p.g ∷ 45 ∷ p.i ∷ p.j ∷ r) (and_first (is_digit p.b) (list_all is_digit (p.c ∷ p.d ∷ p.f ∷ p.g ∷ p.i ∷ p.j ∷ [])) a1) in
+    let a2 = and_second (is_digit p.b) (list_all is_digit (p.c ∷ p.d ∷ p.f ∷ p.g ∷ p.i ∷ p.j ∷ [])) a1 in
+    let d3 = step is_digit p.c (p.d ∷ 45 ∷ p.f ∷ p.g ∷ 45 ∷ p.i ∷ p.j ∷ r) (and_first (is_digit p.c) (list_all is_digit (p.d ∷ p.f ∷ p.g ∷ p.i ∷ p.j ∷ [])) a2) in
+    let a3 = and_second (is_digit p.c) (list_all is_digit (p.d ∷ p.f ∷ p.g ∷ p.i ∷ p.j ∷ [])) a2 in
+    let d4 = step is_digit p.d (45 ∷ p.f ∷ p.g ∷ 45 ∷ p.i ∷ p.j ∷ r) (and_first (is_digit p.d) (list_all is_digit (p.f ∷ p.g ∷ p.i ∷ p.j ∷ [])) a3) in
+    let a4 = and_second (is_digit p.d) (list_all is_digit (p.f ∷ p.g ∷ p.i ∷ p.j ∷ [])) a3 in
+    let d5 = step is_digit p.f (p.g ∷ 45 ∷ p.i ∷ p.j ∷ r) (and_first (is_digit p.f) (list_all is_digit (p.g ∷ p.i ∷ p.j ∷ [])) a4) in
+    let a5 = and_second (is_digit p.f) (list_all is_digit (p.g ∷ p.i ∷ p.j ∷ [])) a4 in
+    let d6 = step is_digit p.g (45 ∷ p.i ∷ p.j ∷ r) (and_first (is_digit p.g) (list_all is_digit (p.i ∷ p.j ∷ [])) a5) in
+    let a6 = and_second (is_digit p.g) (list_all is_digit (p.i ∷ p.j ∷ [])) a5 in
+    let d7 = step is_digit p.i (p.j ∷ r) (and_first (is_digit p.i) (list_all is_digit (p.j ∷ [])) a6) in
+    let a7 = and_second (is_digit p.i) (list_all is_digit (p.j ∷ [])) a6 in
+    let d8 = step is_digit p.j r (and_first (is_digit p.j) true a7) in
     let year = then (digit (p.a ∷ p.b ∷ p.c ∷ p.d ∷ 45 ∷ p.f ∷ p.g ∷ 45 ∷ p.i ∷ p.j ∷ r) >>= digit >>= digit) digit (p.d ∷ 45 ∷ p.f ∷ p.g ∷ 45 ∷ p.i ∷ p.j ∷ r) (45 ∷ p.f ∷ p.g ∷ 45 ∷ p.i ∷ p.j ∷ r)
     (then (digit (p.a ∷ p.b ∷ p.c ∷ p.d ∷ 45 ∷ p.f ∷ p.g ∷ 45 ∷ p.i ∷ p.j ∷ r) >>= digit) digit (p.c ∷ p.d ∷ 45 ∷ p.f ∷ p.g ∷ 45 ∷ p.i ∷ p.j ∷ r) (p.d ∷ 45 ∷ p.f ∷ p.g ∷ 45 ∷ p.i ∷ p.j ∷ r)
     (then (digit (p.a ∷ p.b ∷ p.c ∷ p.d ∷ 45 ∷ p.f ∷ p.g ∷ 45 ∷ p.i ∷ p.j ∷ r)) digit (p.b ∷ p.c ∷ p.d ∷ 45 ∷ p.f ∷ p.g ∷ 45 ∷ p.i ∷ p.j ∷ r) (p.c ∷ p.d ∷ 45 ∷ p.f ∷ p.g ∷ 45 ∷ p.i ∷ p.j ∷ r) d1 d2) d3) d4 in
@@ -228,9 +231,6 @@ date_is cs p r =
 -- a character that passes, and those before it
 abbrev After : (ℕ → Bool) → (List ℕ → List ℕ) → List ℕ → List ℕ → Type 0
 After p f cs rest = (c : ℕ) × (p c ≡ true) × (cs ≡ f (c ∷ rest))
-
-hyphened : (c : ℕ) → (c == 45) ≡ true → c ≡ 45
-hyphened c h = grind (arith, h)
 
 date_found : (cs rest : List ℕ) → date cs ≡ Some rest → Found kind.Date cs rest
 date_found cs rest h =
@@ -254,17 +254,17 @@ date_found cs rest h =
     let i = stepped is_digit t2.0 t1.0 t2.2 in
     let j = stepped is_digit t1.0 rest t1.2 in
     let digits : list_all is_digit (a.c ∷ b.c ∷ c.c ∷ d.c ∷ f.c ∷ g.c ∷ i.c ∷ j.c ∷ []) ≡ true =
-    both (is_digit a.c) (list_all is_digit (b.c ∷ c.c ∷ d.c ∷ f.c ∷ g.c ∷ i.c ∷ j.c ∷ [])) a.passes
-    (both (is_digit b.c) (list_all is_digit (c.c ∷ d.c ∷ f.c ∷ g.c ∷ i.c ∷ j.c ∷ [])) b.passes
-    (both (is_digit c.c) (list_all is_digit (d.c ∷ f.c ∷ g.c ∷ i.c ∷ j.c ∷ [])) c.passes
-    (both (is_digit d.c) (list_all is_digit (f.c ∷ g.c ∷ i.c ∷ j.c ∷ [])) d.passes
-    (both (is_digit f.c) (list_all is_digit (g.c ∷ i.c ∷ j.c ∷ [])) f.passes
-    (both (is_digit g.c) (list_all is_digit (i.c ∷ j.c ∷ [])) g.passes
-    (both (is_digit i.c) (list_all is_digit (j.c ∷ [])) i.passes (both (is_digit j.c) true j.passes refl))))))) in
+    and_from (is_digit a.c) (list_all is_digit (b.c ∷ c.c ∷ d.c ∷ f.c ∷ g.c ∷ i.c ∷ j.c ∷ [])) a.passes
+    (and_from (is_digit b.c) (list_all is_digit (c.c ∷ d.c ∷ f.c ∷ g.c ∷ i.c ∷ j.c ∷ [])) b.passes
+    (and_from (is_digit c.c) (list_all is_digit (d.c ∷ f.c ∷ g.c ∷ i.c ∷ j.c ∷ [])) c.passes
+    (and_from (is_digit d.c) (list_all is_digit (f.c ∷ g.c ∷ i.c ∷ j.c ∷ [])) d.passes
+    (and_from (is_digit f.c) (list_all is_digit (g.c ∷ i.c ∷ j.c ∷ [])) f.passes
+    (and_from (is_digit g.c) (list_all is_digit (i.c ∷ j.c ∷ [])) g.passes
+    (and_from (is_digit i.c) (list_all is_digit (j.c ∷ [])) i.passes (and_from (is_digit j.c) true j.passes refl))))))) in
     record {
       front = a.c ∷ b.c ∷ c.c ∷ d.c ∷ e.c ∷ f.c ∷ g.c ∷ k.c ∷ i.c ∷ j.c ∷ [];
-      token = both (list_all is_digit (a.c ∷ b.c ∷ c.c ∷ d.c ∷ f.c ∷ g.c ∷ i.c ∷ j.c ∷ []) && (e.c == 45)) (k.c == 45)
-          (both (list_all is_digit (a.c ∷ b.c ∷ c.c ∷ d.c ∷ f.c ∷ g.c ∷ i.c ∷ j.c ∷ [])) (e.c == 45) digits e.passes) k.passes;
+      token = and_from (list_all is_digit (a.c ∷ b.c ∷ c.c ∷ d.c ∷ f.c ∷ g.c ∷ i.c ∷ j.c ∷ []) && (e.c == 45)) (k.c == 45)
+          (and_from (list_all is_digit (a.c ∷ b.c ∷ c.c ∷ d.c ∷ f.c ∷ g.c ∷ i.c ∷ j.c ∷ [])) (e.c == 45) digits e.passes) k.passes;
       is = a.is ∙ ap (λ x. a.c ∷ x) (b.is ∙ ap (λ x. b.c ∷ x) (c.is ∙ ap (λ x. c.c ∷ x) (d.is ∙ ap (λ x. d.c ∷ x) (e.is ∙ ap (λ x. e.c ∷ x) (f.is ∙ ap (λ x. f.c ∷ x) (g.is ∙ ap (λ x. g.c ∷ x) (k.is ∙ ap (λ x. k.c ∷ x) (i.is ∙ ap (λ x. i.c ∷ x) j.is))))))));
     }
 
@@ -273,15 +273,15 @@ date_reaches f r h = subst (λ o. AtMost o (length r)) (sym (date_is f (date_par
 
 pub date_then : (cs : List ℕ) (p : DateParts cs) (r : List ℕ) → number (cs ++ r) ≡ Some (45 ∷ p.f ∷ p.g ∷ 45 ∷ p.i ∷ p.j ∷ r)
 date_then cs p r =
-    let a1 = right (is_digit p.a) (list_all is_digit (p.b ∷ p.c ∷ p.d ∷ p.f ∷ p.g ∷ p.i ∷ p.j ∷ [])) p.digits in
-    let a2 = right (is_digit p.b) (list_all is_digit (p.c ∷ p.d ∷ p.f ∷ p.g ∷ p.i ∷ p.j ∷ [])) a1 in
-    let a3 = right (is_digit p.c) (list_all is_digit (p.d ∷ p.f ∷ p.g ∷ p.i ∷ p.j ∷ [])) a2 in
+    let a1 = and_second (is_digit p.a) (list_all is_digit (p.b ∷ p.c ∷ p.d ∷ p.f ∷ p.g ∷ p.i ∷ p.j ∷ [])) p.digits in
+    let a2 = and_second (is_digit p.b) (list_all is_digit (p.c ∷ p.d ∷ p.f ∷ p.g ∷ p.i ∷ p.j ∷ [])) a1 in
+    let a3 = and_second (is_digit p.c) (list_all is_digit (p.d ∷ p.f ∷ p.g ∷ p.i ∷ p.j ∷ [])) a2 in
     let three : list_all is_digit (p.b ∷ p.c ∷ p.d ∷ []) ≡ true =
-    both (is_digit p.b) (list_all is_digit (p.c ∷ p.d ∷ [])) (left (is_digit p.b) (list_all is_digit (p.c ∷ p.d ∷ p.f ∷ p.g ∷ p.i ∷ p.j ∷ [])) a1)
-    (both (is_digit p.c) (list_all is_digit (p.d ∷ [])) (left (is_digit p.c) (list_all is_digit (p.d ∷ p.f ∷ p.g ∷ p.i ∷ p.j ∷ [])) a2)
-    (both (is_digit p.d) true (left (is_digit p.d) (list_all is_digit (p.f ∷ p.g ∷ p.i ∷ p.j ∷ [])) a3) refl)) in
+    and_from (is_digit p.b) (list_all is_digit (p.c ∷ p.d ∷ [])) (and_first (is_digit p.b) (list_all is_digit (p.c ∷ p.d ∷ p.f ∷ p.g ∷ p.i ∷ p.j ∷ [])) a1)
+    (and_from (is_digit p.c) (list_all is_digit (p.d ∷ [])) (and_first (is_digit p.c) (list_all is_digit (p.d ∷ p.f ∷ p.g ∷ p.i ∷ p.j ∷ [])) a2)
+    (and_from (is_digit p.d) true (and_first (is_digit p.d) (list_all is_digit (p.f ∷ p.g ∷ p.i ∷ p.j ∷ [])) a3) refl)) in
     ap (λ x. number (x ++ r)) p.is
-    ∙ number_is p.a (p.b ∷ p.c ∷ p.d ∷ 45 ∷ p.f ∷ p.g ∷ 45 ∷ p.i ∷ p.j ∷ r) (left (is_digit p.a) (list_all is_digit (p.b ∷ p.c ∷ p.d ∷ p.f ∷ p.g ∷ p.i ∷ p.j ∷ [])) p.digits)
+    ∙ number_is p.a (p.b ∷ p.c ∷ p.d ∷ 45 ∷ p.f ∷ p.g ∷ 45 ∷ p.i ∷ p.j ∷ r) (and_first (is_digit p.a) (list_all is_digit (p.b ∷ p.c ∷ p.d ∷ p.f ∷ p.g ∷ p.i ∷ p.j ∷ [])) p.digits)
     ∙ ap (λ x. Some (whole x)) (past_over is_digit (p.b ∷ p.c ∷ p.d ∷ []) (45 ∷ p.f ∷ p.g ∷ 45 ∷ p.i ∷ p.j ∷ r) three)
 
 -- a number is never longer than the date that begins alike
@@ -294,10 +294,6 @@ date_number cs a b h k =
     omega (arith, ap length same)
 
 -- ---- texts
-
-AtMost-weaker : (o : Option (List ℕ)) (m n : ℕ) → m ≤ n → AtMost o m → AtMost o n
-AtMost-weaker None m n l h = h
-AtMost-weaker (Some x) m n l h = omega (arith, l, h)
 
 -- where there is one, it is no longer
 abbrev Shorter : Option (List ℕ) → ℕ → Type 0
@@ -344,23 +340,15 @@ or_first : (o p : Option (List ℕ)) (n : ℕ) → AtMost o n → AtMost (option
 or_first None p n h = absurd h
 or_first (Some x) p n h = h
 
-or_left : (a b : Bool) → (a || b) ≡ false → a ≡ false
-or_left true b h = absurd (cc h)
-or_left false b h = refl
-
-or_right : (a b : Bool) → (a || b) ≡ false → b ≡ false
-or_right true b h = absurd (cc h)
-or_right false b h = h
-
 inside_reaches : (cs r : List ℕ) → list_any is_control cs ≡ false → AtMost (inside false (doubled cs ++ 34 ∷ r)) (length r)
 inside_reaches [] r h = may_end r
-inside_reaches (c ∷ cs) r h = go (c == 34) refl (inside_reaches cs r (or_right (is_control c) (list_any is_control cs) h))
+inside_reaches (c ∷ cs) r h = go (c == 34) refl (inside_reaches cs r (neither_second (is_control c) (list_any is_control cs) h))
   where
     go : (b : Bool) → (c == 34) ≡ b → AtMost (inside false (doubled cs ++ 34 ∷ r)) (length r) → AtMost (inside false (cond b (34 ∷ 34 ∷ doubled cs) (c ∷ doubled cs) ++ 34 ∷ r)) (length r)
     go true e k = or_first (inside false (doubled cs ++ 34 ∷ r)) (Some (34 ∷ (doubled cs ++ 34 ∷ r))) (length r) k
     go false e k =
         subst (λ b. AtMost (cond b (inside true (doubled cs ++ 34 ∷ r)) (cond (is_control c) None (inside false (doubled cs ++ 34 ∷ r)))) (length r)) (sym e)
-        (subst (λ b. AtMost (cond b None (inside false (doubled cs ++ 34 ∷ r))) (length r)) (sym (or_left (is_control c) (list_any is_control cs) h)) k)
+        (subst (λ b. AtMost (cond b None (inside false (doubled cs ++ 34 ∷ r))) (length r)) (sym (neither_first (is_control c) (list_any is_control cs) h)) k)
 
 quoted-append : (cs r : List ℕ) → quoted cs ++ r ≡ 34 ∷ (doubled cs ++ 34 ∷ r)
 quoted-append cs r = ap (λ x. 34 ∷ x) (append_assoc (doubled cs) (34 ∷ []) r)
@@ -395,9 +383,6 @@ Reads false cs rest = inside false cs ≡ Some rest → Inner cs rest
 or_cases : (o : Option (List ℕ)) (x rest : List ℕ) → option_or o (Some x) ≡ Some rest → (o ≡ Some rest) ⊎ (x ≡ rest)
 or_cases None x rest h = inr (let e : x ≡ rest = cc h in e)
 or_cases (Some y) x rest h = inl h
-
-quote_is : (c : ℕ) → (c == 34) ≡ true → c ≡ 34
-quote_is c h = grind (arith, h)
 
 inside_found : (t : Bool) (cs rest : List ℕ) → Reads t cs rest
 inside_found true [] rest = λ h. subst (λ x. Inner (34 ∷ []) x) (let e : [] ≡ rest = cc h in e) (inner_end [])
@@ -453,10 +438,10 @@ two_symbol c d r true e k = subst (λ x. AtMost (symbol (x ∷ d ∷ r)) (length
   where
     only : (a b : Bool) (c : ℕ) → (c == 60) ≡ true → (a || ((c == 62) && (d == 61))) ≡ true → a ≡ true
     only true b c e k = refl
-    only false b c e k = absurd (cc (sym (left (c == 62) (d == 61) k) ∙ (let n : (c == 62) ≡ false = grind (arith, e) in n)))
+    only false b c e k = absurd (cc (sym (and_first (c == 62) (d == 61) k) ∙ (let n : (c == 62) ≡ false = grind (arith, e) in n)))
 two_symbol c d r false e k =
-    subst (λ x. AtMost (symbol (x ∷ d ∷ r)) (length r)) (let g = left (c == 62) (d == 61) k in let f : 62 ≡ c = grind (arith, g) in f)
-    (second_over (λ d. (d == 61) || (d == 61)) d r (ap (λ t. t || (d == 61)) (right (c == 62) (d == 61) k)))
+    subst (λ x. AtMost (symbol (x ∷ d ∷ r)) (length r)) (let g = and_first (c == 62) (d == 61) k in let f : 62 ≡ c = grind (arith, g) in f)
+    (second_over (λ d. (d == 61) || (d == 61)) d r (ap (λ t. t || (d == 61)) (and_second (c == 62) (d == 61) k)))
 
 symbol_reaches : (f r : List ℕ) → is_symbol f ≡ true → AtMost (symbol (f ++ r)) (length r)
 symbol_reaches [] r h = absurd (cc h)

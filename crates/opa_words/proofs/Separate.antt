@@ -1,33 +1,21 @@
 -- A character that parts tokens stands in no token but a text between quotes.
-use Rattle.std.proofs.Common.{◌≡◌, ℕ, List, [], ◌∷◌, ◌++◌, Bool, true, false, refl, sym, ap, subst, ◌∙◌, arith}
+use Rattle.std.proofs.Common.{◌≡◌, ℕ, List, [], ◌∷◌, ◌++◌, Bool, true, refl, sym, subst, arith}
 use Rattle.std.specs.Prelude.{◌||◌, ◌==◌, not, codes}
 use Rattle.std.proofs.Common.{inl, inr}
-use Rattle.std.specs.List.{list_all, list_any}
+use Rattle.std.specs.List.{list_all}
+use Rattle.std.proofs.lemmas.Bool.{and_from, or_left}
 use Rattle.ucd_derived.proofs.Computing.{ucd_derived}
 use Rattle.ucd_category.proofs.Computing.{ucd_category}
+use Rattle.opa_io.proofs.Bools.{and_first, and_second}
 use Rattle.opa_words.specs.declared.kinds.TokenKind.{TokenKind}
 use Rattle.opa_words.specs.declared.kinds.TokenKind.TheVariants as kind
 use Rattle.opa_words.specs.Characters.{begins_word, continues_word, is_digit}
 use Rattle.opa_words.specs.Kinds.{IsToken, is_word, is_symbol, IsNumber}
-use Rattle.opa_words.proofs.Letters.{left, right, both, date_parts, DateParts}
+use Rattle.opa_words.proofs.Letters.{date_parts, DateParts, none_of}
 use Rattle.opa_words.specs.Written.{parts}
 
 abbrev pub partings : List ℕ
 partings = 32 ∷ codes ";,():"
-
--- a character of the list is none that passes
-pub none_of : (p : ℕ → Bool) (c : ℕ) (ds : List ℕ) → list_all (λ d. not (p d)) ds ≡ true → list_any (λ d. c == d) ds ≡ true → p c ≡ true → ⊥
-none_of p c [] a h q = absurd (cc h)
-none_of p c (d ∷ ds) a h q = go (c == d) refl (none_of p c ds (right (not (p d)) (list_all (λ d. not (p d)) ds) a))
-  where
-    same : (p d : Bool) → p ≡ true → p ≡ d → not d ≡ true → ⊥
-    same true true h e n = absurd (cc n)
-    same true false h e n = absurd (cc e)
-    same false d h e n = absurd (cc h)
-
-    go : (t : Bool) → (c == d) ≡ t → (list_any (λ d. c == d) ds ≡ true → p c ≡ true → ⊥) → ⊥
-    go true e r = same (p c) (p d) q (ap p (grind (arith, e))) (left (not (p d)) (list_all (λ d. not (p d)) ds) a)
-    go false e r = r (ap (λ t. t || list_any (λ d. c == d) ds) (sym e) ∙ h) q
 
 partings_no_letters : list_all (λ d. not (continues_word d)) partings ≡ true
 unfolding ucd_derived ucd_category
@@ -46,27 +34,24 @@ compares c = (c == 61) || (c == 62)
 
 pub all_wider : (p q : ℕ → Bool) (cs : List ℕ) → ((c : ℕ) → p c ≡ true → q c ≡ true) → list_all p cs ≡ true → list_all q cs ≡ true
 all_wider p q [] f h = refl
-all_wider p q (c ∷ cs) f h = both (q c) (list_all q cs) (f c (left (p c) (list_all p cs) h)) (all_wider p q cs f (right (p c) (list_all p cs) h))
+all_wider p q (c ∷ cs) f h = and_from (q c) (list_all q cs) (f c (and_first (p c) (list_all p cs) h)) (all_wider p q cs f (and_second (p c) (list_all p cs) h))
 
 pub all_append : (p : ℕ → Bool) (cs ds : List ℕ) → list_all p cs ≡ true → list_all p ds ≡ true → list_all p (cs ++ ds) ≡ true
 all_append p [] ds h k = k
-all_append p (c ∷ cs) ds h k = both (p c) (list_all p (cs ++ ds)) (left (p c) (list_all p cs) h) (all_append p cs ds (right (p c) (list_all p cs) h) k)
+all_append p (c ∷ cs) ds h k = and_from (p c) (list_all p (cs ++ ds)) (and_first (p c) (list_all p cs) h) (all_append p cs ds (and_second (p c) (list_all p cs) h) k)
 
 -- what passes everywhere passes in the middle
 middle : (p : ℕ → Bool) (front : List ℕ) (c : ℕ) (back : List ℕ) → list_all p (front ++ c ∷ back) ≡ true → p c ≡ true
-middle p [] c back h = left (p c) (list_all p back) h
-middle p (d ∷ front) c back h = middle p front c back (right (p d) (list_all p (front ++ c ∷ back)) h)
+middle p [] c back h = and_first (p c) (list_all p back) h
+middle p (d ∷ front) c back h = middle p front c back (and_second (p d) (list_all p (front ++ c ∷ back)) h)
 
 front_all : (p : ℕ → Bool) (cs ds : List ℕ) → list_all p (cs ++ ds) ≡ true → list_all p cs ≡ true
 front_all p [] ds h = refl
-front_all p (c ∷ cs) ds h = both (p c) (list_all p cs) (left (p c) (list_all p (cs ++ ds)) h) (front_all p cs ds (right (p c) (list_all p (cs ++ ds)) h))
+front_all p (c ∷ cs) ds h = and_from (p c) (list_all p cs) (and_first (p c) (list_all p (cs ++ ds)) h) (front_all p cs ds (and_second (p c) (list_all p (cs ++ ds)) h))
 
 back_all : (p : ℕ → Bool) (cs ds : List ℕ) → list_all p (cs ++ ds) ≡ true → list_all p ds ≡ true
 back_all p [] ds h = h
-back_all p (c ∷ cs) ds h = back_all p cs ds (right (p c) (list_all p (cs ++ ds)) h)
-
-or_left : (a b : Bool) → a ≡ true → (a || b) ≡ true
-or_left a b h = ap (λ t. t || b) h
+back_all p (c ∷ cs) ds h = back_all p cs ds (and_second (p c) (list_all p (cs ++ ds)) h)
 
 pub digits_numeric : (cs : List ℕ) → list_all is_digit cs ≡ true → list_all numeric cs ≡ true
 digits_numeric cs h = all_wider is_digit numeric cs (λ c k. or_left (is_digit c) (c == 46) k) h
@@ -101,7 +86,7 @@ date_dated f p =
 
 word_letters : (f : List ℕ) → is_word f ≡ true → list_all continues_word f ≡ true
 word_letters [] h = absurd (cc h)
-word_letters (c ∷ cs) h = both (continues_word c) (list_all continues_word cs) (first c (left (begins_word c) (list_all continues_word cs) h)) (right (begins_word c) (list_all continues_word cs) h)
+word_letters (c ∷ cs) h = and_from (continues_word c) (list_all continues_word cs) (first c (and_first (begins_word c) (list_all continues_word cs) h)) (and_second (begins_word c) (list_all continues_word cs) h)
   where
     first : (c : ℕ) → begins_word c ≡ true → continues_word c ≡ true
     first c h = grind (arith, h)

@@ -14,7 +14,7 @@ use Rattle.opa_words.specs.Kinds.{IsToken, IsLongest, is_single}
 use Rattle.opa_words.specs.Cuts as c
 use Rattle.opa_words.specs.Cuts.{Cuts}
 use Rattle.opa_words.proofs.CutLaws.{width_chars}
-use Rattle.opa_words.proofs.Letters.{token_starts, starts, Starts}
+use Rattle.opa_words.proofs.Letters.{token_starts, starts, Starts, none_of}
 use Rattle.opa_words.proofs.PlaceLaws.{width-append}
 use Rattle.opa_words.specs.Pieces.{Piece, IsPiece, pieces}
 use Rattle.opa_words.specs.Written.{Written, AreWritten, text_of, pieces_of, gap, ends_before, begins_apart, stands_alone}
@@ -24,7 +24,6 @@ use Rattle.std.specs.Prelude.{◌==◌, codes}
 use Rattle.std.specs.List.{list_any}
 use Rattle.ucd_derived.proofs.Computing.{ucd_derived}
 use Rattle.opa_words.specs.Characters.{begins_word, is_digit}
-use Rattle.opa_words.proofs.Separate.{none_of}
 
 -- ---- no token begins with a blank
 

@@ -14,7 +14,7 @@ use Rattle.opa_mean.specs.Rulebases.{IsOf}
 use Rattle.opa_mean.specs.Slots.{is_slot}
 use Rattle.opa_dirty.proofs.Parted.{parts_of}
 use Rattle.opa_dirty.proofs.Rising.{rises, listed_rise, to_one}
-use Rattle.opa_infer.proofs.Kinded.{line_kind}
+use Rattle.opa_dirty.proofs.Allowing.{line_kind}
 
 pub may_derive : (r : Rulebase) (c : CaseView) → IsOf r c → (a : AttrId) (i : InstanceId) → is_slot r c a i ≡ true → MayDerive (base_of r) (look_of (facts_of c) (facts_of c).answer) a i
 may_derive r c is a i slot =

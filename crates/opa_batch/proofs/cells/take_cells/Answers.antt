@@ -1,12 +1,13 @@
 use Rattle.std.proofs.Common.{◌<◌, ◌≤◌, ◌+◌, ◌≡◌, ◌∙◌, refl, true, false, is_some, length, subst, sym, arith}
 use Rattle.std.proofs.lemmas.List.{drop_all}
 use Rattle.csv.specs.Records.{fields_of}
+use Rattle.opa_io.proofs.Places.{drop_from}
 use Rattle.opa_tree.specs.declared.rulebase.Rulebase.{Rulebase}
 use Rattle.opa_infer.specs.Sessions.{rules_of, held_of}
 use Rattle.opa_batch.specs.Rows.{IsCell}
 use Rattle.opa_batch.specs.Counting.{CountsAtMost, CellReaches}
 use Rattle.opa_batch.specs.Numbered.{left_by}
-use Rattle.opa_batch.proofs.CellLaws.{missing, item_at, way_begins, way_is_short, way_stops, way_goes_on}
+use Rattle.opa_batch.proofs.CellLaws.{missing, way_begins, way_is_short, way_stops, way_goes_on}
 use Rattle.opa_batch.proofs.CountLaws.{cells_begin, cells_are_done, cells_are_short, cells_stop, cells_go_on}
 use Rattle.opa_batch.proofs.cells.take_cells.Goals as goal
 
@@ -24,7 +25,7 @@ returns-then-is_some-clause-ok g c =
     let lt : place < length c.args.heads.now = omega arith in
     let some : is_some c.in_ok-fault.fault ≡ true = sym c.is_some.ensures ∙ c.if-is_some.true in
     way_stops (rules_of c.args.session.now) c.args.heads.now cells (held_of c.args.session.now) place held c.loop-place.invariant.way c.index-heads-place.result c.in-Some.cell.now
-    (item_at c.args.heads.now place c.index-heads-place.result lt c.index-heads-place.is) c.in-Some.ensures.value (held_of c.take_cell.new.session) c.in_ok-fault.fault some
+    (drop_from c.args.heads.now place c.index-heads-place.result lt c.index-heads-place.is) c.in-Some.ensures.value (held_of c.take_cell.new.session) c.in_ok-fault.fault some
     (subst (λ (r : Rulebase). IsCell r (place + 1) held c.index-heads-place.result c.in-Some.cell.now (left_by c.in_ok-fault.fault (held_of c.take_cell.new.session))) c.loop-place.invariant.base c.in_ok-fault.ensures.ok)
 
 pub loop-place-preserved : goal.loop-place-preserved
@@ -37,10 +38,10 @@ loop-place-preserved g c =
     record {
       base = c.in_ok-fault.ensures.base ∙ c.loop-place.invariant.base;
       way = way_goes_on (rules_of c.args.session.now) c.args.heads.now cells (held_of c.args.session.now) place held c.loop-place.invariant.way c.index-heads-place.result c.in-Some.cell.now
-          (item_at c.args.heads.now place c.index-heads-place.result lt c.index-heads-place.is) c.in-Some.ensures.value (held_of c.take_cell.new.session) c.in_ok-fault.fault none
+          (drop_from c.args.heads.now place c.index-heads-place.result lt c.index-heads-place.is) c.in-Some.ensures.value (held_of c.take_cell.new.session) c.in_ok-fault.fault none
           (subst (λ (r : Rulebase). IsCell r (place + 1) held c.index-heads-place.result c.in-Some.cell.now (left_by c.in_ok-fault.fault (held_of c.take_cell.new.session))) c.loop-place.invariant.base c.in_ok-fault.ensures.ok);
       counts = cells_go_on (rules_of c.args.session.now) c.args.heads.now cells (held_of c.args.session.now) c.args.steps.now place held c.loop-place.steps c.loop-place.invariant.counts c.index-heads-place.result c.in-Some.cell.now
-          (item_at c.args.heads.now place c.index-heads-place.result lt c.index-heads-place.is) c.in-Some.ensures.value c.take_cell.new.steps
+          (drop_from c.args.heads.now place c.index-heads-place.result lt c.index-heads-place.is) c.in-Some.ensures.value c.take_cell.new.steps
           (subst (λ (r : Rulebase). CountsAtMost (CellReaches r held c.index-heads-place.result c.in-Some.cell.now) c.loop-place.steps c.take_cell.new.steps) c.loop-place.invariant.base c.in_ok-fault.ensures.counts)
           (held_of c.take_cell.new.session) c.in_ok-fault.fault none
           (subst (λ (r : Rulebase). IsCell r (place + 1) held c.index-heads-place.result c.in-Some.cell.now (left_by c.in_ok-fault.fault (held_of c.take_cell.new.session))) c.loop-place.invariant.base c.in_ok-fault.ensures.ok);
@@ -65,7 +66,7 @@ returns-in_err-fault-clause-counts g c =
     let held = held_of c.loop-place.session in
     let lt : place < length c.args.heads.now = omega arith in
     cells_stop (rules_of c.args.session.now) c.args.heads.now (fields_of c.args.row.now) (held_of c.args.session.now) c.args.steps.now place held c.loop-place.steps c.loop-place.invariant.counts c.index-heads-place.result c.in-Some.cell.now
-    (item_at c.args.heads.now place c.index-heads-place.result lt c.index-heads-place.is) c.in-Some.ensures.value c.take_cell.new.steps
+    (drop_from c.args.heads.now place c.index-heads-place.result lt c.index-heads-place.is) c.in-Some.ensures.value c.take_cell.new.steps
     (subst (λ (r : Rulebase). CountsAtMost (CellReaches r held c.index-heads-place.result c.in-Some.cell.now) c.loop-place.steps c.take_cell.new.steps) c.loop-place.invariant.base c.in_err-fault.ensures.counts)
 
 pub returns-then-is_some-clause-counts : goal.returns-then-is_some-clause-counts
@@ -74,7 +75,7 @@ returns-then-is_some-clause-counts g c =
     let held = held_of c.loop-place.session in
     let lt : place < length c.args.heads.now = omega arith in
     cells_stop (rules_of c.args.session.now) c.args.heads.now (fields_of c.args.row.now) (held_of c.args.session.now) c.args.steps.now place held c.loop-place.steps c.loop-place.invariant.counts c.index-heads-place.result c.in-Some.cell.now
-    (item_at c.args.heads.now place c.index-heads-place.result lt c.index-heads-place.is) c.in-Some.ensures.value c.take_cell.new.steps
+    (drop_from c.args.heads.now place c.index-heads-place.result lt c.index-heads-place.is) c.in-Some.ensures.value c.take_cell.new.steps
     (subst (λ (r : Rulebase). CountsAtMost (CellReaches r held c.index-heads-place.result c.in-Some.cell.now) c.loop-place.steps c.take_cell.new.steps) c.loop-place.invariant.base c.in_ok-fault.ensures.counts)
 
 pub returns-clause-counts : goal.returns-clause-counts

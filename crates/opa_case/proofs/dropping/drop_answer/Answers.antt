@@ -1,8 +1,7 @@
-use Rattle.std.proofs.Common.{ap, sym, ◌∙◌, ◌==◌}
+use Rattle.std.proofs.Common.{ap, sym, ◌∙◌, ◌==◌, eq-eqb}
 use Rattle.std.specs.FinMap.{get}
 use Rattle.opa_model.specs.declared.things.Attribute.{Attribute}
 use Rattle.opa_case.specs.Shapes.{shape_of}
-use Rattle.opa_case.proofs.Stands.{same_number}
 use Rattle.opa_case.proofs.Taken.{one_taken}
 use Rattle.opa_case.proofs.dropping.drop_answer.Goals as goal
 
@@ -12,4 +11,4 @@ returns-then-attribute_of-inst c a j =
     let i = c.args.inst.now in
     ap (λ m. get m (a, j)) c.remove.ensures
     ∙ one_taken c.args.answers.now c.args.attr.0 i (λ n. (s.attribute (record { 0 = n })).entity.0 == i.entity.0)
-    (same_number (s.attribute c.args.attr).entity.0 i.entity.0 (sym (ap (λ (t : Attribute). t.entity.0) c.attribute_of.ensures.value) ∙ c.if-attribute_of-inst.true)) a j
+    (eq-eqb (s.attribute c.args.attr).entity.0 i.entity.0 (sym (ap (λ (t : Attribute). t.entity.0) c.attribute_of.ensures.value) ∙ c.if-attribute_of-inst.true)) a j

@@ -1,22 +1,23 @@
 use Rattle.std.proofs.Common.{ap, sym, subst, ◌∙◌, take, ◌++◌, ◌∷◌, [], Some, cond}
 use Rattle.std.specs.FinMap.{FinMap, insert}
 use Rattle.std.proofs.lemmas.List.{take_more}
+use Rattle.opa_io.proofs.Results.{always_on_err}
 use Rattle.opa_cells.specs.Keys.{cell_cmp}
 use Rattle.opa_cells.specs.declared.instance.InstanceId.{InstanceId}
 use Rattle.opa_case.specs.Homes.{home_of}
 use Rattle.opa_case.specs.Live.{Population}
 use Rattle.opa_case.specs.Turns.{is_among}
-use Rattle.opa_case.proofs.Housing.{one_set, first_set, on_err, Leaves}
+use Rattle.opa_case.proofs.Housing.{one_set, first_set, Leaves}
 use Rattle.opa_case.proofs.homes.insert_homes.Goals as goal
 
 pub returns-in_err-key-clause-err : goal.returns-in_err-key-clause-err
-returns-in_err-key-clause-err c = on_err _ (first_set c.args.come.now c.loop-inst.inst-index c.args.homes.now c.loop-inst.homes c.args.container.now c.loop-inst.invariant)
+returns-in_err-key-clause-err c = always_on_err _ (first_set c.args.come.now c.loop-inst.inst-index c.args.homes.now c.loop-inst.homes c.args.container.now c.loop-inst.invariant)
 
 pub returns-in_err-home-clause-err : goal.returns-in_err-home-clause-err
-returns-in_err-home-clause-err c = on_err _ (first_set c.args.come.now c.loop-inst.inst-index c.args.homes.now c.loop-inst.homes c.args.container.now c.loop-inst.invariant)
+returns-in_err-home-clause-err c = always_on_err _ (first_set c.args.come.now c.loop-inst.inst-index c.args.homes.now c.loop-inst.homes c.args.container.now c.loop-inst.invariant)
 
 pub returns-in_err-insert-clause-err : goal.returns-in_err-insert-clause-err
-returns-in_err-insert-clause-err c = on_err _ (subst (Leaves c.args.come.now c.args.homes.now) (sym c.in_err-insert.ensures.err) (first_set c.args.come.now c.loop-inst.inst-index c.args.homes.now c.loop-inst.homes c.args.container.now c.loop-inst.invariant))
+returns-in_err-insert-clause-err c = always_on_err _ (subst (Leaves c.args.come.now c.args.homes.now) (sym c.in_err-insert.ensures.err) (first_set c.args.come.now c.loop-inst.inst-index c.args.homes.now c.loop-inst.homes c.args.container.now c.loop-inst.invariant))
 
 pub loop-inst-preserved : goal.loop-inst-preserved
 loop-inst-preserved c i =

@@ -3,7 +3,7 @@ use Rattle.std.specs.Option.{option_copied}
 use Rattle.opa_date.specs.declared.TheConstants.{DAYS}
 use Rattle.opa_mean.specs.Changes.{first_difference}
 use Rattle.opa_mean.specs.Given.{line_value}
-use Rattle.opa_changes.proofs.Firsts.{no_difference}
+use Rattle.opa_mean.proofs.ChangesAre.{no_difference}
 use Rattle.opa_changes.proofs.lines.first_from_unknown.Goals as goal
 
 pub returns-in-None : goal.returns-in-None

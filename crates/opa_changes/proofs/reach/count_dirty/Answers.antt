@@ -1,10 +1,11 @@
 use Rattle.std.proofs.Common.{ap, ◌∙◌, filter, length}
+use Rattle.opa_io.proofs.Places.{take_whole}
 use Rattle.opa_model.specs.declared.ids.AttrId.{AttrId}
 use Rattle.opa_cells.specs.declared.instance.InstanceId.{InstanceId}
 use Rattle.opa_mean.specs.Changes.{is_dirty}
 use Rattle.opa_mean.specs.Given.{base_of, facts_of}
 use Rattle.opa_changes.proofs.Placed.{slot_at}
-use Rattle.opa_changes.proofs.Reached.{count_more, count_low, all_taken}
+use Rattle.opa_changes.proofs.Reached.{count_more, count_low}
 use Rattle.opa_changes.proofs.reach.count_dirty.Goals as goal
 
 pub is_dirty-requires-clause-slot : goal.is_dirty-requires-clause-slot
@@ -20,4 +21,4 @@ loop-attr-preserved g c =
 pub returns : goal.returns
 returns g c =
     let p = λ (s : AttrId × InstanceId). is_dirty (base_of (g.K.Held.rules c.args.new.now)) (facts_of (g.H.Held.held c.args.old.now)) (facts_of (g.K.Held.held c.args.new.now)) s.0 s.1 in
-    c.loop-attr.invariant.0 ∙ ap (λ xs. length (filter p xs)) (all_taken c.args.slots.now c.loop-attr.attr-index c.loop-attr-test.false)
+    c.loop-attr.invariant.0 ∙ ap (λ xs. length (filter p xs)) (take_whole c.args.slots.now c.loop-attr.attr-index c.loop-attr-test.false)

@@ -1,12 +1,12 @@
 use Rattle.std.proofs.Common.{List, sym, subst}
 use Rattle.std.specs.List.{AllZip}
+use Rattle.opa_io.proofs.Places.{take_whole}
 use Rattle.opa_model.specs.declared.ids.AttrId.{AttrId}
 use Rattle.opa_cells.specs.declared.instance.InstanceId.{InstanceId}
 use Rattle.opa_mean.specs.Changes.{Changed}
 use Rattle.opa_mean.specs.Given.{base_of, facts_of}
 use Rattle.opa_changes.specs.Telling.{TellsOf, changes_among}
 use Rattle.opa_changes.proofs.Placed.{slot_at}
-use Rattle.opa_changes.proofs.Reached.{all_taken}
 use Rattle.opa_changes.proofs.Told.{among_more}
 use Rattle.opa_changes.proofs.tell.lined_changes.Goals as goal
 
@@ -22,4 +22,4 @@ loop-attr-preserved g c =
 pub returns : goal.returns
 returns g c =
     subst (λ (xs : List (AttrId × InstanceId)). AllZip (TellsOf (g.K.Lined.rules c.args.new.now).model) (changes_among (base_of (g.K.Lined.rules c.args.new.now)) (facts_of (g.H.Lined.over c.args.old.now)) (facts_of (g.K.Lined.over c.args.new.now)) xs) c.loop-attr.told.items)
-    (all_taken c.args.slots.now c.loop-attr.attr-index c.loop-attr-test.false) c.loop-attr.invariant
+    (take_whole c.args.slots.now c.loop-attr.attr-index c.loop-attr-test.false) c.loop-attr.invariant

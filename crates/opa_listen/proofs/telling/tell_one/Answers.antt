@@ -1,6 +1,7 @@
 use Rattle.std.proofs.Common.{length, ap, subst, arith}
 use Rattle.std.specs.Vec.Iter.{into_iter_items}
-use Rattle.opa_listen.proofs.Keeping.{Kept, kept_more, kept_end, can_room, can_watch, none_left}
+use Rattle.opa_io.proofs.Lists.{no_length}
+use Rattle.opa_listen.proofs.Keeping.{Kept, kept_more, kept_end, can_room, can_watch}
 use Rattle.opa_listen.proofs.telling.tell_one.Goals as goal
 
 pub note-requires : goal.note-requires
@@ -19,5 +20,5 @@ loop-change-preserved g c =
 
 pub returns : goal.returns
 returns g c =
-    let e = none_left (into_iter_items c.loop-change.change-iterator) (omega (arith, c.in-None.ensures.steps.0, c.loop-change.invariant.sized)) in
+    let e = no_length (into_iter_items c.loop-change.change-iterator) (omega (arith, c.in-None.ensures.steps.0, c.loop-change.invariant.sized)) in
     kept_end _ _ _ (subst (Kept _ _ _) e c.loop-change.invariant.kept)

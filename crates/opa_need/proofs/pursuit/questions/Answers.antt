@@ -1,10 +1,11 @@
 use Rattle.std.proofs.Common.{List, [], ◌∷◌, ◌++◌, ◌∙◌, ◌<◌, None, ap, subst, arith, reverse, length}
+use Rattle.opa_io.proofs.Lists.{reverse_push}
 use Rattle.opa_mean.specs.Next.{first_or}
 use Rattle.opa_need.specs.Finding.{added}
 use Rattle.opa_need.specs.Steps.{IsOnTheWay, point_needs}
 use Rattle.opa_need.specs.declared.steps.Step.{Step}
 use Rattle.opa_need.specs.declared.steps.Step.TheVariants as step
-use Rattle.opa_need.proofs.Pursuing.{begins, first_found, reversed}
+use Rattle.opa_need.proofs.Pursuing.{begins, first_found}
 use Rattle.opa_need.proofs.pursuit.questions.Goals as goal
 
 pub loop-init : goal.loop-init
@@ -21,4 +22,4 @@ returns-then-len-gt0-clause-front g c =
 pub loop-preserved : goal.loop-preserved
 loop-preserved g c =
     let r = g.H.Held.rules c.args.held.now in let held = g.H.Held.held c.args.held.now in
-    c.in_ok-more-in-Some.ensures (added [] (point_needs r held c.args.attr c.args.inst.now c.args.day)) (subst (λ (xs : List Step). IsOnTheWay r held (added [] (point_needs r held c.args.attr c.args.inst.now c.args.day)) c.loop.found c.loop.runs xs) (ap reverse c.in-Some.ensures ∙ reversed c.pop.new.self c.in-Some.step) c.loop.invariant)
+    c.in_ok-more-in-Some.ensures (added [] (point_needs r held c.args.attr c.args.inst.now c.args.day)) (subst (λ (xs : List Step). IsOnTheWay r held (added [] (point_needs r held c.args.attr c.args.inst.now c.args.day)) c.loop.found c.loop.runs xs) (ap reverse c.in-Some.ensures ∙ reverse_push c.pop.new.self c.in-Some.step) c.loop.invariant)

@@ -1,8 +1,9 @@
 use Rattle.std.proofs.Common.{subst}
+use Rattle.opa_io.proofs.Results.{if_ok_then}
 use Rattle.opa_need.specs.Steps.{IsReady}
 use Rattle.opa_need.specs.declared.steps.Step.{Step}
 use Rattle.opa_need.specs.declared.steps.Step.TheVariants as step
-use Rattle.opa_need.proofs.Pursuing.{ok_weaker, of_step}
+use Rattle.opa_need.proofs.Pursuing.{of_step}
 use Rattle.opa_need.proofs.pursuit.take.Goals as goal
 
 pub step_tree-requires-clause-day : goal.step_tree-requires-clause-day
@@ -58,34 +59,34 @@ step_leave-requires-clause-live g c =
 pub returns-in-Tree : goal.returns-in-Tree
 returns-in-Tree g c =
     let r = g.H.Held.rules c.args.held.now in let held = g.H.Held.held c.args.held.now in
-    ok_weaker _ _ c.step_tree.result (λ x h. of_step r held c.args.step.now (step.Tree c.in-Tree.tree c.in-Tree.enclosing c.in-Tree.day) c.args.found x.0 c.args.runs x.1 c.args.steps.now c.step_tree.new.steps c.in-Tree.is h) c.step_tree.ensures
+    if_ok_then _ _ c.step_tree.result (λ x h. of_step r held c.args.step.now (step.Tree c.in-Tree.tree c.in-Tree.enclosing c.in-Tree.day) c.args.found x.0 c.args.runs x.1 c.args.steps.now c.step_tree.new.steps c.in-Tree.is h) c.step_tree.ensures
 
 pub returns-in-Part : goal.returns-in-Part
 returns-in-Part g c =
     let r = g.H.Held.rules c.args.held.now in let held = g.H.Held.held c.args.held.now in
-    ok_weaker _ _ c.step_part.result (λ x h. of_step r held c.args.step.now (step.Part c.in-Part.part c.in-Part.enclosing c.in-Part.day) c.args.found x.0 c.args.runs x.1 c.args.steps.now c.step_part.new.steps c.in-Part.is h) c.step_part.ensures
+    if_ok_then _ _ c.step_part.result (λ x h. of_step r held c.args.step.now (step.Part c.in-Part.part c.in-Part.enclosing c.in-Part.day) c.args.found x.0 c.args.runs x.1 c.args.steps.now c.step_part.new.steps c.in-Part.is h) c.step_part.ensures
 
 pub returns-in-Point : goal.returns-in-Point
 returns-in-Point g c =
     let r = g.H.Held.rules c.args.held.now in let held = g.H.Held.held c.args.held.now in
-    ok_weaker _ _ c.step_point.result (λ x h. of_step r held c.args.step.now (step.Point c.in-Point.attr c.in-Point.inst c.in-Point.day) c.args.found x.0 c.args.runs x.1 c.args.steps.now c.step_point.new.steps c.in-Point.is h) c.step_point.ensures
+    if_ok_then _ _ c.step_point.result (λ x h. of_step r held c.args.step.now (step.Point c.in-Point.attr c.in-Point.inst c.in-Point.day) c.args.found x.0 c.args.runs x.1 c.args.steps.now c.step_point.new.steps c.in-Point.is h) c.step_point.ensures
 
 pub returns-in-Listed : goal.returns-in-Listed
 returns-in-Listed g c =
     let r = g.H.Held.rules c.args.held.now in let held = g.H.Held.held c.args.held.now in
-    ok_weaker _ _ c.step_list.result (λ x h. of_step r held c.args.step.now (step.Listed c.in-Listed.rel c.in-Listed.inst) c.args.found x.0 c.args.runs x.1 c.args.steps.now c.step_list.new._steps c.in-Listed.is h) c.step_list.ensures
+    if_ok_then _ _ c.step_list.result (λ x h. of_step r held c.args.step.now (step.Listed c.in-Listed.rel c.in-Listed.inst) c.args.found x.0 c.args.runs x.1 c.args.steps.now c.step_list.new._steps c.in-Listed.is h) c.step_list.ensures
 
 pub returns-in-Days : goal.returns-in-Days
 returns-in-Days g c =
     let r = g.H.Held.rules c.args.held.now in let held = g.H.Held.held c.args.held.now in
-    ok_weaker _ _ c.step_days.result (λ x h. of_step r held c.args.step.now (step.Days c.in-Days.part c.in-Days.enclosing c.in-Days.first c.in-Days.end) c.args.found x.0 c.args.runs x.1 c.args.steps.now c.step_days.new.steps c.in-Days.is h) c.step_days.ensures
+    if_ok_then _ _ c.step_days.result (λ x h. of_step r held c.args.step.now (step.Days c.in-Days.part c.in-Days.enclosing c.in-Days.first c.in-Days.end) c.args.found x.0 c.args.runs x.1 c.args.steps.now c.step_days.new.steps c.in-Days.is h) c.step_days.ensures
 
 pub returns-in-AfterDay : goal.returns-in-AfterDay
 returns-in-AfterDay g c =
     let r = g.H.Held.rules c.args.held.now in let held = g.H.Held.held c.args.held.now in
-    ok_weaker _ _ c.step_after.result (λ x h. of_step r held c.args.step.now (step.AfterDay c.in-AfterDay.part c.in-AfterDay.enclosing c.in-AfterDay.day c.in-AfterDay.end) c.args.found x.0 c.args.runs x.1 c.args.steps.now c.step_after.new.steps c.in-AfterDay.is h) c.step_after.ensures
+    if_ok_then _ _ c.step_after.result (λ x h. of_step r held c.args.step.now (step.AfterDay c.in-AfterDay.part c.in-AfterDay.enclosing c.in-AfterDay.day c.in-AfterDay.end) c.args.found x.0 c.args.runs x.1 c.args.steps.now c.step_after.new.steps c.in-AfterDay.is h) c.step_after.ensures
 
 pub returns-in-AfterPoint : goal.returns-in-AfterPoint
 returns-in-AfterPoint g c =
     let r = g.H.Held.rules c.args.held.now in let held = g.H.Held.held c.args.held.now in
-    ok_weaker _ _ c.step_leave.result (λ x h. of_step r held c.args.step.now (step.AfterPoint c.in-AfterPoint.attr c.in-AfterPoint.inst c.in-AfterPoint.day) c.args.found x.0 c.args.runs x.1 c.args.steps.now c.step_leave.new._steps c.in-AfterPoint.is h) c.step_leave.ensures
+    if_ok_then _ _ c.step_leave.result (λ x h. of_step r held c.args.step.now (step.AfterPoint c.in-AfterPoint.attr c.in-AfterPoint.inst c.in-AfterPoint.day) c.args.found x.0 c.args.runs x.1 c.args.steps.now c.step_leave.new._steps c.in-AfterPoint.is h) c.step_leave.ensures

@@ -1,8 +1,9 @@
 use Rattle.std.proofs.Common.{ℕ, sym, ◌∙◌, ap, refl}
 use Rattle.std.specs.Option.{option_copied_mut}
+use Rattle.opa_io.proofs.Results.{always_on_err}
 use Rattle.opa_cells.specs.declared.instance.InstanceId.{InstanceId}
 use Rattle.opa_readers.proofs.Adding.{put_there, put_first}
-use Rattle.opa_readers.proofs.Taking.{table_same, on_err}
+use Rattle.opa_readers.proofs.Taking.{table_same}
 use Rattle.opa_readers.proofs.add.add_at.Goals as goal
 
 pub returns-in_ok-add_slot-in-Some-clause-adds : goal.returns-in_ok-add_slot-in-Some-clause-adds
@@ -17,5 +18,5 @@ returns-in_ok-insert-in-None-clause-adds c =
 
 pub returns-in_err-add_slot-in-Some-clause-err : goal.returns-in_err-add_slot-in-Some-clause-err
 returns-in_err-add_slot-in-Some-clause-err c =
-    on_err c.from_residual.result
+    always_on_err c.from_residual.result
     (table_same c.args.cells.now _ (c.args.number, c.args.key.now) c.in-Some.slots.now c.add_slot.new.slots (sym c.get_mut.ensures.value ∙ ap option_copied_mut c.in-Some.is) refl c.in_err-add_slot-in-Some.ensures.err)

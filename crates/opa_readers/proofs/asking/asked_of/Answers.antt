@@ -1,5 +1,5 @@
 use Rattle.std.proofs.Common.{subst}
-use Rattle.opa_changes.proofs.Reached.{all_taken}
+use Rattle.opa_io.proofs.Places.{take_whole}
 use Rattle.opa_readers.specs.Touches.{AreAsked}
 use Rattle.opa_readers.proofs.Sifting.{asked_none, asked_next}
 use Rattle.opa_readers.proofs.asking.asked_of.Goals as goal
@@ -12,4 +12,4 @@ loop-question-preserved c =
     asked_next c.args.questions.now c.loop-question.question-index c.question-item.result c.loop-question.asked c.ask.new.asked c.loop-question-test.true c.question-item.is c.loop-question.invariant c.in_ok-ask.ensures
 
 pub returns : goal.returns
-returns c = subst (λ qs. AreAsked qs c.loop-question.asked) (all_taken c.args.questions.now c.loop-question.question-index c.loop-question-test.false) c.loop-question.invariant
+returns c = subst (λ qs. AreAsked qs c.loop-question.asked) (take_whole c.args.questions.now c.loop-question.question-index c.loop-question-test.false) c.loop-question.invariant

@@ -1,6 +1,6 @@
 use Rattle.std.proofs.Common.{subst}
+use Rattle.opa_io.proofs.Places.{take_whole}
 use Rattle.opa_changes.proofs.Placed.{slot_at}
-use Rattle.opa_changes.proofs.Reached.{all_taken}
 use Rattle.opa_readers.specs.Indexes.{readers_in, AreReadersAmong}
 use Rattle.opa_readers.proofs.Indexed.{among_none, among_next}
 use Rattle.opa_readers.proofs.build.among.Goals as goal
@@ -16,4 +16,4 @@ loop-attr-preserved c =
     among_next c.args.base.now c.args.case.now c.args.slots.now c.loop-attr.attr-index c.loop-attr-item.result c.loop-attr.index c.add_reader.new.index c.loop-attr-test.true c.loop-attr-item.is c.loop-attr.invariant c.in_ok-add_reader.ensures
 
 pub returns : goal.returns
-returns c = subst (λ xs. AreReadersAmong c.args.base.now c.args.case.now xs (readers_in c.loop-attr.index)) (all_taken c.args.slots.now c.loop-attr.attr-index c.loop-attr-test.false) c.loop-attr.invariant
+returns c = subst (λ xs. AreReadersAmong c.args.base.now c.args.case.now xs (readers_in c.loop-attr.index)) (take_whole c.args.slots.now c.loop-attr.attr-index c.loop-attr-test.false) c.loop-attr.invariant

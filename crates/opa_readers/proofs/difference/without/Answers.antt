@@ -1,5 +1,5 @@
 use Rattle.std.proofs.Common.{subst}
-use Rattle.opa_changes.proofs.Reached.{all_taken}
+use Rattle.opa_io.proofs.Places.{take_whole}
 use Rattle.opa_readers.specs.Touches.{AreWithout}
 use Rattle.opa_readers.proofs.Sifting.{sift_start, sift_next}
 use Rattle.opa_readers.proofs.difference.without.Goals as goal
@@ -12,4 +12,4 @@ loop-question-preserved c =
     sift_next c.args.others.now c.args.questions.now c.loop-question.question-index c.question-item.result c.loop-question.passed c.sift.new.passed c.loop-question.left c.sift.new.left c.loop-question-test.true c.question-item.is c.loop-question.invariant c.in_ok-sift.ensures
 
 pub returns : goal.returns
-returns c = subst (λ qs. AreWithout qs c.args.others.now c.loop-question.left) (all_taken c.args.questions.now c.loop-question.question-index c.loop-question-test.false) c.loop-question.invariant.kept_are
+returns c = subst (λ qs. AreWithout qs c.args.others.now c.loop-question.left) (take_whole c.args.questions.now c.loop-question.question-index c.loop-question-test.false) c.loop-question.invariant.kept_are

@@ -1,6 +1,6 @@
 use Rattle.std.proofs.Common.{◌∙◌, ap}
+use Rattle.opa_io.proofs.Places.{take_whole}
 use Rattle.opa_changes.proofs.Placed.{slot_at}
-use Rattle.opa_changes.proofs.Reached.{all_taken}
 use Rattle.opa_readers.specs.Renewing.{fresh_among}
 use Rattle.opa_readers.proofs.Renewed.{fresh_next}
 use Rattle.opa_readers.proofs.fresh.fresh_of.Goals as goal
@@ -13,4 +13,4 @@ loop-attr-preserved c =
     fresh_next c.args.base.now c.args.old.now c.args.new.now c.args.slots.now c.loop-attr.attr-index c.loop-attr-item.result c.loop-attr.found c.add_fresh.new.found c.loop-attr-test.true c.loop-attr-item.is c.loop-attr.invariant c.in_ok-add_fresh.ensures
 
 pub returns : goal.returns
-returns c = c.loop-attr.invariant ∙ ap (fresh_among c.args.base.now c.args.old.now c.args.new.now) (all_taken c.args.slots.now c.loop-attr.attr-index c.loop-attr-test.false)
+returns c = c.loop-attr.invariant ∙ ap (fresh_among c.args.base.now c.args.old.now c.args.new.now) (take_whole c.args.slots.now c.loop-attr.attr-index c.loop-attr-test.false)

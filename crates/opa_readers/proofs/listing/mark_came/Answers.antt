@@ -1,6 +1,6 @@
 use Rattle.std.proofs.Common.{subst}
+use Rattle.opa_io.proofs.Places.{take_whole}
 use Rattle.opa_case.specs.Live.{Population}
-use Rattle.opa_changes.proofs.Reached.{all_taken}
 use Rattle.opa_readers.specs.Waits.{IsSlotOfOne, WaitsBesides}
 use Rattle.opa_readers.proofs.Coming.{came_none, came_next}
 use Rattle.opa_readers.proofs.listing.mark_came.Goals as goal
@@ -14,4 +14,4 @@ loop-inst-preserved c =
 
 pub returns : goal.returns
 returns c =
-    subst (λ (xs : Population). WaitsBesides c.args.base.now (IsSlotOfOne c.args.base.now xs) c.args.tasks.now c.loop-inst.tasks) (all_taken c.args.came.now c.loop-inst.inst-index c.loop-inst-test.false) c.loop-inst.invariant
+    subst (λ (xs : Population). WaitsBesides c.args.base.now (IsSlotOfOne c.args.base.now xs) c.args.tasks.now c.loop-inst.tasks) (take_whole c.args.came.now c.loop-inst.inst-index c.loop-inst-test.false) c.loop-inst.invariant

@@ -1,5 +1,5 @@
 use Rattle.std.proofs.Common.{List, refl, ◌∙◌, subst}
-use Rattle.opa_changes.proofs.Reached.{all_taken}
+use Rattle.opa_io.proofs.Places.{take_whole}
 use Rattle.opa_model.specs.declared.ids.AttrId.{AttrId}
 use Rattle.opa_readers.specs.Waits.{IsOwnSlotAmong, WaitsBesides}
 use Rattle.opa_readers.proofs.Coming.{own_none, own_next, own_all}
@@ -15,4 +15,4 @@ loop-attr-preserved c =
 pub returns : goal.returns
 returns c =
     own_all c.args.base.now c.args.inst.now c.attributes-attrs.result.now c.args.inst.now.entity.0 c.args.tasks.now c.loop-attr.tasks (c.attributes-attrs.ensures ∙ c.requires c.args.inst.now.entity.0) refl
-    (subst (λ (xs : List AttrId). WaitsBesides c.args.base.now (IsOwnSlotAmong c.args.base.now c.args.inst.now xs) c.args.tasks.now c.loop-attr.tasks) (all_taken c.attributes-attrs.result.now c.loop-attr.attr-index c.loop-attr-test.false) c.loop-attr.invariant)
+    (subst (λ (xs : List AttrId). WaitsBesides c.args.base.now (IsOwnSlotAmong c.args.base.now c.args.inst.now xs) c.args.tasks.now c.loop-attr.tasks) (take_whole c.attributes-attrs.result.now c.loop-attr.attr-index c.loop-attr-test.false) c.loop-attr.invariant)

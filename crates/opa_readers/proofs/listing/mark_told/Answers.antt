@@ -1,9 +1,9 @@
 use Rattle.std.proofs.Common.{List, subst}
 use Rattle.std.specs.Option.{option_copied}
+use Rattle.opa_io.proofs.Places.{take_whole}
 use Rattle.opa_case.specs.Overlays.{relisted_case}
 use Rattle.opa_dirty.specs.Slots.{slots_in}
 use Rattle.opa_case.specs.declared.question.Question.{Question}
-use Rattle.opa_changes.proofs.Reached.{all_taken}
 use Rattle.opa_readers.specs.Indexes.{readers_in}
 use Rattle.opa_readers.specs.Waits.{IsLiveReader, WaitsBesides}
 use Rattle.opa_readers.proofs.Coming.{told_none, told_next}
@@ -20,4 +20,4 @@ loop-question-preserved c =
 pub returns : goal.returns
 returns c =
     subst (λ (qs : List Question). WaitsBesides c.args.base.now (IsLiveReader (relisted_case c.args.next.now) (readers_in c.args.index.now) qs) c.args.tasks.now c.loop-question.tasks)
-    (all_taken c.args.told.now c.loop-question.question-index c.loop-question-test.false) c.loop-question.invariant
+    (take_whole c.args.told.now c.loop-question.question-index c.loop-question-test.false) c.loop-question.invariant

@@ -1,7 +1,7 @@
 use Rattle.std.proofs.Common.{subst}
+use Rattle.opa_io.proofs.Places.{take_whole}
 use Rattle.opa_readers.specs.Indexes.{readers_in}
 use Rattle.opa_readers.specs.Renewals.{TakesLost}
-use Rattle.opa_changes.proofs.Reached.{all_taken}
 use Rattle.opa_readers.proofs.Putting.{takes_none, takes_next}
 use Rattle.opa_readers.proofs.put.take_lost.Goals as goal
 
@@ -13,4 +13,4 @@ loop-renewed-preserved c =
     takes_next (λ r. r.lost) c.args.slots.now c.loop-renewed.renewed-index c.renewed-item.result c.as_slice-lost.result.now c.args.index.now c.loop-renewed.index c.take_questions.new.index c.loop-renewed-test.true c.renewed-item.is c.as_slice-lost.ensures c.loop-renewed.invariant c.take_questions.ensures
 
 pub returns : goal.returns
-returns c = subst (λ rs. TakesLost rs (readers_in c.args.index.now) (readers_in c.loop-renewed.index)) (all_taken c.args.slots.now c.loop-renewed.renewed-index c.loop-renewed-test.false) c.loop-renewed.invariant
+returns c = subst (λ rs. TakesLost rs (readers_in c.args.index.now) (readers_in c.loop-renewed.index)) (take_whole c.args.slots.now c.loop-renewed.renewed-index c.loop-renewed-test.false) c.loop-renewed.invariant

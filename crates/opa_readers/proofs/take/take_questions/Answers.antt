@@ -1,6 +1,6 @@
 use Rattle.std.proofs.Common.{subst}
+use Rattle.opa_io.proofs.Places.{take_whole}
 use Rattle.opa_readers.specs.Indexes.{TakesReads}
-use Rattle.opa_changes.proofs.Reached.{all_taken}
 use Rattle.opa_readers.proofs.Taking.{takes_none, takes_next}
 use Rattle.opa_readers.proofs.take.take_questions.Goals as goal
 
@@ -12,4 +12,4 @@ loop-question-preserved c =
     takes_next c.args.slot.now.attr c.args.slot.now.inst c.args.questions.now c.loop-question.question-index c.question-item.result c.args.index.now c.loop-question.index c.take_question.new.index c.loop-question-test.true c.question-item.is c.loop-question.invariant c.take_question.ensures
 
 pub returns : goal.returns
-returns c = subst (λ qs. TakesReads qs c.args.slot.now.attr c.args.slot.now.inst c.args.index.now c.loop-question.index) (all_taken c.args.questions.now c.loop-question.question-index c.loop-question-test.false) c.loop-question.invariant
+returns c = subst (λ qs. TakesReads qs c.args.slot.now.attr c.args.slot.now.inst c.args.index.now c.loop-question.index) (take_whole c.args.questions.now c.loop-question.question-index c.loop-question-test.false) c.loop-question.invariant

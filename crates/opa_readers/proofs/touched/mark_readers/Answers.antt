@@ -1,6 +1,6 @@
 use Rattle.std.proofs.Common.{subst}
 use Rattle.std.specs.Option.{option_copied}
-use Rattle.opa_changes.proofs.Reached.{all_taken}
+use Rattle.opa_io.proofs.Places.{take_whole}
 use Rattle.opa_dirty.specs.Slots.{slots_in}
 use Rattle.opa_settle.specs.Starts.{MarksReaders}
 use Rattle.opa_settle.proofs.Changed.{readers_start, readers_one, readers_next}
@@ -16,4 +16,4 @@ loop-question-preserved c =
     (readers_one c.args.base.now (readers_in c.args.index.now) c.question-item.result (slots_in (option_copied c.of-reading.result)) c.of-reading.ensures c.loop-question.tasks c.mark_set.new.tasks c.in_ok-mark_set.ensures)
 
 pub returns : goal.returns
-returns c = subst (λ qs. MarksReaders c.args.base.now (readers_in c.args.index.now) qs c.args.tasks.now c.loop-question.tasks) (all_taken c.args.told.now c.loop-question.question-index c.loop-question-test.false) c.loop-question.invariant
+returns c = subst (λ qs. MarksReaders c.args.base.now (readers_in c.args.index.now) qs c.args.tasks.now c.loop-question.tasks) (take_whole c.args.told.now c.loop-question.question-index c.loop-question-test.false) c.loop-question.invariant

@@ -2,6 +2,7 @@ use Rattle.std.proofs.Common.{◌≡◌, ◌∙◌, ◌∷◌, [], ◌++◌, ◌
 use Rattle.std.specs.Prelude.{flat_map}
 use Rattle.std.specs.List.{AllByRecursion}
 use Rattle.std.proofs.lemmas.Result.{on_ok_weaker}
+use Rattle.opa_io.proofs.Places.{take_whole}
 use Rattle.opa_cells.specs.Instances.{named}
 use Rattle.opa_date.specs.declared.TheConstants.{DAYS}
 use Rattle.opa_value.specs.Truth.{is_true}
@@ -17,7 +18,7 @@ use Rattle.opa_report.specs.Spreading.{is_truth, last_days, taken_uses}
 use Rattle.opa_report.proofs.Combining.{adds_nothing, adds_same, adds_both, adds_over, adds_where}
 use Rattle.opa_report.proofs.Dating.{back_leads, back_low}
 use Rattle.opa_report.proofs.Going.{all_at, line_at, each_step, going_step, going_end, rows_step, rows_end}
-use Rattle.opa_report.proofs.Parts.{all_taken, one_is, two_are, over_known, over_unknown, over_deciding, over_each, over_tested, over_few, over_two, over_many, names_live, window_two, window_three}
+use Rattle.opa_report.proofs.Parts.{one_is, two_are, over_known, over_unknown, over_deciding, over_each, over_tested, over_few, over_two, over_many, names_live, window_two, window_three}
 use Rattle.opa_mean.proofs.UseLaws.{uses-Const, uses-Attr, uses-All, uses-Any, uses-Not, uses-Op, uses-Certain, uses-Known, uses-Over, uses-Window, uses-Rolling, uses-Table}
 use Rattle.opa_report.proofs.spread.+spreading.Goals as goal
 
@@ -122,7 +123,7 @@ spread_each-loop-tree-preserved g t c = λ live.
 pub spread_each-returns : goal.spread_each-returns
 spread_each-returns g t c = λ live.
     let s = g.S.Sight.shape c.args.sight.now in let l = g.S.Sight.look c.args.sight.now in let E = c.args.enclosing.now in
-    subst (λ es. Adds (on c.args.days.now) (λ d. flat_map (λ e. uses s l e E d) es) c.args.found.now c.loop-tree.found) (all_taken c.args.trees.now c.loop-tree.tree-index c.loop-tree-test.false) (c.loop-tree.invariant live)
+    subst (λ es. Adds (on c.args.days.now) (λ d. flat_map (λ e. uses s l e E d) es) c.args.found.now c.loop-tree.found) (take_whole c.args.trees.now c.loop-tree.tree-index c.loop-tree-test.false) (c.loop-tree.invariant live)
 
 pub spread_firsts-loop-tree-preserved : goal.spread_firsts-loop-tree-preserved
 spread_firsts-loop-tree-preserved g t c = λ live.
@@ -135,7 +136,7 @@ pub spread_firsts-returns : goal.spread_firsts-returns
 spread_firsts-returns g t c = λ live.
     let s = g.S.Sight.shape c.args.sight.now in let l = g.S.Sight.look c.args.sight.now in let E = c.args.enclosing.now in
     going_end (λ d e. is_truth c.args.truth (value s l e E d)) (λ d e. uses s l e E d) c.args.trees.now c.args.days.now c.loop-tree.tree-index c.loop-tree.passed c.args.found.now c.loop-tree.found
-    (all_taken c.args.trees.now c.loop-tree.tree-index c.loop-tree-test.false) (c.loop-tree.invariant live)
+    (take_whole c.args.trees.now c.loop-tree.tree-index c.loop-tree-test.false) (c.loop-tree.invariant live)
 
 pub spread_rows-loop-row-preserved : goal.spread_rows-loop-row-preserved
 spread_rows-loop-row-preserved g t c = λ live.
@@ -201,7 +202,7 @@ each_member-loop-name-preserved g t c = λ names live.
 pub each_member-returns : goal.each_member-returns
 each_member-returns g t c = λ names live.
     let s = g.S.Sight.shape c.args.sight.now in let l = g.S.Sight.look c.args.sight.now in let E = c.args.enclosing.now in
-    subst (λ ns. Adds (on c.args.days.now) (λ d. flat_map (λ n. uses s l c.args.tree.now (named c.args.target n ∷ E) d) ns) c.args.found.now c.loop-name.found) (all_taken c.args.names.now c.loop-name.name-index c.loop-name-test.false) (c.loop-name.invariant names live)
+    subst (λ ns. Adds (on c.args.days.now) (λ d. flat_map (λ n. uses s l c.args.tree.now (named c.args.target n ∷ E) d) ns) c.args.found.now c.loop-name.found) (take_whole c.args.names.now c.loop-name.name-index c.loop-name-test.false) (c.loop-name.invariant names live)
 
 pub first_members-loop-name-preserved : goal.first_members-loop-name-preserved
 first_members-loop-name-preserved g t c = λ names live.
@@ -221,7 +222,7 @@ pub first_members-returns : goal.first_members-returns
 first_members-returns g t c = λ names live.
     let s = g.S.Sight.shape c.args.sight.now in let l = g.S.Sight.look c.args.sight.now in let E = c.args.enclosing.now in
     going_end (λ d n. is_truth c.args.truth (value s l c.args.tree.now (named c.args.target n ∷ E) d)) (λ d n. uses s l c.args.tree.now (named c.args.target n ∷ E) d) c.args.names.now c.args.days.now c.loop-name.name-index c.loop-name.passed c.args.found.now c.loop-name.found
-    (all_taken c.args.names.now c.loop-name.name-index c.loop-name-test.false) (c.loop-name.invariant names live)
+    (take_whole c.args.names.now c.loop-name.name-index c.loop-name-test.false) (c.loop-name.invariant names live)
 
 pub taken_members-loop-name-preserved : goal.taken_members-loop-name-preserved
 taken_members-loop-name-preserved g t c = λ names live.
@@ -241,7 +242,7 @@ taken_members-loop-name-preserved g t c = λ names live.
 pub taken_members-returns : goal.taken_members-returns
 taken_members-returns g t c = λ names live.
     let s = g.S.Sight.shape c.args.sight.now in let l = g.S.Sight.look c.args.sight.now in let E = c.args.enclosing.now in
-    subst (λ ns. Adds (on c.args.days.now) (λ d. flat_map (λ n. taken_uses s l c.args.number.now c.args.test.now (named c.args.target n ∷ E) d) ns) c.args.found.now c.loop-name.found) (all_taken c.args.names.now c.loop-name.name-index c.loop-name-test.false) (c.loop-name.invariant names live)
+    subst (λ ns. Adds (on c.args.days.now) (λ d. flat_map (λ n. taken_uses s l c.args.number.now c.args.test.now (named c.args.target n ∷ E) d) ns) c.args.found.now c.loop-name.found) (take_whole c.args.names.now c.loop-name.name-index c.loop-name-test.false) (c.loop-name.invariant names live)
 
 pub spread_over-returns-in_ok-each_member-in-len2 : goal.spread_over-returns-in_ok-each_member-in-len2
 spread_over-returns-in_ok-each_member-in-len2 g t c = λ names live.

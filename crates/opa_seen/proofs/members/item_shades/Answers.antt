@@ -1,5 +1,6 @@
 use Rattle.opa_line.proofs.Zipping.{ok_weaker}
-use Rattle.opa_seen.proofs.PartLaws.{one_item, item_stands}
+use Rattle.opa_across.proofs.Halving.{one_item}
+use Rattle.opa_seen.proofs.PartLaws.{item_stands}
 use Rattle.opa_seen.proofs.members.item_shades.Goals as goal
 
 pub returns-in-len1 : goal.returns-in-len1

@@ -1,9 +1,10 @@
 use Rattle.std.proofs.Common.{rules, of_calls}
 use Rattle.opa_date.specs.declared.TheConstants.{DAYS}
 use Rattle.opa_line.proofs.Zipping.{ok_weaker, joined_stands}
+use Rattle.opa_across.proofs.Halving.{halves_join}
 use Rattle.opa_seen.specs.Shades.{gone}
 use Rattle.opa_seen.specs.ShadeLines.{first_there}
-use Rattle.opa_seen.proofs.Halving.{halves_join, halved}
+use Rattle.opa_seen.proofs.Halving.{halved}
 use Rattle.opa_seen.proofs.runs.+halves.Goals as goal
 
 pub returns-in_ok-second-in_default : goal.returns-in_ok-second-in_default

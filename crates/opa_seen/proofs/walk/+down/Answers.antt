@@ -1,4 +1,5 @@
 use Rattle.std.proofs.Common.{◌∷◌, ◌∙◌, ◌-◌, Some, map, sym, ap, arith}
+use Rattle.opa_io.proofs.Places.{take_whole}
 use Rattle.opa_value.specs.Truth.{not_of, strict}
 use Rattle.opa_cells.specs.Instances.{named}
 use Rattle.opa_mean.specs.Meaning.{certain_of, known_of}
@@ -6,7 +7,7 @@ use Rattle.opa_mean.specs.Operations.{op_of}
 use Rattle.opa_seen.specs.Shades.{mapped, joined, all_shade, any_shade, item_shade, table_shade, shade}
 use Rattle.opa_seen.specs.ShadeLines.{shade_at, shades_at}
 use Rattle.opa_seen.specs.Walks.{tree_shades, item_shades_at, row_shading, over_seen_at}
-use Rattle.opa_seen.proofs.Walking.{restands, told, each, shade-Const, shade-Attr, shade-All, shade-Any, shade-Not, shade-Op, shade-Certain, shade-Known, shade-Over, shade-Window, shade-Rolling, shade-Table, lines_more, lines_told, take_whole, rolled_alike, rows_next}
+use Rattle.opa_seen.proofs.Walking.{restands, told, each, shade-Const, shade-Attr, shade-All, shade-Any, shade-Not, shade-Op, shade-Certain, shade-Known, shade-Over, shade-Window, shade-Rolling, shade-Table, lines_more, lines_told, rolled_alike, rows_next}
 use Rattle.opa_line.proofs.Zipping.{ok_weaker}
 use Rattle.opa_seen.proofs.WindowKinds.{window_stands}
 use Rattle.opa_seen.proofs.walk.+down.Goals as goal

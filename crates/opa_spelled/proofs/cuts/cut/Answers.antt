@@ -1,6 +1,7 @@
 use Rattle.std.proofs.Common.{ℕ, List, [], ◌∷◌, ◌++◌, ◌+◌, ◌||◌, not, sym, subst, ap, ◌∙◌}
+use Rattle.opa_io.proofs.Bools.{or_true}
 use Rattle.opa_spelled.specs.Cuts.{is_mark}
-use Rattle.opa_spelled.proofs.Cutting.{Passed, passed_quote, passed_plain, or_true}
+use Rattle.opa_spelled.proofs.Cutting.{Passed, passed_quote, passed_plain}
 use Rattle.opa_spelled.proofs.cuts.cut.Goals as goal
 use Rattle.opa_spelled.proofs.cuts.cut.Goals.{then-byte-eq34, else-byte-eq34+else-not-inside, else-not-inside-via-then-not-inside+else-is_mark, else-not-inside-via-else-not-inside}
 

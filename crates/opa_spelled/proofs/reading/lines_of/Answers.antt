@@ -2,10 +2,10 @@ use Rattle.std.proofs.Common.{◌+◌, length, sym, ap, subst, ◌∙◌, arith}
 use Rattle.std.specs.Cmp.Lexicographic.{bytes_decides}
 use Rattle.std.proofs.lemmas.Bool.{eqb-true, eqb-false, both_ways}
 use Rattle.std.proofs.lemmas.List.{nil_from_length}
+use Rattle.std.proofs.lemmas.Result.{IfOk-weaker}
 use Rattle.opa_spelled.specs.Spelling.{CanBePrinted, Reads}
 use Rattle.opa_spelled.specs.Printed.{head_line, numbered_line, end_line}
 use Rattle.opa_spelled.specs.Reading.{IsReadFrom}
-use Rattle.opa_spelled.proofs.Oks.{ok_weaker}
 use Rattle.opa_spelled.proofs.Whole.{so_far_none, so_far_more, whole_is, broken_behind, broken_line, broken_off}
 use Rattle.opa_spelled.proofs.reading.lines_of.Goals as goal
 
@@ -22,7 +22,7 @@ loop-line-preserved c =
 pub returns-then-not-is_empty : goal.returns-then-not-is_empty
 returns-then-not-is_empty c =
     let n = c.len.result + 1 in let line = c.in-Some.line.now in let later = c.in-Some.later.now in
-    ok_weaker c.broken_at.result _ _ (λ r e. subst (IsReadFrom c.args.text.now) (sym e)
+    IfOk-weaker c.broken_at.result _ _ (λ r e. subst (IsReadFrom c.args.text.now) (sym e)
     (broken_behind c.args.text.now c.loop-line.rest.now line later c.args.asked c.args.day n c.loop-line.printed c.requires.asked c.requires.day c.loop-line.invariant c.in-Some.ensures.lines
     (sym ((bytes_decides end_line line).0 (sym c.is_text.ensures ∙ c.if-is_text.true))) (λ e. eqb-false (length later) 0 (sym c.is_empty.ensures ∙ c.if-not-is_empty.true) (ap length e)) (ap (λ m. m + 1) c.len.ensures) (omega arith)))
     c.broken_at.ensures
@@ -30,7 +30,7 @@ returns-then-not-is_empty c =
 pub returns-in-None : goal.returns-in-None
 returns-in-None c =
     let n = c.len.result + 1 in let line = c.in-Some.line.now in let later = c.in-Some.later.now in
-    ok_weaker c.broken_at-in-None.result _ _ (λ r e. subst (IsReadFrom c.args.text.now) (sym e)
+    IfOk-weaker c.broken_at-in-None.result _ _ (λ r e. subst (IsReadFrom c.args.text.now) (sym e)
     (broken_line c.args.text.now c.loop-line.rest.now line later c.args.asked c.args.day n c.loop-line.printed c.requires.asked c.requires.day c.loop-line.invariant c.in-Some.ensures.lines
     (λ e. both_ways c.is_text.result c.if-is_text.false (c.is_text.ensures ∙ (bytes_decides end_line line).1 (sym e))) (ap (λ m. m + 1) c.len.ensures) (omega arith)
     (subst (λ o. Reads CanBePrinted (numbered_line n) line o) c.in-None.is c.in_ok-numbered_in.ensures)))
@@ -38,7 +38,7 @@ returns-in-None c =
 
 pub returns : goal.returns
 returns c =
-    ok_weaker c.broken_at-2.result _ _ (λ r e. subst (IsReadFrom c.args.text.now) (sym e)
+    IfOk-weaker c.broken_at-2.result _ _ (λ r e. subst (IsReadFrom c.args.text.now) (sym e)
     (broken_off c.args.text.now c.loop-line.rest.now c.args.asked c.args.day c.len-2.result c.loop-line.printed c.requires.asked c.requires.day c.loop-line.invariant c.in_default.ensures.lines c.len-2.ensures (omega arith)))
     c.broken_at-2.ensures
 

@@ -1,8 +1,9 @@
 use Rattle.std.proofs.Common.{◌≡◌, [], subst, sym, ◌∙◌, rules}
+use Rattle.opa_io.proofs.Lists.{no_length}
 use Rattle.opa_table.specs.Cells.{IsHeadCell}
 use Rattle.opa_table.specs.Tables.{headings}
 use Rattle.opa_table.proofs.EachLaws.{read_more}
-use Rattle.opa_table.proofs.HeadLaws.{no_heads, no_conclusions, no_cell, none_of}
+use Rattle.opa_table.proofs.HeadLaws.{no_heads, no_conclusions, no_cell}
 use Rattle.opa_table.proofs.heads.heads_of.Goals as goal
 
 pub returns-in-None : goal.returns-in-None
@@ -24,4 +25,4 @@ loop-cell-preserved c =
 pub returns-then-len-eq0 : goal.returns-then-len-eq0
 returns-then-len-eq0 c =
     let e : c.loop-cell.rest.now ≡ [] = search rules in
-    no_conclusions c.args.model.now c.args.names.now c.args.cells.now c.loop-cell.rest.now c.loop-cell.heads e c.loop-cell.invariant (none_of c.loop-cell.heads.conclusions (sym c.len.ensures ∙ c.if-len-eq0.true))
+    no_conclusions c.args.model.now c.args.names.now c.args.cells.now c.loop-cell.rest.now c.loop-cell.heads e c.loop-cell.invariant (no_length c.loop-cell.heads.conclusions (sym c.len.ensures ∙ c.if-len-eq0.true))

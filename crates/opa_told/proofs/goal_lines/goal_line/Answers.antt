@@ -1,9 +1,9 @@
 use Rattle.std.proofs.Common.{◌∙◌, ap}
 use Rattle.opa_cells.specs.Instances.{global}
 use Rattle.opa_case.specs.Shapes.{attribute_or}
+use Rattle.opa_goals.proofs.Knowing.{same_goal}
 use Rattle.opa_told.specs.Goals.{state_line, goal_line}
 use Rattle.opa_told.specs.Shown.{told_line}
-use Rattle.opa_told.proofs.Goals.{same_goal}
 use Rattle.opa_told.proofs.goal_lines.goal_line.Goals as goal
 
 pub returns : goal.returns

@@ -1,6 +1,7 @@
 use Rattle.std.proofs.Common.{◌∷◌, ◌++◌, [], sym, subst}
+use Rattle.opa_io.proofs.Results.{on_ok_then as on_ok}
 use Rattle.opa_upheld.specs.Ledgers.{Holds}
-use Rattle.opa_upheld.proofs.Ledging.{more_run, more_list, more_container, on_ok}
+use Rattle.opa_upheld.proofs.Ledging.{more_run, more_list, more_container}
 use Rattle.opa_upheld.proofs.ledger.add_line.Goals as goal
 
 pub returns-in-Point : goal.returns-in-Point

@@ -1,6 +1,7 @@
 use Rattle.std.proofs.Common.{arith, subst}
+use Rattle.opa_io.proofs.Results.{on_ok_then}
 use Rattle.opa_line.specs.Growth.{Grown}
-use Rattle.opa_window.proofs.Anniversaries.{few_years, counting_next, counting_end, nearer, on_ok_weaker}
+use Rattle.opa_window.proofs.Anniversaries.{few_years, counting_next, counting_end, nearer}
 use Rattle.opa_window.proofs.years.count_on.Goals as goal
 
 pub next_anniversary-next-requires-clause-few : goal.next_anniversary-next-requires-clause-few
@@ -30,6 +31,6 @@ loop-next-preserved c =
 
 pub returns : goal.returns
 returns c =
-    on_ok_weaker c.until-2.result _ _ (λ h.
+    on_ok_then c.until-2.result _ _ (λ h.
     let grown = subst (λ v. Grown c.loop-next.out c.args.to v c.until-2.new.self) c.whole-2.ensures h in
     counting_end c.args.day c.requires.in_calendar c.args.out.now c.until-2.new.self c.loop-next.out c.args.to c.loop-next.years c.loop-next.next c.requires.below c.loop-next.invariant c.loop-next-test.false grown) c.until-2.ensures

@@ -5,9 +5,10 @@ use Rattle.opa_words.specs.Characters.{width}
 use Rattle.opa_words.specs.Cuts.{Cuts, IsCause}
 use Rattle.opa_words.proofs.CutLaws.{width_chars}
 use Rattle.std.specs.List.{All}
+use Rattle.opa_io.proofs.Results.{if_ok_then}
 use Rattle.opa_words.specs.Places.{IsWithin, IsOfKind, AreApart, IsAtCharacter}
 use Rattle.opa_words.proofs.PlaceLaws.{tokens_within, tokens_of_kind, tokens_apart, fault_at_character}
-use Rattle.opa_words.proofs.ResultLaws.{on_ok, on_err}
+use Rattle.opa_words.proofs.ResultLaws.{on_err}
 use Rattle.opa_words.proofs.cutting.tokens.Goals as goal
 
 pub returns-clause-cut : goal.returns-clause-cut
@@ -25,13 +26,13 @@ returns-clause-fault c =
     (subst (λ cs. IfErr c.cut.result (IsCause (c.new.result.at + width (chars c.new.result.rest.now)) cs)) all c.cut.ensures.fault)
 
 pub returns-clause-within : goal.returns-clause-within
-returns-clause-within c = on_ok (λ v. Cuts (length c.args.text.now) (chars c.args.text.now) v.items) (λ v. All (IsWithin c.args.text.now) v.items) c.cut.result (λ v. tokens_within c.args.text.now v.items c.utf8.text) (returns-clause-cut c)
+returns-clause-within c = if_ok_then (λ v. Cuts (length c.args.text.now) (chars c.args.text.now) v.items) (λ v. All (IsWithin c.args.text.now) v.items) c.cut.result (λ v. tokens_within c.args.text.now v.items c.utf8.text) (returns-clause-cut c)
 
 pub returns-clause-kinds : goal.returns-clause-kinds
-returns-clause-kinds c = on_ok (λ v. Cuts (length c.args.text.now) (chars c.args.text.now) v.items) (λ v. All (IsOfKind c.args.text.now) v.items) c.cut.result (λ v. tokens_of_kind c.args.text.now v.items c.utf8.text) (returns-clause-cut c)
+returns-clause-kinds c = if_ok_then (λ v. Cuts (length c.args.text.now) (chars c.args.text.now) v.items) (λ v. All (IsOfKind c.args.text.now) v.items) c.cut.result (λ v. tokens_of_kind c.args.text.now v.items c.utf8.text) (returns-clause-cut c)
 
 pub returns-clause-apart : goal.returns-clause-apart
-returns-clause-apart c = on_ok (λ v. Cuts (length c.args.text.now) (chars c.args.text.now) v.items) (λ v. AreApart c.args.text.now 0 v.items) c.cut.result (λ v. tokens_apart c.args.text.now v.items c.utf8.text) (returns-clause-cut c)
+returns-clause-apart c = if_ok_then (λ v. Cuts (length c.args.text.now) (chars c.args.text.now) v.items) (λ v. AreApart c.args.text.now 0 v.items) c.cut.result (λ v. tokens_apart c.args.text.now v.items c.utf8.text) (returns-clause-cut c)
 
 pub returns-clause-border : goal.returns-clause-border
 returns-clause-border c = on_err (IsCause (length c.args.text.now) (chars c.args.text.now)) (IsAtCharacter c.args.text.now) c.cut.result (λ e. fault_at_character c.args.text.now e c.utf8.text) (returns-clause-fault c)
