@@ -7,11 +7,17 @@ use Rattle.opa_across.proofs.Halving.{small_at}
 use Rattle.opa_across.proofs.items.tallied_beside.Goals as goal
 
 pub map-requires : goal.map-requires
-map-requires c d p lt is_p =
-    let few : length c.args.lines.now < 2 ^ 63 = search (pieces, arith) in
-    let before : AreSmall c.args.before.sums = c.requires in
-    let more : AreSmall p.now.sums = small_at c.args.most c.args.lines.now c.in_ok-halves.halves d p.now few lt c.in_ok-halves.ensures is_p in
-    search (rules, of_calls, before, more)
+map-requires c = (
+  omega arith,
+  (
+    omega arith,
+    λ d p lt is_p.
+        let few : length c.args.lines.now < 2 ^ 63 = search (pieces, arith) in
+        let before : AreSmall c.args.before.sums = c.requires in
+        let more : AreSmall p.now.sums = small_at c.args.most c.args.lines.now c.in_ok-halves.halves d p.now few lt c.in_ok-halves.ensures is_p in
+        search (rules, of_calls, before, more),
+  ),
+)
 
 pub returns : goal.returns
 returns c =
