@@ -1,9 +1,9 @@
 -- A table of what is free is filled rank by rank.
-use Rattle.std.proofs.Common.{◌≡◌, ◌⊎◌, inl, inr, ℕ, ◌+◌, ◌<◌, ◌≤◌, Bool, true, ◌&&◌, List, [], ◌∷◌, ◌++◌, length, get_or, Option, None, Some, Contains, refl, sym, ◌∙◌, ap, subst, arith}
+use Rattle.std.proofs.Common.{◌≡◌, ◌⊎◌, inl, inr, ℕ, ◌+◌, ◌<◌, ◌≤◌, Bool, true, ◌&&◌, List, [], ◌∷◌, ◌++◌, length, get_or, take, Option, None, Some, Contains, refl, sym, ◌∙◌, ap, subst, arith}
 use Rattle.std.specs.List.{list_all}
 use Rattle.std.specs.Prelude.{slice_set, ◌==◌, All}
 use Rattle.std.proofs.lemmas.Bool.{cases_lt, cases_eq, eqb-true, eq-eqb}
-use Rattle.std.proofs.lemmas.List.{get_or_past, get_or-set_same, get_or-set_other}
+use Rattle.std.proofs.lemmas.List.{get_or_past, get_or-set_same, get_or-set_other, take_more}
 use Rattle.std.proofs.lemmas.List.Elements.{All-contains_itself, All-weaker, Contains-append_cases}
 use Rattle.std.proofs.lemmas.List.FromFn.{get_or-map-range_with_len, length-map-range_with_len}
 use Rattle.opa_io.proofs.Bools.{same_truth}
@@ -76,6 +76,18 @@ module _ (r : Rulebase) where
           let one : a ≡ b = ap (λ (k : ℕ). let x : AttrId = record { 0 = k } in x) (sym e) in
           ap (λ xs. get_or xs b.0 true) same ∙ ap (λ k. get_or (slice_set free a.0 own) k true) e ∙ get_or-set_same free a.0 own true lt ∙ is ∙ by_table done free a upto ∙ ap (never_asks (base_of r)) one
       go b has (inr other) = ap (λ xs. get_or xs b.0 true) same ∙ get_or-set_other free a.0 b.0 own true other ∙ upto.right b (earlier b has other)
+
+  -- one more attribute of a level, all of which are of one rank
+  pub one_told : (own : List AttrId) (k : ℕ) (d : AttrId) (old free new : List Bool) → k < length own
+      → ((rank : ℕ) → All (λ a. rank_at r.ranks a ≡ rank) own → Upto rank [] old → Upto rank (take k own) free)
+      → ((before : List AttrId) → Upto (rank_at r.ranks (get_or own k d)) before free → Upto (rank_at r.ranks (get_or own k d)) (before ++ get_or own k d ∷ []) new)
+      → (rank : ℕ) → All (λ a. rank_at r.ranks a ≡ rank) own → Upto rank [] old → Upto rank (take (k + 1) own) new
+  one_told own k d old free new lt so_far step rank all start =
+      let is : rank_at r.ranks (get_or own k d) ≡ rank = all k d lt in
+      let next : take (k + 1) own ≡ take k own ++ get_or own k d ∷ [] = take_more own k d lt in
+      let more : Upto rank (take k own) free → Upto rank (take k own ++ get_or own k d ∷ []) new
+      = subst (λ n. Upto n (take k own) free → Upto n (take k own ++ get_or own k d ∷ []) new) is (step (take k own)) in
+      subst (λ done. Upto rank done new) (sym next) (more (so_far rank all start))
 
   -- the attributes of a level are declared, and of its rank
   pub level_declared : (n : ℕ) → All (λ a. a.0 < count) (level r.ranks count n)
