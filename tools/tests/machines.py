@@ -7,7 +7,6 @@ import shutil
 import signal
 import socket
 import subprocess
-import sys
 import time
 from collections.abc import Callable
 
@@ -53,12 +52,9 @@ def waited(is_so: Callable[[], bool], seconds: float = 20) -> bool:
     return False
 
 
-def python_with(module: str) -> str | None:
-    """A Python that has the module: that of the test, or the system's."""
-    for python in (sys.executable, "/usr/bin/python3"):
-        if os.access(python, os.X_OK) and subprocess.run([python, "-c", f"import {module}"], capture_output=True).returncode == 0:
-            return python
-    return None
+def has_module(python: str, module: str) -> bool:
+    """Whether this Python has the module."""
+    return os.access(python, os.X_OK) and subprocess.run([python, "-c", f"import {module}"], capture_output=True).returncode == 0
 
 
 class Machines:

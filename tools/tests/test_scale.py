@@ -1,6 +1,8 @@
 """docs/SCALE.md: its commands as they are there, over workers of this machine, of which one dies; and what joins the parts."""
 from __future__ import annotations
 
+import csv
+import io
 import os
 import pathlib
 import re
@@ -9,14 +11,24 @@ import subprocess
 import sys
 import tempfile
 import unittest
+from decimal import Decimal
 
 from tools.tests.base import DESK, EXAMPLES, OPA, TOP, ToolTest
-from tools.tests.machines import SSHD, Machines, dying, free_port, is_open, python_with
+from tools.tests.machines import SSHD, Machines, dying, free_port, has_module, is_open
+from working_out.food import Household  # (base puts tools/ on the path)
+from working_out.food_runs import GOALS, OF_ALL, OF_MEMBER
+from working_out.values import Day, spelled
 
 PAGE = (TOP / "docs" / "SCALE.md").read_text()
-BLOCKS = dict(re.findall(r"^<!-- run (\w+) -->\n\n((?:    [^\n]*\n)+)", PAGE, re.M))
-DASK = python_with("distributed")
+BLOCKS: dict[str, str] = dict(re.findall(r"^<!-- run (\w+) -->\n\n((?:    [^\n]*\n)+)", PAGE, re.M))
+DASK = has_module("/usr/bin/python3", "distributed") and shutil.which("dask-worker")
 ITSELF = "kill -9 $$"
+
+
+def given(row: dict[str, str], columns: tuple[tuple[str, str], ...]) -> dict[str, object]:
+    """What a row says, by the names of tools/working_out."""
+    said = lambda text: text == "true" if text in ("true", "false") else Decimal(text)
+    return {name: said(row[phrase]) for name, phrase in columns if name != "born"}
 
 
 class PageTest(ToolTest):
@@ -38,7 +50,7 @@ class PageTest(ToolTest):
     @classmethod
     def tried(cls, *names: str, desk: object = DESK, port: int = 8786, **more: str) -> subprocess.CompletedProcess[str]:
         """Runs blocks of the page in one shell."""
-        text = "set -e\n" + "".join(BLOCKS[name].replace("8786", str(port)) for name in ("first", *names))
+        text = "set -e\ntrap 'kill $(jobs -p) 2>/dev/null || true' EXIT\n" + "".join(BLOCKS[name].replace("8786", str(port)) for name in ("first", *names))
         env = {**os.environ, "OPA": OPA, "DESK": str(desk), "HOME": str(cls.made), **more}
         return subprocess.run(["bash", "-c", text], cwd=cls.made, env=env, capture_output=True, text=True, timeout=300)
 
@@ -68,6 +80,19 @@ class TablesTest(PageTest):
         lines = self.out("table.csv").splitlines()
         self.assertEqual((len(lines), len(set(lines))), (1001, 1001))
         self.assertEqual(self.out("one.csv").count(b"\n"), 1001)
+
+    def test_each_household_is_decided_as_the_law_says(self) -> None:
+        people: dict[str, list[dict[str, object]]] = {}
+        for row in csv.DictReader(io.StringIO(self.out("members.csv").decode())):
+            people.setdefault(row["household"], []).append(given(row, OF_MEMBER) | {"born": Day.fromisoformat(row["the member's date of birth"])})
+        wanted = [["row", *GOALS, "fault"]]
+        for number, row in enumerate(csv.DictReader(io.StringIO(self.out("households.csv").decode())), 1):
+            household = Household(Day.fromisoformat(row["the day of the application"]), people[row["household"]], **given(row, OF_ALL))
+            wanted.append([str(number), *(spelled(value) for value in household.decided()), ""])
+        self.assertEqual(len(wanted), 1001)
+        self.assertEqual(list(csv.reader(io.StringIO(self.out("one.csv").decode()))), wanted)
+
+    def test_rows_have_the_names_of_the_cases(self) -> None:
         decided = self.out("decided.csv").decode().splitlines()
         self.assertEqual((len(decided), decided[1].split(",")[0], decided[-1].split(",")[0]), (1001, "1", "1000"))
 
@@ -115,19 +140,13 @@ class SshTest(PageTest):
         self.same("by_machines.csv", "again", desk=desk, **self.machines.env)
 
 
-@unittest.skipUnless(DASK and shutil.which("dask-worker"), "Dask isn't there: apt-get install python3-distributed")
+@unittest.skipUnless(DASK, "Dask isn't there: apt-get install python3-distributed")
 class DaskTest(PageTest):
-    def setUp(self) -> None:
-        super().setUp()
-        (self.folder / "bin").mkdir()
-        (self.folder / "bin" / "python3").symlink_to(str(DASK))
-        self.more = {"PATH": f"{self.folder / 'bin'}:{os.environ['PATH']}"}
-
     def test_two_workers(self) -> None:
-        self.same("by_dask.csv", "dask", port=free_port(), **self.more)
+        self.same("by_dask.csv", "dask", port=free_port())
 
     def test_a_worker_that_dies_is_replaced(self) -> None:
-        self.same("by_dask.csv", "dask", desk=self.dying("kill -9 $PPID $$"), port=free_port(), **self.more)
+        self.same("by_dask.csv", "dask", desk=self.dying("kill -9 $PPID $$"), port=free_port())
         self.assertTrue(self.mark.exists())
         self.assertIn(b"Restarting worker", self.out("worker_1.log") + self.out("worker_2.log"))
 
