@@ -40,6 +40,8 @@ class Batch:
                     raise Fault(f'{part.file}:1: "{phrase}" refers to "{target}", which no file is about')
                 self.targets[phrase] = found[0]
         self.columns = self.all_columns()
+        if not self.columns:
+            raise Fault(f"{self.cases.file}:1: there is no column for the rulebase")
 
     def all_columns(self) -> list[Column]:
         """The case's answers, the lists from above, the members' answers, and then what refers to members."""

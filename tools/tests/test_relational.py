@@ -210,6 +210,14 @@ class RollTest(RelationalTest):
         self.batch("roll.txt", "cases.csv")
         self.assertEqual(self.rows("roll.txt", "cases.csv", "--results", "results.csv")[1], ["A", "unknown", "unknown", ""])
 
+    def test_a_case_of_which_nothing_is_said_is_a_record(self) -> None:
+        self.put("cases.csv", "case,the least age\nA,\nB,10\n")
+        self.assertEqual(self.printed("columns", "roll.txt", "cases.csv"), 'the least age\n""\n10\n')
+        self.batch("roll.txt", "cases.csv")
+        self.assertEqual([row[0] for row in self.rows("roll.txt", "cases.csv", "--results", "results.csv")], ["case", "A", "B"])
+        self.put("cases.csv", "case\nA\n")
+        self.assertEqual(self.refused("columns", "roll.txt", "cases.csv"), "relational: cases.csv:1: there is no column for the rulebase")
+
     def test_columns_that_are_left_out(self) -> None:
         self.put("cases.csv", "case,region,the least age\nA,east,10\n")
         self.put("districts.csv", "case,the districts,region\nA,North,x\n")
@@ -244,6 +252,7 @@ class RollTest(RelationalTest):
             ("districts.csv", "person,the districts\n", 'districts.csv:1: column 1 is "person", and that of cases.csv is "case"'),
             ("pupils.csv", "case,the district's schools,the school's pupils\n", 'pupils.csv:1: there is no column "the districts", which leads to "the school\'s pupils"'),
             ("pupils.csv", DISTRICTS, 'pupils.csv:1: the members of "the districts" are in districts.csv already'),
+            ("cases.csv", "case;the least age\nA;10\n", 'districts.csv:1: column 1 is "case", and that of cases.csv is "case;the least age"'),
             ("cases.csv", CASES + "C,3\n", "cases.csv:4: 2 cells, and the heading has 3"),
             ("cases.csv", CASES + ",3,\n", 'cases.csv:4: the cell of "case" is empty'),
             ("pupils.csv", f"{pupil}\nA,North,One,\n", 'pupils.csv:2: the cell of "the school\'s pupils" is empty'),
