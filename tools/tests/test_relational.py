@@ -197,12 +197,13 @@ class RollTest(RelationalTest):
         self.assertEqual(list(csv.reader(io.StringIO(done.stdout))), wanted)
 
     def test_errors_of_records_have_their_file_and_line(self) -> None:
-        self.put("cases.csv", "case,the least age,the prefect\nA,10,\nB,-12,\nC,1,\nD,2,\n")
-        self.put("districts.csv", "case,the districts,the district is large\nD,East,\nC,West,5\n\nA,North,true\nA,South,false\n")
+        self.put("cases.csv", 'case,the least age,the prefect\nA,10,"""Ann"", ""Bo"""\nB,-12,\nC,1,\nD,2,\nE,,\n')
+        self.put("districts.csv", "case,the districts,the district is large\nD,East,\nC,Ost,true\n\nC,West,5\nA,North,true\nA,South,false\n")
         self.put("schools.csv", SCHOOLS + "D,East,One,-3\n")
         self.batch("roll.txt", *ALL)
         errors = [row[-1] for row in self.rows("roll.txt", *ALL, "--results", "results.csv")[1:]]
-        wanted = ["", "cases.csv:3: the least age: change 3", "districts.csv:3: the district is large: change 2", "schools.csv:5: the school's places: change 3"]
+        wanted = ["cases.csv:2: the prefect: change 3", "cases.csv:3: the least age: change 3"]
+        wanted += ["districts.csv:5: the district is large: change 2", "schools.csv:5: the school's places: change 3", ""]
         self.assertEqual(errors, wanted)
 
     def test_a_list_without_a_file_is_unknown(self) -> None:
