@@ -48,9 +48,13 @@ class PageTest(ToolTest):
         assert done.returncode == 0, done.stderr
 
     @classmethod
-    def tried(cls, *names: str, desk: object = DESK, port: int = 8786, **more: str) -> subprocess.CompletedProcess[str]:
+    def tried(cls, *names: str, desk: object = DESK, port: int = 8786, swap: dict[str, str] | None = None, **more: str) -> subprocess.CompletedProcess[str]:
         """Runs blocks of the page in one shell."""
-        text = "set -e\ntrap 'kill $(jobs -p) 2>/dev/null || true' EXIT\n" + "".join(BLOCKS[name].replace("8786", str(port)) for name in ("first", *names))
+        text = "".join(BLOCKS[name].replace("8786", str(port)) for name in ("first", *names))
+        for old, new in (swap or {}).items():
+            assert old in text
+            text = text.replace(old, new)
+        text = f"set -e\ntrap 'kill $(jobs -p) 2>/dev/null || true' EXIT\n{text}"
         env = {**os.environ, "OPA": OPA, "DESK": str(desk), "HOME": str(cls.made), **more}
         return subprocess.run(["bash", "-c", text], cwd=cls.made, env=env, capture_output=True, text=True, timeout=300)
 
@@ -149,6 +153,40 @@ class DaskTest(PageTest):
         self.same("by_dask.csv", "dask", desk=self.dying("kill -9 $PPID $$"), port=free_port())
         self.assertTrue(self.mark.exists())
         self.assertIn(b"Restarting worker", self.out("worker_1.log") + self.out("worker_2.log"))
+
+
+    def test_a_table_that_is_refused_is_no_result(self) -> None:
+        table = self.out("table.csv")
+        (self.made / "out" / "refused.csv").write_bytes(table.replace(b"the monthly rent", b"the weather", 1))
+        done = self.tried("dask", port=free_port(), swap={"../out/table.csv": "../out/refused.csv", "by_dask.csv": "by_refused.csv"})
+        self.assertNotEqual(done.returncode, 0)
+        self.assertRegex(done.stderr, r"by_dask: desk batch ended with status 1: refused: column \d+ command 2")
+        self.assertEqual(self.out("by_refused.csv"), b"")
+
+
+class ScriptsTest(unittest.TestCase):
+    """Errors of the scripts in examples/scale, which need no program."""
+
+    def setUp(self) -> None:
+        self.folder = pathlib.Path(tempfile.mkdtemp(prefix="scripts-test-"))
+        self.addCleanup(shutil.rmtree, self.folder)
+
+    def run_script(self, name: str, *words: object, **more: str) -> tuple[int, str, str]:
+        command = [sys.executable, EXAMPLES / "scale" / name, *map(str, words)]
+        done = subprocess.run(command, cwd=self.folder, env={**os.environ, **more}, capture_output=True, text=True)
+        return done.returncode, done.stdout, done.stderr
+
+    def test_made_households(self) -> None:
+        self.assertEqual(self.run_script("made_households", 0, "out"), (2, "", "made_households: 0 households: from 1 to 1000000\n"))
+        self.assertEqual(self.run_script("made_households", 3, "out"), (0, "", ""))
+        kept = (self.folder / "out" / "members.csv").read_text()
+        self.assertEqual(self.run_script("made_households", 5, "out"), (2, "", "made_households: can't write out/households.csv: File exists\n"))
+        self.assertEqual((self.folder / "out" / "members.csv").read_text(), kept)
+
+    def test_by_dask_without_dask(self) -> None:
+        (self.folder / "dask.py").write_text("raise ImportError('there is none')\n")
+        said = "by_dask: there is none: install Dask (Debian: python3-distributed)\n"
+        self.assertEqual(self.run_script("by_dask", "tcp://127.0.0.1:1", "a.txt", "a.csv", PYTHONPATH=str(self.folder)), (2, "", said))
 
 
 class JoinedTest(unittest.TestCase):
