@@ -96,6 +96,14 @@ class TablesTest(PageTest):
         self.assertEqual(len(wanted), 1001)
         self.assertEqual(list(csv.reader(io.StringIO(self.out("one.csv").decode()))), wanted)
 
+    def test_a_cell_with_a_line_feed_is_refused(self) -> None:
+        # Blank lines are no records, so the rows are numbered as the records are.
+        self.put("names.txt", "global\n  text the name\n  number the age\n  text the greeting\ngoal the greeting\nthe greeting = the name\n")
+        given = 'the name,the age\n"""a\nb""",1\n"""c""",2\n\n"""d""","3\n"\n"\n""e""",4\n'
+        done = subprocess.run([DESK, "batch", "names.txt"], cwd=self.folder, input=given, capture_output=True, text=True)
+        wanted = 'row,the greeting,fault\n1,,column 1 command 1\n2,"""c""",\n3,,column 2 command 1\n4,,column 1 command 1\n'
+        self.assertEqual((done.returncode, done.stdout), (0, wanted))
+
     def test_rows_have_the_names_of_the_cases(self) -> None:
         decided = self.out("decided.csv").decode().splitlines()
         self.assertEqual((len(decided), decided[1].split(",")[0], decided[-1].split(",")[0]), (1001, "1", "1000"))
