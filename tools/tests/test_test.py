@@ -1,5 +1,8 @@
 """How tools/test counts what its parts print."""
+import pathlib
+import tempfile
 import unittest
+from unittest import mock
 
 from loading import tool
 
@@ -26,6 +29,16 @@ class Counts(unittest.TestCase):
         self.assertEqual(test.unit_tests(0, "Ran 29 tests in 14.040s\n\nOK\n"), (29, 0))
         self.assertEqual(test.unit_tests(1, "Ran 29 tests in 1s\n\nFAILED (failures=1, errors=2)\n"), (26, 3))
         self.assertEqual(test.unit_tests(1, "no module\n"), (0, 1))
+
+    def test_the_first_version_of_the_changes(self) -> None:
+        with tempfile.TemporaryDirectory() as held, mock.patch.object(test, "TOP", pathlib.Path(held)):
+            for name, text in (("VERSION", "1.2.0\n"), ("README.md", "Version 1.2.0\n")):
+                (pathlib.Path(held) / name).write_text(text)
+            changes = pathlib.Path(held) / "CHANGELOG.md"
+            changes.write_text("## [Unreleased]\n\n## [1.2.0] - 2026-01-01\n\n## [1.1.0] - 2025-01-01\n")
+            self.assertEqual(test.versions(), [])
+            changes.write_text("## [Unreleased]\n\n## [1.1.0] - 2025-01-01\n")
+            self.assertEqual(test.versions(), ["the first heading of a version in CHANGELOG.md isn't 1.2.0"])
 
     def test_a_program_that_is_not_there(self) -> None:
         self.assertEqual(test.program_of("opa", "/nowhere/opa")[0], None)

@@ -9,7 +9,7 @@ module _ {V : Type 0} where
   first_entry n [] i v h = absurd (cc h)
   first_entry n (e ∷ es) i v h = cc h
 
-  pub no_entry : (n : ℕ) (es : List (InstanceId × V)) → es ≡ [] → None ≡ slice_get (row_entries n es) 0
+  pub no_entry : (n : ℕ) (es : List (InstanceId × V)) → slice_get es 0 ≡ None → None ≡ slice_get (row_entries n es) 0
   no_entry n [] h = refl
   no_entry n (e ∷ es) h = absurd (cc h)
 

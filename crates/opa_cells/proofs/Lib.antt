@@ -1,5 +1,8 @@
 pub mod Orders
 pub mod Rowed
+pub mod Inner
+pub mod Sorted
+pub mod Lends
 pub mod Walked
 pub mod Copied
 pub mod Counted

@@ -1,15 +1,16 @@
 -- The cells of rows in order of their keys, and how many there are.
-use Rattle.std.specs.Prelude.{◌≡◌, ℕ, zero, suc, ◌+◌, ◌-◌, ◌≤◌, Bool, true, false, cond, ◌==◌, not, List, [], ◌∷◌, ◌++◌, length, Option, None, Some, is_some, refl, Result, Ok, Err, IfOk}
+use Rattle.std.specs.Prelude.{◌≡◌, ℕ, zero, suc, ◌+◌, ◌-◌, ◌≤◌, Bool, true, false, cond, ◌==◌, not, List, [], ◌∷◌, ◌++◌, ◌&&◌, T, length, Option, None, Some, is_some, refl, Result, Ok, Err, IfOk}
 use Rattle.std.specs.List.{AllByRecursion}
 use Rattle.std.specs.List.Sorted.{IsStrictlySortedBy}
 use Rattle.std.specs.Option.{option_and_then, option_or}
 use Rattle.std.specs.Map.{lookup, keys_of}
-use Rattle.std.specs.Ordering.{nat_cmp, is_eq, eq_by_cmp, ordering_then}
-use Rattle.std.specs.declared.cmp.Ordering.TheVariants.{Less}
+use Rattle.std.specs.Ordering.{nat_cmp, is_eq, is_lt, eq_by_cmp, ordering_then}
+use Rattle.std.specs.declared.cmp.Ordering.{Ordering}
+use Rattle.std.specs.declared.cmp.Ordering.TheVariants.{Less, Equal, Greater}
 use Rattle.std.specs.Cmp.{nat_cmp_total, nat_eq_equiv, eq_by_cmp_equiv, tied_itself}
-use Rattle.std.specs.FinMap.{FinMap, get, remove, retain_keys, entries, len, find, put, same_map, empty_of_len, empty, get-empty, get-entries, len-empty, get-remove, len-remove, len-entries, entries-insert}
-use Rattle.std.specs.FinMap.Entries.{by_order}
-use Rattle.std.specs.BTreeMap.{BTreeMap, is_at}
+use Rattle.std.specs.FinMap.{FinMap, get, remove, retain_keys, entries, entries_sorted, len, find, put, is_sorted, same_map, empty_of_len, empty, get-empty, get-entries, len-empty, get-remove, len-remove, len-entries, entries-insert}
+use Rattle.std.specs.FinMap.Entries.{by_order, below_all}
+use Rattle.std.specs.BTreeMap.{is_at}
 use Rattle.std.proofs.Common.{arith, ap, sym, subst, ◌∙◌}
 use Rattle.std.proofs.lemmas.Map.Lookups.{exact_unsigned}
 use Rattle.std.proofs.lemmas.Map.Views.{tells_apart, exact_unsigned_eq}
@@ -17,9 +18,9 @@ use mathlib.Core.Bool.{true≢false}
 use Rattle.opa_cells.specs.declared.instance.InstanceId.{InstanceId}
 use Rattle.opa_cells.specs.Instances.{instance_cmp}
 use Rattle.opa_cells.specs.Keys.{cell_cmp}
-use Rattle.opa_cells.specs.Rows.{with_cells, with_rows, row_entries, all_entries, cells_in, cells_at, AreInOrder, kept_if, cell}
+use Rattle.opa_cells.specs.Rows.{with_cells, with_rows, row_entries, all_entries, cells_in, cells_at, kept_if}
 use Rattle.opa_cells.proofs.Orders.{cell_exact, cell_total, get_kept}
-use Rattle.opa_cells.proofs.Rowed.{in_rows, get-cells, get-rows, or_none}
+use Rattle.opa_cells.proofs.Rowed.{in_rows, get-row, get-rows, or_none}
 
 same_number : (n : ℕ) (i j : InstanceId) → instance_cmp i j ≡ Less → cell_cmp (n, i) (n, j) ≡ Less
 same_number n i j h = ap (λ o. ordering_then o (instance_cmp i j)) (tied_itself nat_cmp_total n) ∙ h
@@ -34,7 +35,32 @@ no_length (x ∷ xs) h = absurd (omega (arith, h))
 empty_entries : {V : Type 0} → entries (empty {X = V} {R = cell_cmp}) ≡ []
 empty_entries {V} = no_length (entries (empty {X = V} {R = cell_cmp})) (sym (len-entries (empty {X = V} {R = cell_cmp})) ∙ len-empty cell_cmp V)
 
+less_so : (o : Ordering) → T (is_lt o) → o ≡ Less
+less_so Less h = refl
+less_so Equal h = absurd h
+less_so Greater h = absurd h
+
+first : (a b : Bool) → T (a && b) → T a
+first true b h = tt
+first false b h = absurd h
+
+second : (a b : Bool) → T (a && b) → T b
+second true b h = h
+second false b h = absurd h
+
 module _ {V : Type 0} where
+  below_each : (i : InstanceId) (es : List (InstanceId × V)) → T (below_all instance_cmp i es) → AllByRecursion (λ j. instance_cmp i j ≡ Less) (keys_of es)
+  below_each i [] h = tt
+  below_each i (e ∷ es) h = (less_so (instance_cmp i e.0) (first _ _ h), below_each i es (second (is_lt (instance_cmp i e.0)) _ h))
+
+  strictly : (es : List (InstanceId × V)) → T (is_sorted instance_cmp es) → IsStrictlySortedBy instance_cmp (keys_of es)
+  unfolding IsStrictlySortedBy
+  strictly [] h = tt
+  strictly (e ∷ es) h = (below_each e.0 es (first _ _ h), strictly es (second (below_all instance_cmp e.0 es) _ h))
+
+  row_sorted : (row : FinMap instance_cmp V) → IsStrictlySortedBy instance_cmp (keys_of (entries row))
+  row_sorted row = strictly (entries row) (entries_sorted row)
+
   -- the first key of the entries is above k
   abbrev HeadAbove : ℕ × InstanceId → List ((ℕ × InstanceId) × V) → Type 0
   HeadAbove k [] = Unit {0}
@@ -62,10 +88,10 @@ module _ {V : Type 0} where
       ∙ put_front (n, e.0) e.1 (row_entries n es ++ entries m) (head_above n e.0 es (entries m) sorted.0 above)
 
   -- the numbers of all rows are above n
-  abbrev RowsAbove : ℕ → List (ℕ × BTreeMap InstanceId V) → Type 0
+  abbrev RowsAbove : ℕ → List (ℕ × FinMap instance_cmp V) → Type 0
   RowsAbove n rs = AllByRecursion (λ m. nat_cmp n m ≡ Less) (keys_of rs)
 
-  no_row : (n : ℕ) (rs : List (ℕ × BTreeMap InstanceId V)) → RowsAbove n rs → lookup (is_at (nat_cmp n)) rs ≡ None
+  no_row : (n : ℕ) (rs : List (ℕ × FinMap instance_cmp V)) → RowsAbove n rs → lookup (is_at (nat_cmp n)) rs ≡ None
   no_row n [] above = refl
   no_row n (r ∷ rs) above = ap (λ b. cond b (Some r.1) (lookup (is_at (nat_cmp n)) rs)) (not_at n r.0 above.0) ∙ no_row n rs above.1
 
@@ -77,57 +103,57 @@ module _ {V : Type 0} where
   above_row n m h [] = tt
   above_row n m h (e ∷ es) = (h, above_row n m h es)
 
-  above_all : (n : ℕ) (rs : List (ℕ × BTreeMap InstanceId V)) → RowsAbove n rs → Above n (all_entries rs)
+  above_all : (n : ℕ) (rs : List (ℕ × FinMap instance_cmp V)) → RowsAbove n rs → Above n (all_entries rs)
   above_all n [] above = tt
-  above_all n (r ∷ rs) above = above_append n (row_entries r.0 r.1.entries) (all_entries rs) (above_row n r.0 above.0 r.1.entries) (above_all n rs above.1)
+  above_all n (r ∷ rs) above = above_append n (row_entries r.0 (entries r.1)) (all_entries rs) (above_row n r.0 above.0 (entries r.1)) (above_all n rs above.1)
 
   -- rows above n have nothing at n
-  none_lost : (n : ℕ) (rs : List (ℕ × BTreeMap InstanceId V)) → RowsAbove n rs → retain_keys (with_rows rs) (λ k. not (k.0 == n)) ≡ with_rows rs
+  none_lost : (n : ℕ) (rs : List (ℕ × FinMap instance_cmp V)) → RowsAbove n rs → retain_keys (with_rows rs) (λ k. not (k.0 == n)) ≡ with_rows rs
   none_lost n rs above = same_map cell_total cell_exact _ _ (λ q. get_kept cell_exact (with_rows rs) (λ k. not (k.0 == n)) q ∙ elim (q.0 == n) as (λ b. (q.0 == n) ≡ b → cond (not b) (get (with_rows rs) q) None ≡ get (with_rows rs) q) [
-    | true ↦ λ e. sym (get-rows rs q.0 q.1 ∙ ap (λ (o : Option (BTreeMap InstanceId V)). option_and_then (λ row. cell row.entries q.1) o) (ap (λ m. lookup (is_at (nat_cmp m)) rs) (exact_unsigned_eq q.0 n e) ∙ no_row n rs above))
+    | true ↦ λ e. sym (get-rows rs q.0 q.1 ∙ ap (λ (o : Option (FinMap instance_cmp V)). option_and_then (λ row. get row q.1) o) (ap (λ m. lookup (is_at (nat_cmp m)) rs) (exact_unsigned_eq q.0 n e) ∙ no_row n rs above))
     | false ↦ λ _. refl
   ] refl)
 
-  pub rows_entries : (rs : List (ℕ × BTreeMap InstanceId V)) → IsStrictlySortedBy nat_cmp (keys_of rs) → AreInOrder rs → entries (with_rows rs) ≡ all_entries rs
+  pub rows_entries : (rs : List (ℕ × FinMap instance_cmp V)) → IsStrictlySortedBy nat_cmp (keys_of rs) → entries (with_rows rs) ≡ all_entries rs
   unfolding IsStrictlySortedBy
-  rows_entries [] sorted inner = empty_entries
-  rows_entries (r ∷ rs) sorted inner =
-      ap (λ m. entries (with_cells r.0 r.1.entries m)) (none_lost r.0 rs sorted.0)
-      ∙ cells_entries r.0 r.1.entries (with_rows rs) inner.0 (subst (Above r.0) (sym (rows_entries rs sorted.1 inner.1)) (above_all r.0 rs sorted.0))
-      ∙ ap (λ es. row_entries r.0 r.1.entries ++ es) (rows_entries rs sorted.1 inner.1)
+  rows_entries [] sorted = empty_entries
+  rows_entries (r ∷ rs) sorted =
+      ap (λ m. entries (with_cells r.0 (entries r.1) m)) (none_lost r.0 rs sorted.0)
+      ∙ cells_entries r.0 (entries r.1) (with_rows rs) (row_sorted r.1) (subst (Above r.0) (sym (rows_entries rs sorted.1)) (above_all r.0 rs sorted.0))
+      ∙ ap (λ es. row_entries r.0 (entries r.1) ++ es) (rows_entries rs sorted.1)
 
   row_length : (n : ℕ) (es : List (InstanceId × V)) (xs : List ((ℕ × InstanceId) × V)) → length (row_entries n es ++ xs) ≡ length es + length xs
   row_length n [] xs = omega arith
   row_length n (e ∷ es) xs = let h = row_length n es xs in omega (arith, h)
 
-  all_length : (rs : List (ℕ × BTreeMap InstanceId V)) → length (all_entries rs) ≡ cells_in rs
+  all_length : (rs : List (ℕ × FinMap instance_cmp V)) → length (all_entries rs) ≡ cells_in rs
   all_length [] = refl
-  all_length (r ∷ rs) = row_length r.0 r.1.entries (all_entries rs) ∙ ap (λ n. length r.1.entries + n) (all_length rs)
+  all_length (r ∷ rs) = row_length r.0 (entries r.1) (all_entries rs) ∙ ap (λ n. n + length (all_entries rs)) (sym (len-entries r.1)) ∙ ap (λ n. len r.1 + n) (all_length rs)
 
   -- how many cells rows have
-  pub rows_counted : (rs : List (ℕ × BTreeMap InstanceId V)) → IsStrictlySortedBy nat_cmp (keys_of rs) → AreInOrder rs → len (with_rows rs) ≡ cells_in rs
-  rows_counted rs sorted inner = len-entries (with_rows rs) ∙ ap length (rows_entries rs sorted inner) ∙ all_length rs
+  pub rows_counted : (rs : List (ℕ × FinMap instance_cmp V)) → IsStrictlySortedBy nat_cmp (keys_of rs) → len (with_rows rs) ≡ cells_in rs
+  rows_counted rs sorted = len-entries (with_rows rs) ∙ ap length (rows_entries rs sorted) ∙ all_length rs
 
   -- the cells at a number are those of its row
-  pub row_counted : (rs : List (ℕ × BTreeMap InstanceId V)) (n : ℕ) (row : BTreeMap InstanceId V) → lookup (is_at (nat_cmp n)) rs ≡ Some row → IsStrictlySortedBy instance_cmp (keys_of row.entries) → cells_at (with_rows rs) n ≡ length row.entries
-  row_counted rs n row at sorted =
-      let alone : FinMap cell_cmp V = with_cells n row.entries empty in
+  pub row_counted : (rs : List (ℕ × FinMap instance_cmp V)) (n : ℕ) (row : FinMap instance_cmp V) → lookup (is_at (nat_cmp n)) rs ≡ Some row → cells_at (with_rows rs) n ≡ len row
+  row_counted rs n row at =
+      let alone : FinMap cell_cmp V = with_cells n (entries row) empty in
       let none : Above n (entries (empty {X = V} {R = cell_cmp})) = subst (Above n) (sym empty_entries) tt in
       ap len (same_map cell_total cell_exact (retain_keys (with_rows rs) (λ k. k.0 == n)) alone (λ q.
       get_kept cell_exact (with_rows rs) (λ k. k.0 == n) q ∙ ap (λ o. cond (q.0 == n) o None) (get-rows rs q.0 q.1)
       ∙ elim (q.0 == n) as (λ b. (q.0 == n) ≡ b → cond b (in_rows rs q.0 q.1) None ≡ get alone q) [
         | true ↦ λ e. let same = exact_unsigned_eq q.0 n e in
-            ap (λ m. in_rows rs m q.1) same ∙ ap (option_and_then (λ (r : BTreeMap InstanceId V). cell r.entries q.1)) at
-            ∙ sym (get-cells n row.entries empty q.0 q.1 ∙ ap (λ o. cond (is_eq (nat_cmp q.0 n)) (option_or (cell row.entries q.1) o) o) (get-empty cell_cmp q)
-            ∙ ap (λ b. cond b (option_or (cell row.entries q.1) None) None) (subst (λ m. is_eq (nat_cmp q.0 m) ≡ true) same ((eq_by_cmp_equiv nat_cmp_total).refl q.0)) ∙ or_none (cell row.entries q.1))
-        | false ↦ λ e. sym (get-cells n row.entries empty q.0 q.1 ∙ ap (λ o. cond (is_eq (nat_cmp q.0 n)) (option_or (cell row.entries q.1) o) o) (get-empty cell_cmp q)
-            ∙ elim (is_eq (nat_cmp q.0 n)) as (λ b. is_eq (nat_cmp q.0 n) ≡ b → cond b (option_or (cell row.entries q.1) None) None ≡ None) [
+            ap (λ m. in_rows rs m q.1) same ∙ ap (option_and_then (λ (r : FinMap instance_cmp V). get r q.1)) at
+            ∙ sym (get-row n row empty q.0 q.1 ∙ ap (λ o. cond (is_eq (nat_cmp q.0 n)) (option_or (get row q.1) o) o) (get-empty cell_cmp q)
+            ∙ ap (λ b. cond b (option_or (get row q.1) None) None) (subst (λ m. is_eq (nat_cmp q.0 m) ≡ true) same ((eq_by_cmp_equiv nat_cmp_total).refl q.0)) ∙ or_none (get row q.1))
+        | false ↦ λ e. sym (get-row n row empty q.0 q.1 ∙ ap (λ o. cond (is_eq (nat_cmp q.0 n)) (option_or (get row q.1) o) o) (get-empty cell_cmp q)
+            ∙ elim (is_eq (nat_cmp q.0 n)) as (λ b. is_eq (nat_cmp q.0 n) ≡ b → cond b (option_or (get row q.1) None) None ≡ None) [
               | true ↦ λ h. absurd (true≢false (sym (number_itself q.0 n (tells_apart exact_unsigned q.0 n h)) ∙ e))
               | false ↦ λ _. refl
             ] refl)
       ] refl))
-      ∙ len-entries alone ∙ ap length (cells_entries n row.entries empty sorted none) ∙ row_length n row.entries (entries (empty {X = V} {R = cell_cmp}))
-      ∙ ap (λ xs. length row.entries + length xs) empty_entries ∙ nothing_more (length row.entries)
+      ∙ len-entries alone ∙ ap length (cells_entries n (entries row) empty (row_sorted row) none) ∙ row_length n (entries row) (entries (empty {X = V} {R = cell_cmp}))
+      ∙ ap (λ xs. length (entries row) + length xs) empty_entries ∙ nothing_more (length (entries row)) ∙ sym (len-entries row)
     where
       number_itself : (a b : ℕ) → a ≡ b → (a == b) ≡ true
       number_itself a b e = subst (λ x. (a == x) ≡ true) e (nat_eq_equiv.refl a)
@@ -136,12 +162,12 @@ module _ {V : Type 0} where
       nothing_more a = omega arith
 
   -- a number without a row has no cells
-  pub no_row_counted : (rs : List (ℕ × BTreeMap InstanceId V)) (n : ℕ) → lookup (is_at (nat_cmp n)) rs ≡ None → cells_at (with_rows rs) n ≡ 0
+  pub no_row_counted : (rs : List (ℕ × FinMap instance_cmp V)) (n : ℕ) → lookup (is_at (nat_cmp n)) rs ≡ None → cells_at (with_rows rs) n ≡ 0
   no_row_counted rs n none =
       ap len (same_map cell_total cell_exact (retain_keys (with_rows rs) (λ k. k.0 == n)) empty (λ q.
       get_kept cell_exact (with_rows rs) (λ k. k.0 == n) q ∙ ap (λ o. cond (q.0 == n) o None) (get-rows rs q.0 q.1)
       ∙ elim (q.0 == n) as (λ b. (q.0 == n) ≡ b → cond b (in_rows rs q.0 q.1) None ≡ None) [
-        | true ↦ λ e. ap (λ m. in_rows rs m q.1) (exact_unsigned_eq q.0 n e) ∙ ap (option_and_then (λ (r : BTreeMap InstanceId V). cell r.entries q.1)) none
+        | true ↦ λ e. ap (λ m. in_rows rs m q.1) (exact_unsigned_eq q.0 n e) ∙ ap (option_and_then (λ (r : FinMap instance_cmp V). get r q.1)) none
         | false ↦ λ _. refl
       ] refl
       ∙ sym (get-empty cell_cmp q)))

@@ -5,7 +5,9 @@ use Rattle.std.specs.FinMap.{FinMap, insert}
 use Rattle.opa_cells.specs.declared.instance.InstanceId.{InstanceId}
 use Rattle.opa_cells.specs.Keys.{cell_cmp}
 use Rattle.opa_cells.specs.contracts.cells.Cells.{the_row as cells_row}
+use Rattle.opa_cells.specs.Instances.{instance_cmp}
 use Rattle.opa_cells.specs.contracts.rows.Rows.{the_row as rows_row}
+use Rattle.opa_cells.specs.contracts.row.Row.{the_row as row_row}
 
 -- the map ends with what was left behind the reference in the place of the value at the key, and as it was where there is none
 module _ (V : RattleType) where
@@ -14,3 +16,6 @@ module _ (V : RattleType) where
 
   abbrev pub lends_row_cell : MutBor (FinMap cell_cmp V.Denot) → ℕ → InstanceId → Option (MutBor V.Denot) → Fml
   lends_row_cell s n i r = LendsIf (rows_row V) V s r (λ w. insert s.now (n, i) w) s.now
+
+  abbrev pub lends_in_row : MutBor (FinMap instance_cmp V.Denot) → InstanceId → Option (MutBor V.Denot) → Fml
+  lends_in_row s i r = LendsIf (row_row V) V s r (λ w. insert s.now i w) s.now

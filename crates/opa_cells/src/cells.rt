@@ -2,11 +2,12 @@
 ghost use Rattle.std.specs.Prelude.{map as items, ◌≡◌, OnOk, OnErr, IfOk, ℕ, Bool};
 ghost use Rattle.std.specs.Option.{option_copied};
 ghost use Rattle.std.specs.FinMap as map;
-ghost use Rattle.opa_cells.specs.Rows.{kept_if, cells_at, counted_with, insert_all, seen};
+ghost use Rattle.opa_cells.specs.Rows.{kept_if, cells_at, insert_all, seen};
 ghost use Rattle.opa_cells.specs.declared.instance.InstanceId.{InstanceId as InstanceView};
 
 use crate::instance::InstanceId;
-use crate::rows::{Keeps, Rows};
+use crate::keeps::Keeps;
+use crate::rows::Rows;
 use opa_io::NoMemory;
 use std::alloc::Global;
 use std::marker::Model;
@@ -75,17 +76,17 @@ impl<V: Drop> Cells<V> {
         ensures ok { OnOk result (self.new ≡ map.insert self.old (number, inst) value) }
         ensures err { OnErr result (self.new ≡ self.old) }
     {
-        let count = self.count_with(number, &inst)?;
-        self.rows.insert(number, inst, value)?;
-        self.count = count;
+        let more = self.count.checked_add(1).ok_or(NoMemory)?;
+        if self.rows.insert(number, inst, value)? {
+            self.count = more;
+        }
         Ok(())
     }
 
     pub fn remove(&mut self, number: u32, inst: &InstanceId)
         ensures { self.new ≡ map.remove self.old (number, inst.now) }
     {
-        if self.rows.has(number, inst) {
-            self.rows.remove(number, inst);
+        if self.rows.remove(number, inst) {
             self.count -= 1;
         }
     }
@@ -133,18 +134,5 @@ impl<V: Drop> Cells<V> {
             self.insert(*number, key, copied)?;
         }
         Ok(())
-    }
-}
-
-impl<V> Cells<V> {
-    /// How many cells there are with one at the key.
-    fn count_with(&self, number: u32, inst: &InstanceId) -> Result<u64, NoMemory>
-        ensures { IfOk result (λ count. count ≡ counted_with self.now (number, inst.now)) }
-    {
-        if self.rows.has(number, inst) {
-            Ok(self.count)
-        } else {
-            self.count.checked_add(1).ok_or(NoMemory)
-        }
     }
 }

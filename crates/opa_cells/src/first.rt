@@ -4,11 +4,12 @@ ghost use Rattle.std.specs.Option.{option_map};
 ghost use Rattle.std.specs.BTreeMap as tree;
 ghost use Rattle.std.specs.FinMap as map;
 ghost use Rattle.std.specs.Ordering.{nat_cmp};
-ghost use Rattle.opa_cells.specs.Rows.{all_entries, row_entries, AreInOrder, seen};
+ghost use Rattle.opa_cells.specs.Rows.{all_entries, row_entries, seen};
 
 use crate::cells::Cells;
 use crate::instance::InstanceId;
-use crate::rows::{Rows, row_len};
+use crate::row::Row;
+use crate::rows::Rows;
 use std::collections::BTreeMap;
 
 impl<V> Cells<V> {
@@ -29,14 +30,12 @@ impl<V> Rows<V> {
 }
 
 /// The first cell of all rows.
-fn first_of<V>(rows: &BTreeMap<u32, BTreeMap<InstanceId, V>>) -> Option<(u32, &InstanceId, &V)>
+fn first_of<V>(rows: &BTreeMap<u32, Row<V>>) -> Option<(u32, &InstanceId, &V)>
     ensures first { option_map seen result ≡ slice_get (all_entries rows.now.entries) 0 }
-    ensures each { AreInOrder rows.now.entries }
     ensures order { tree.IsOrdered nat_cmp rows.now }
 {
     let mut first = None;
     for (number, row) in rows {
-        let _count = row_len(row);
         let found = first_in(*number, row);
         if first.is_none() {
             first = found;
@@ -45,10 +44,10 @@ fn first_of<V>(rows: &BTreeMap<u32, BTreeMap<InstanceId, V>>) -> Option<(u32, &I
     first
 }
 
-fn first_in<V>(number: u32, row: &BTreeMap<InstanceId, V>) -> Option<(u32, &InstanceId, &V)>
-    ensures { option_map seen result ≡ slice_get (row_entries number row.now.entries) 0 }
+fn first_in<V>(number: u32, row: &Row<V>) -> Option<(u32, &InstanceId, &V)>
+    ensures { option_map seen result ≡ slice_get (row_entries number (map.entries row.now)) 0 }
 {
-    match row.first_key_value() {
+    match row.first() {
         Some((inst, value)) => Some((number, inst, value)),
         None => None,
     }

@@ -1,16 +1,31 @@
 // An instance of an entity.
-ghost use Rattle.std.specs.Prelude.{◌≡◌, IfOk};
+ghost use Rattle.std.specs.Prelude.{◌≡◌, ◌++◌, IfOk};
+ghost use Rattle.std.specs.Hash as fed;
+ghost use Rattle.std.specs.Cmp.Rules.{hashing};
+ghost use Rattle.std.proofs.Common.{rules};
 ghost use Rattle.opa_cells.specs.Instances.{is_same, global, named};
 
 use opa_io::{NoMemory, Same, Txt};
 use opa_model::EntityId;
 use std::alloc::Global;
+use std::hash::{Hash, Hasher};
 
 /// An instance by its entity and its name. The global instance is of entity 0 and has no bytes as its name.
 #[derive(PartialEq, Eq, PartialOrd, Ord, Debug, Drop)]
 pub struct InstanceId {
     pub entity: EntityId,
     pub name: Txt,
+}
+
+impl Hash for InstanceId {
+    ghost hash_input = { λ i. fed.u32 i.entity.0 ++ fed.str i.name };
+
+    ghost respects_eq = { Prim.search (hashing, rules) };
+
+    fn hash<H: Hasher>(&self, state: &mut H) {
+        self.entity.0.hash(state);
+        self.name.as_str().hash(state);
+    }
 }
 
 impl InstanceId {

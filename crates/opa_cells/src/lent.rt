@@ -3,11 +3,21 @@ ghost use Rattle.std.specs.Prelude.{◌≡◌, Some, None, IfOk, IfErr, IsOk, On
 ghost use Rattle.std.specs.Borrow.{sem};
 ghost use Rattle.std.specs.Option.{option_copied_mut};
 ghost use Rattle.std.specs.FinMap as map;
-ghost use Rattle.opa_cells.specs.Lending.{lends_cell, lends_row_cell};
+ghost use Rattle.opa_cells.specs.Lending.{lends_cell, lends_row_cell, lends_in_row};
 
 use crate::cells::Cells;
 use crate::instance::InstanceId;
+use crate::row::Row;
 use crate::rows::Rows;
+
+impl<V> Row<V> {
+    pub(crate) fn get_mut(&mut self, inst: &InstanceId) -> Option<&mut V>
+        ensures* writes_back { sem 𝓛 (lends_in_row V.row self.entry inst.now result) }
+        ensures value { option_copied_mut result ≡ map.get self.old inst.now }
+    {
+        self.cells.get_mut(inst)
+    }
+}
 
 impl<V> Rows<V> {
     pub(crate) fn get_mut(&mut self, number: u32, inst: &InstanceId) -> Option<&mut V>
@@ -27,10 +37,10 @@ impl<V> Cells<V> {
         ensures* writes_back { sem 𝓛 (lends_cell V.row self.entry number inst.now result) }
         ensures value { option_copied_mut result ≡ map.get self.old (number, inst.now) }
     {
-        if !self.rows.has(number, inst) {
-            return None;
+        match self.rows.get_mut(number, inst) {
+            Some(value) => Some(value),
+            None => None,
         }
-        self.rows.get_mut(number, inst)
     }
 
     /// Puts a value in the place of the one at a key, and gives that one back. The value comes back where the key isn't there.

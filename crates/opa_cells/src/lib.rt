@@ -4,9 +4,11 @@
 mod cells;
 mod first;
 mod instance;
+mod keeps;
 mod lent;
+mod row;
 mod rows;
 
 pub use cells::{Cells, Copies};
 pub use instance::InstanceId;
-pub use rows::Keeps;
+pub use keeps::Keeps;

@@ -1,13 +1,14 @@
-ghost use Rattle.std.specs.Prelude.{map as items, ◌≡◌, ◌<◌, ◌^◌, ◌++◌, length, IfOk, OnOk, OnErr, is_some, IsNone, Some, ℕ, Bool};
+ghost use Rattle.std.specs.Prelude.{map as items, ◌≡◌, ◌<◌, ◌^◌, ◌++◌, length, IfOk, OnOk, OnErr, is_some, IsNone, Some, None, not, true, ℕ, Bool};
 ghost use Rattle.std.specs.Option.{option_copied};
 ghost use Rattle.std.specs.FinMap as map;
 ghost use Rattle.std.specs.BTreeMap as tree;
 ghost use Rattle.std.specs.Ordering.{nat_cmp};
-ghost use Rattle.opa_cells.specs.Rows.{with_rows, SetsCell, cell, kept_if, row_entries, all_entries, cells_in, cells_at, AreInOrder, seen};
-ghost use Rattle.opa_cells.specs.Instances.{instance_cmp};
+ghost use Rattle.opa_cells.specs.Rows.{with_rows, kept_if, row_entries, all_entries, cells_in, cells_at, seen, seen_in};
 ghost use Rattle.opa_cells.specs.declared.instance.InstanceId.{InstanceId as InstanceView};
 
 use crate::instance::InstanceId;
+use crate::keeps::Keeps;
+use crate::row::Row;
 use opa_io::NoMemory;
 use std::alloc::Global;
 use std::collections::BTreeMap;
@@ -17,7 +18,7 @@ use std::marker::Model;
 #[derive(Drop)]
 pub(crate) struct Rows<V> {
     alloc: Global,
-    pub(crate) rows: BTreeMap<u32, BTreeMap<InstanceId, V>>,
+    pub(crate) rows: BTreeMap<u32, Row<V>>,
 }
 
 impl<V> Model for Rows<V> {
@@ -53,66 +54,63 @@ impl<V> Rows<V> {
 }
 
 impl<V: Drop> Rows<V> {
-    pub(crate) fn insert(&mut self, number: u32, inst: InstanceId, value: V) -> Result<(), NoMemory>
+    /// Whether the cell is new.
+    pub(crate) fn insert(
+        &mut self,
+        number: u32,
+        inst: InstanceId,
+        value: V,
+    ) -> Result<bool, NoMemory>
+        ensures new { IfOk result (λ new. new ≡ not (is_some (map.get self.old (number, inst)))) }
         ensures ok { OnOk result (self.new ≡ map.insert self.old (number, inst) value) }
         ensures err { OnErr result (self.new ≡ self.old) }
     {
         let alloc = self.alloc;
         match self.rows.get_mut(&number) {
-            Some(row) => put(row, inst, value),
+            Some(row) => row.insert(inst, value),
             None => put_row(alloc, &mut self.rows, number, inst, value),
         }
     }
 
-    pub(crate) fn remove(&mut self, number: u32, inst: &InstanceId)
-        ensures { self.new ≡ map.remove self.old (number, inst.now) }
+    /// Whether there was a cell.
+    pub(crate) fn remove(&mut self, number: u32, inst: &InstanceId) -> bool
+        ensures was { result ≡ is_some (map.get self.old (number, inst.now)) }
+        ensures removed { self.new ≡ map.remove self.old (number, inst.now) }
     {
-        if let Some(row) = self.rows.get_mut(&number) {
-            row.remove(inst);
+        match self.rows.get_mut(&number) {
+            Some(row) => row.remove(inst),
+            None => false,
         }
-    }
-}
-
-fn put<V: Drop>(
-    row: &mut BTreeMap<InstanceId, V>,
-    inst: InstanceId,
-    value: V,
-) -> Result<(), NoMemory>
-    ensures ok { OnOk result (SetsCell row.old.entries row.new.entries inst (Some value)) }
-    ensures err { OnErr result (row.new.entries ≡ row.old.entries) }
-{
-    match row.insert(inst, value) {
-        Ok(_) => Ok(()),
-        Err(_) => Err(NoMemory),
     }
 }
 
 /// Inserts a row with one cell, at a number that has none.
 fn put_row<V: Drop>(
     alloc: Global,
-    rows: &mut BTreeMap<u32, BTreeMap<InstanceId, V>>,
+    rows: &mut BTreeMap<u32, Row<V>>,
     number: u32,
     inst: InstanceId,
     value: V,
-) -> Result<(), NoMemory>
+) -> Result<bool, NoMemory>
     requires { IsNone (tree.get nat_cmp rows.old number) }
+    ensures new { IfOk result (λ new. new ≡ true) }
     ensures ok { OnOk result (with_rows rows.new.entries ≡ map.insert (with_rows rows.old.entries) (number, inst) value) }
     ensures err { OnErr result (rows.new.entries ≡ rows.old.entries) }
 {
-    let mut row = BTreeMap::new(alloc);
-    put(&mut row, inst, value)?;
+    let row = one_cell(alloc, inst, value)?;
     match rows.insert(number, row) {
-        Ok(_) => Ok(()),
+        Ok(_) => Ok(true),
         Err(_) => Err(NoMemory),
     }
 }
 
-/// Which cells stay.
-pub trait Keeps<V> {
-    ghost keeps: { Self → ℕ → InstanceView → V → Bool };
-
-    fn keeps(&self, number: u32, inst: &InstanceId, value: &V) -> bool
-        ensures { result ≡ keeps self.now number inst.now value.now };
+/// A row with one cell.
+fn one_cell<V: Drop>(alloc: Global, inst: InstanceId, value: V) -> Result<Row<V>, NoMemory>
+    ensures { IfOk result (λ row. row ≡ map.insert map.empty inst value) }
+{
+    let mut row = Row::new(alloc);
+    row.insert(inst, value)?;
+    Ok(row)
 }
 
 impl<V: Drop> Rows<V> {
@@ -121,25 +119,13 @@ impl<V: Drop> Rows<V> {
         ensures { (n : ℕ) (i : InstanceView) → map.get self.new (n, i) ≡ kept_if (K.keeps keeper.now n i) (map.get self.old (n, i)) }
     {
         self.rows.retain(|number, row| {
-            retain_row(row, *number, keeper);
+            row.retain(*number, keeper);
             true
         });
     }
 }
 
-fn retain_row<V: Drop, K: Keeps<V>>(row: &mut BTreeMap<InstanceId, V>, number: u32, keeper: &K)
-    ensures { (i : InstanceView) → cell row.new.entries i ≡ kept_if (K.keeps keeper.now number i) (cell row.old.entries i) }
-{
-    row.retain(|inst, value| keeper.keeps(number, inst, value));
-}
-
 impl<V> Rows<V> {
-    pub(crate) fn has(&self, number: u32, inst: &InstanceId) -> bool
-        ensures { result ≡ is_some (map.get self.now (number, inst.now)) }
-    {
-        self.get(number, inst).is_some()
-    }
-
     /// How many cells there are.
     pub(crate) fn counted(&self) -> u64
         ensures { map.len self.now < 2 ^ 64 → result ≡ map.len self.now }
@@ -153,7 +139,7 @@ impl<V> Rows<V> {
     {
         let row = self.rows.get(&number);
         match row {
-            Some(row) => row_len(row),
+            Some(row) => row.len(),
             None => 0,
         }
     }
@@ -166,51 +152,54 @@ impl<V> Rows<V> {
     }
 }
 
-fn count<V>(rows: &BTreeMap<u32, BTreeMap<InstanceId, V>>) -> u64
+fn count<V>(rows: &BTreeMap<u32, Row<V>>) -> u64
     ensures count { cells_in rows.now.entries < 2 ^ 64 → result ≡ cells_in rows.now.entries }
-    ensures each { AreInOrder rows.now.entries }
     ensures order { tree.IsOrdered nat_cmp rows.now }
 {
     let mut count: u64 = 0;
     for (_, row) in rows {
-        count = count.saturating_add(row_len(row));
+        count = count.saturating_add(row.len());
     }
     count
 }
 
-pub(crate) fn row_len<V>(row: &BTreeMap<InstanceId, V>) -> u64
-    ensures len { result ≡ length row.now.entries }
-    ensures order { tree.IsOrdered instance_cmp row.now }
-{
-    row.len() as u64
-}
-
 fn walk<V>(
     alloc: Global,
-    rows: &BTreeMap<u32, BTreeMap<InstanceId, V>>,
+    rows: &BTreeMap<u32, Row<V>>,
 ) -> Result<Vec<(u32, &InstanceId, &V)>, NoMemory>
     ensures cells { IfOk result (λ cells. items seen cells.items ≡ all_entries rows.now.entries) }
-    ensures each { IfOk result (λ _. AreInOrder rows.now.entries) }
     ensures order { tree.IsOrdered nat_cmp rows.now }
 {
     let mut cells = Vec::new(alloc);
     for (number, row) in rows {
-        add_row(*number, row, &mut cells)?;
+        add_row(alloc, *number, row, &mut cells)?;
     }
     Ok(cells)
 }
 
 /// Adds the cells of a row at the end.
 fn add_row<'a, V>(
+    alloc: Global,
     number: u32,
-    row: &'a BTreeMap<InstanceId, V>,
+    row: &'a Row<V>,
     cells: &mut Vec<(u32, &'a InstanceId, &'a V)>,
 ) -> Result<(), NoMemory>
-    ensures cells { OnOk result (items seen cells.new.items ≡ items seen cells.old.items ++ row_entries number row.now.entries) }
-    ensures order { tree.IsOrdered instance_cmp row.now }
+    ensures { OnOk result (items seen cells.new.items ≡ items seen cells.old.items ++ row_entries number (map.entries row.now)) }
 {
-    for (inst, value) in row {
-        cells.push((number, inst, value))?;
+    let tree = row.in_order(alloc)?;
+    add_cells(number, &tree, cells)?;
+    Ok(())
+}
+
+fn add_cells<'a, V>(
+    number: u32,
+    tree: &BTreeMap<&'a InstanceId, &'a V>,
+    cells: &mut Vec<(u32, &'a InstanceId, &'a V)>,
+) -> Result<(), NoMemory>
+    ensures { OnOk result (items seen cells.new.items ≡ items seen cells.old.items ++ row_entries number (items seen_in tree.now.entries)) }
+{
+    for (inst, value) in tree {
+        cells.push((number, *inst, *value))?;
     }
     Ok(())
 }

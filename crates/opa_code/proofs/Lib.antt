@@ -2,6 +2,7 @@ pub mod CodeLaws
 pub mod Compiled
 pub mod Concluding
 pub mod Inverting
+pub mod Listing
 pub mod Placed
 pub mod RunnableLaws
 pub mod Sizing

@@ -1,22 +1,17 @@
--- What is kept from one node to the next, and from one listed instance to the next.
-use Rattle.std.proofs.Common.{◌≡◌, ℕ, ◌+◌, ◌<◌, List, [], ◌∷◌, ◌++◌, None, Some, length, take, drop, get_or, refl, sym, ◌∙◌, ap, subst}
-use Rattle.std.proofs.lemmas.List.{map-append}
+-- What is kept from one node to the next.
+use Rattle.std.proofs.Common.{◌≡◌, ℕ, List, [], ◌∷◌, ◌++◌, None, Some, take, drop, refl, sym, ◌∙◌, ap, subst}
 use Rattle.opa_date.specs.declared.TheConstants.{DAYS}
 use Rattle.opa_value.specs.declared.value.Value.{Value}
 use Rattle.opa_line.specs.Lines.{StandsFor}
-use Rattle.opa_tree.specs.declared.kinds.Quant.{Quant}
-use Rattle.opa_cells.specs.Instances.{named}
 use Rattle.opa_cells.specs.declared.instance.InstanceId.{InstanceId}
-use Rattle.opa_window.specs.Days.{day_value}
 use Rattle.opa_mean.specs.Looks.{Look}
-use Rattle.opa_mean.specs.Meaning.{Meaning, each, item}
-use Rattle.opa_mean.proofs.Values.{items_more}
-use Rattle.opa_across.specs.Lines.{Stand, values_at}
+use Rattle.opa_mean.specs.Meaning.{Meaning}
+use Rattle.opa_across.specs.Lines.{Stand}
 use Rattle.opa_code.specs.Running.{Run, IsStep, put, over_meaning}
-use Rattle.opa_code.specs.Steps.{Keeps, Leaves, operand_at, over_at, IsQuantified, AreItems}
+use Rattle.opa_code.specs.Steps.{Keeps, Leaves, operand_at, over_at, IsQuantified}
 use Rattle.opa_code.specs.declared.node.Node.{Node}
 use Rattle.opa_code.proofs.Inverting.{run_none, run_step, run_operand}
-use Rattle.opa_code.proofs.Standing.{day_is, stand_push, stand_values}
+use Rattle.opa_code.proofs.Standing.{stand_push}
 
 abbrev Lines : Type 0
 Lines = List (List (ℕ × Value))
@@ -47,12 +42,3 @@ module _ (l : Look) (enclosing : List InstanceId) where
   run_left nodes rest stack kept none end run =
       let s = kept end (record { stack = []; stand = tt; goes = run }) in
       subst (Stand enclosing stack) (run_none l rest s.stack end none s.goes) s.stand
-
-  -- one listed instance more
-  pub items_next : (operand : List Node) (q : Quant) (target : ℕ) (names : List (List ℕ)) (i : ℕ) (name : List ℕ) (old new lines : Lines) (line : List (ℕ × Value)) (inner : List InstanceId) → i < length names → name ≡ get_or names i name
-      → AreItems l enclosing operand q target (take i names) old → new ≡ old ++ line ∷ [] → inner ≡ named target name ∷ enclosing → Leaves l inner operand lines → StandsFor DAYS (λ d. item q (values_at lines d)) line
-      → AreItems l enclosing operand q target (take (i + 1) names) new
-  items_next operand q target names i name old new lines line inner lt is before new_is inner_is leaves stands ms run d lt' =
-      items_more (λ n. item q (each ms (named target n ∷ enclosing) d)) names i name (values_at old d) (values_at new d) (day_value line d) lt is (before ms run d lt')
-      (ap (λ ls. values_at ls d) new_is ∙ map-append (λ k. day_value k d) old (line ∷ []))
-      (day_is line (λ d. item q (values_at lines d)) stands d lt' ∙ ap (item q) (stand_values inner lines ms (leaves ms run) d lt' ∙ ap (λ e. each ms e d) inner_is))

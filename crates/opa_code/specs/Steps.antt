@@ -1,15 +1,21 @@
 -- What a part of a run leads to.
-use Rattle.std.specs.Prelude.{◌≡◌, ℕ, ◌<◌, List, [], ◌∷◌, map, Option, None, Some}
+use Rattle.std.specs.Prelude.{◌≡◌, ℕ, ◌<◌, Bool, true, false, List, [], ◌∷◌, map, length, drop, Option, None, Some}
 use Rattle.opa_date.specs.declared.TheConstants.{DAYS}
 use Rattle.opa_value.specs.declared.value.Value.{Value}
 use Rattle.opa_line.specs.Lines.{StandsFor}
+use Rattle.opa_model.specs.declared.ids.AttrId.{AttrId}
 use Rattle.opa_model.specs.declared.ids.RelId.{RelId}
 use Rattle.opa_tree.specs.declared.kinds.Quant.{Quant}
+use Rattle.opa_tree.specs.declared.kinds.Quant.TheVariants as quant
 use Rattle.opa_cells.specs.Instances.{named}
 use Rattle.opa_cells.specs.declared.instance.InstanceId.{InstanceId}
 use Rattle.opa_mean.specs.Looks.{Look}
-use Rattle.opa_mean.specs.Meaning.{Meaning, each, item, over}
-use Rattle.opa_across.specs.Lines.{Stand, values_at}
+use Rattle.opa_mean.specs.Meaning.{Meaning, each, first_value, item, over}
+use Rattle.opa_across.specs.Additions.{Gathered, IsAdded}
+use Rattle.opa_across.specs.Lines.{Stand}
+use Rattle.opa_across.specs.Tallies.{gather_of}
+use Rattle.opa_across.specs.declared.gathering.Gathering.{Gathering}
+use Rattle.opa_across.specs.declared.items.Items.{Items}
 use Rattle.opa_code.specs.Running.{Run, over_meaning}
 use Rattle.opa_code.specs.declared.node.Node.{Node}
 use Rattle.opa_code.specs.declared.node.Node.TheVariants as node
@@ -50,7 +56,48 @@ IsOver l enclosing operand q r source target line = (ms : List Meaning) → Run 
 abbrev pub IsListed : Look → List InstanceId → List Node → Quant → ℕ → List (List ℕ) → List (ℕ × Value) → Type 0
 IsListed l enclosing operand q target names line = (ms : List Meaning) → Run l operand [] ms → StandsFor DAYS (over q target (Some names) ms enclosing) line
 
--- a line for each name has at every day what the quantifier makes of the operands at that instance
-abbrev pub AreItems : Look → List InstanceId → List Node → Quant → ℕ → List (List ℕ) → List (List (ℕ × Value)) → Type 0
-AreItems l enclosing operand q target names lines = (ms : List Meaning) → Run l operand [] ms → (d : ℕ) → d < DAYS
-    → values_at lines d ≡ map (λ name. item q (each ms (named target name ∷ enclosing) d)) names
+-- over these names, as a list of what the quantifier makes of the operands at each of them
+abbrev pub items_at : Quant → ℕ → List Meaning → List InstanceId → List (List ℕ) → ℕ → List Value
+items_at q target ms enclosing names d = map (λ name. item q (each ms (named target name ∷ enclosing) d)) names
+
+-- the line is that of the first name
+abbrev pub IsFirst : Look → List InstanceId → List Node → Quant → ℕ → List (List ℕ) → List (ℕ × Value) → Type 0
+IsFirst l enclosing operand q target names line = (ms : List Meaning) → Run l operand [] ms → StandsFor DAYS (λ d. first_value (items_at q target ms enclosing names d)) line
+
+-- the line says what is gathered from all names
+abbrev pub IsGathered : Look → List InstanceId → List Node → Quant → Gathering → ℕ → List (List ℕ) → List (ℕ × Value) → Type 0
+IsGathered l enclosing operand q how target names line = (ms : List Meaning) → Run l operand [] ms → StandsFor DAYS (λ d. gather_of how (items_at q target ms enclosing names d)) line
+
+-- what the quantifier makes of the operands at these enclosing instances is added
+pub record IsItem (l : Look) (enclosing : List InstanceId) (operand : List Node) (q : Quant) (old new : Items) : Type 0 where
+  pub value : ℕ → Value
+  pub added : IsAdded value old new
+  pub right : (ms : List Meaning) → Run l operand [] ms → (d : ℕ) → d < DAYS → value d ≡ item q (each ms enclosing d)
+
+-- what the quantifier makes of the operands at each name was added
+pub record Collected (l : Look) (enclosing : List InstanceId) (operand : List Node) (q : Quant) (how : Gathering) (target : ℕ) (names : List (List ℕ)) (held : Items) : Type 0 where
+  pub values : ℕ → List Value
+  pub gathering : held.gathering ≡ how
+  pub gathered : Gathered values held
+  pub size : length (values 0) ≡ length names
+  pub right : (ms : List Meaning) → Run l operand [] ms → (d : ℕ) → d < DAYS → values d ≡ items_at q target ms enclosing names d
+
+-- the enclosing instances behind a first place
+pub record HasPlace (enclosing all : List InstanceId) : Type 0 where
+  pub some : 0 < length all
+  pub behind : drop 1 all ≡ enclosing
+
+-- the attribute that a node reads
+abbrev pub attribute_in : Node → Option (AttrId × ℕ)
+attribute_in (node.Attr a owner) = Some (a, owner)
+attribute_in _ = None
+
+-- the attribute that the only node reads
+abbrev pub attribute_at : List Node → Option (AttrId × ℕ)
+attribute_at (n ∷ []) = attribute_in n
+attribute_at _ = None
+
+-- whether the quantifier says how many there are, whatever holds of them
+abbrev pub is_count : Quant → Bool
+is_count quant.Count = true
+is_count _ = false

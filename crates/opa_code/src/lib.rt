@@ -6,6 +6,7 @@ mod code;
 mod derive;
 mod gather;
 mod laws;
+mod members;
 mod node;
 mod rule_code;
 mod rules;

@@ -1,21 +1,22 @@
 // Nodes, run over whole lines.
 ghost use Rattle.std.specs.Prelude.{◌≡◌, ◌≤◌, ◌∷◌, ◌++◌, [], List as Seq, map, length, take, drop, IfOk, OnOk};
-ghost use Rattle.opa_cells.specs.Instances.{named};
 ghost use Rattle.opa_date.specs.declared.TheConstants.{DAYS};
 ghost use Rattle.opa_line.specs.Lines.{StandsFor};
 ghost use Rattle.opa_mean.specs.Meaning as meant;
+ghost use Rattle.opa_across.specs.Additions.{HasRoom};
 ghost use Rattle.opa_across.specs.Lines.{Stand, meaning_of, values_at};
 ghost use Rattle.opa_code.specs.Running.{IsStep, node_meaning, operand_count as count_of, put, sole, chosen};
-ghost use Rattle.opa_code.specs.Steps.{AreItems, IsListed, IsOver, IsQuantified, Keeps, Leaves, operand_at, over_at};
+ghost use Rattle.opa_code.specs.Steps.{IsFirst, IsGathered, IsItem, IsListed, IsOver, IsQuantified, Keeps, Leaves, attribute_at, attribute_in, is_count, operand_at, over_at};
 
 use crate::carry::{add, behind, carry_out};
+use crate::members::{add_attribute, put_first, with_room};
 use crate::node::Node;
-use opa_across::{item_line, quantified};
+use opa_across::{Gathering, Items, amount, gathering_of, item_line};
 use opa_case::InstanceId;
-use opa_io::{List, NoMemory, Txt, front};
+use opa_io::{NoMemory, Txt, front};
 use opa_line::Line;
 use opa_mean::{Look, place_in};
-use opa_model::{EntityId, RelId};
+use opa_model::{AttrId, RelId};
 use opa_tree::Quant;
 use opa_value::Value;
 use std::alloc::Global;
@@ -123,13 +124,33 @@ fn listed_line<K: Look>(
 ) -> Result<Line<Value>, NoMemory>
     ensures { IfOk result (IsListed (K.looks look.now) enclosing.now operand.now quant target names.now) }
 {
-    let items = item_lines(alloc, look, quant, target, names, operand, enclosing)?;
-    quantified(alloc, quant, &items)
+    if only_counts(quant) {
+        return count_line(alloc, names);
+    }
+    match gathering_of(quant) {
+        Some(gathering) => gathered_line(
+            alloc, look, quant, gathering, target, names, operand, enclosing,
+        ),
+        None => first_item(alloc, look, quant, target, names, operand, enclosing),
+    }
 }
 
-/// What a quantifier makes of each listed instance, with it as the innermost enclosing one.
+/// Whether a quantifier says how many instances are listed, whatever holds of them.
+fn only_counts(quant: Quant) -> bool
+    ensures { result ≡ is_count quant }
+{
+    matches!(quant, Quant::Count)
+}
+
+fn count_line(alloc: Global, names: &[Txt]) -> Result<Line<Value>, NoMemory>
+    ensures { IfOk result (StandsFor DAYS (λ _. meant.amount (length names.now))) }
+{
+    Line::constant(alloc, amount(names.len() as u64))
+}
+
+/// What a quantifier makes of the instance that is listed first, uncertain on every day where none is.
 #[cycle(running)]
-fn item_lines<K: Look>(
+fn first_item<K: Look>(
     alloc: Global,
     look: &K,
     quant: Quant,
@@ -137,42 +158,88 @@ fn item_lines<K: Look>(
     names: &[Txt],
     operand: &[Node],
     enclosing: &[InstanceId],
-) -> Result<Vec<Line<Value>>, NoMemory>
-    ensures { IfOk result (λ items. AreItems (K.looks look.now) enclosing.now operand.now quant target names.now items.items) }
+) -> Result<Line<Value>, NoMemory>
+    ensures { IfOk result (IsFirst (K.looks look.now) enclosing.now operand.now quant target names.now) }
 {
-    let mut items = Vec::new(alloc);
-    for name in names {
-        let inner = within(alloc, target, name, enclosing)?;
-        let lines = run(alloc, look, operand, inner.as_slice())?;
-        add(&mut items, item_line(alloc, quant, &lines)?)?;
+    match front(names) {
+        None => Line::constant(alloc, Value::Uncertain),
+        Some(parts) => {
+            let mut inner = with_room(alloc, enclosing)?;
+            put_first(alloc, &mut inner, target, parts.0)?;
+            let lines = run(alloc, look, operand, &inner)?;
+            item_line(alloc, quant, &lines)
+        }
     }
-    Ok(items)
 }
 
-/// An instance before the enclosing ones.
-fn within(
+/// What a quantifier gathers from all listed instances, each in turn as the innermost enclosing one.
+#[cycle(running)]
+fn gathered_line<K: Look>(
     alloc: Global,
-    entity: u32,
-    name: &Txt,
+    look: &K,
+    quant: Quant,
+    gathering: Gathering,
+    target: u32,
+    names: &[Txt],
+    operand: &[Node],
     enclosing: &[InstanceId],
-) -> Result<List<InstanceId>, NoMemory>
-    ensures { IfOk result (λ all. all ≡ named entity name.now ∷ enclosing.now) }
+) -> Result<Line<Value>, NoMemory>
+    ensures { IfOk result (IsGathered (K.looks look.now) enclosing.now operand.now quant gathering target names.now) }
 {
-    let mut all = List::new(alloc);
-    all.push(InstanceId {
-        entity: EntityId(entity),
-        name: name.copy(alloc)?,
-    })?;
-    for inst in enclosing {
-        all.push(inst.copy(alloc)?)?;
+    let mut items = Items::new(alloc, gathering);
+    let mut inner = with_room(alloc, enclosing)?;
+    for name in names {
+        put_first(alloc, &mut inner, target, name)?;
+        add_item(alloc, look, quant, operand, &inner, &mut items)?;
     }
-    Ok(all)
+    items.told(alloc)
+}
+
+/// What a quantifier makes of an operand at enclosing instances, as one item more.
+#[cycle(running)]
+fn add_item<K: Look>(
+    alloc: Global,
+    look: &K,
+    quant: Quant,
+    operand: &[Node],
+    enclosing: &[InstanceId],
+    items: &mut Items,
+) -> Result<(), NoMemory>
+    requires { HasRoom items.old }
+    ensures { OnOk result (IsItem (K.looks look.now) enclosing.now operand.now quant items.old items.new) }
+{
+    match attribute_of(operand) {
+        Some((attr, owner)) => add_attribute(alloc, look, attr, owner, enclosing, items),
+        None => {
+            let lines = run(alloc, look, operand, enclosing)?;
+            items.add_item(alloc, quant, &lines)
+        }
+    }
 }
 
 fn up_to(count: usize, nodes: &[Node]) -> &[Node]
     ensures { result.now ≡ take count nodes.now }
 {
     &nodes[..count.min(nodes.len())]
+}
+
+/// The attribute that the only node reads.
+fn attribute_of(nodes: &[Node]) -> Option<(AttrId, u32)>
+    ensures { result ≡ attribute_at nodes.now }
+{
+    match nodes {
+        [node] => attribute_in(node),
+        [] | [_, _, ..] => None,
+    }
+}
+
+fn attribute_in(node: &Node) -> Option<(AttrId, u32)>
+    ensures { result ≡ attribute_in node.now }
+{
+    match node {
+        Node::Attr(attr, owner) => Some((*attr, *owner)),
+        _ => None,
+    }
 }
 
 /// How many nodes an operand has, at the node that says it.

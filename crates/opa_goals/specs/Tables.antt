@@ -1,5 +1,5 @@
 -- Tables of what is free, filled rank by rank.
-use Rattle.std.specs.Prelude.{◌≡◌, ◌⊎◌, ℕ, ◌<◌, Bool, true, ◌&&◌, List, slice_index_or, Option, None, Some}
+use Rattle.std.specs.Prelude.{◌≡◌, ◌⊎◌, ℕ, ◌<◌, Bool, true, ◌&&◌, List, slice_index_or, Option, None, Some, Contains}
 use Rattle.std.specs.List.{list_all}
 use Rattle.opa_model.specs.declared.ids.AttrId.{AttrId}
 use Rattle.opa_tree.specs.declared.expr.Row.{Row}
@@ -26,10 +26,10 @@ abbrev pub free_by : List Bool → Option Rule → Bool
 free_by free None = true
 free_by free (Some rule) = is_free rule.expr && list_all (told_free free) (mentioned rule.expr)
 
--- of the attributes of a rank below n, and of those of rank n the first k
-abbrev pub IsDone : Base → ℕ → ℕ → AttrId → Type 0
-IsDone b n k a = (b.rank a < n) ⊎ ((b.rank a ≡ n) × (a.0 < k))
+-- of the attributes of a rank below n, and of those of a list
+abbrev pub IsDone : Base → ℕ → List AttrId → AttrId → Type 0
+IsDone b n done a = (b.rank a < n) ⊎ Contains done a
 
 -- the table tells it of those
-pub record AreFreesUpTo (b : Base) (n k : ℕ) (free : List Bool) : Type 0 where
-  pub right : (a : AttrId) → IsDone b n k a → told_free free a ≡ never_asks b a
+pub record AreFreesUpTo (b : Base) (n : ℕ) (done : List AttrId) (free : List Bool) : Type 0 where
+  pub right : (a : AttrId) → IsDone b n done a → told_free free a ≡ never_asks b a

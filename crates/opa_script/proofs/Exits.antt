@@ -1,6 +1,7 @@
 -- Where a command ends: what is read, and each fault.
 use Rattle.std.proofs.Common.{◌≡◌, ◌≤◌, ◌<◌, ◌*◌, ◌^◌, ℕ, pos, List, [], ◌∷◌, length, true, false, refl, sym, ap, subst, ◌∙◌, arith, inl, inr}
-use Rattle.std.specs.Prelude.{◌⊎◌, Option, Some, None, is_some, Ok, Err, MatchOption}
+use Rattle.std.specs.Prelude.{◌⊎◌, Option, Some, None, Bool, is_some, Ok, Err, MatchOption}
+use Rattle.std.specs.Bool.{MatchBool}
 use Rattle.opa_value.specs.declared.value.Value.{Value}
 use Rattle.opa_value.specs.NumberText.{read_number}
 use Rattle.opa_date.specs.Texts.{read_day}
@@ -113,6 +114,11 @@ shows_sort m p c (inr h) = inr (is_relation m p h.0 h.1 h.2)
 
 pub show_long : (m : Lists) (ps : List Piece) (p : Point) (c : Command) → SpellsPoint p ps → Shows m p c → (AreShort ps → ⊥) → IsRefused m verb.Show ps fault.Value
 show_long m ps p c g h n = ((p, g, shows_sort m p c h), λ d r. n r.0)
+
+-- a test that fails says that texts aren't short
+pub not_short : (b : Bool) (P : Type 0) → b ≡ false → MatchBool b P (P → ⊥) → P → ⊥
+not_short true P h m = absurd (cc h)
+not_short false P h m = m
 
 pub show_read : (m : Lists) (ps : List Piece) (p : Point) (c : Command) → SpellsPoint p ps → Shows m p c → AreShort ps → IsRead m verb.Show ps c
 show_read m ps p c g h s = (s, (p, g, h))

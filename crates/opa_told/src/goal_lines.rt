@@ -75,7 +75,7 @@ fn state_line(alloc: Global, phrase: &Txt, what: &Txt, state: GoalState) -> Resu
         what.as_str(),
         state_text(state)
     )?;
-    Ok(Txt::from_string(text))
+    Txt::from_str(alloc, text.as_str())
 }
 
 fn state_text(state: GoalState) -> &'static str

@@ -119,3 +119,9 @@ shade_rows-loop-place-preserved g t c =
     let s = g.K.Sheet.shape c.args.sheet.now in let k = g.K.Sheet.listing c.args.sheet.now in
     rows_next s k c.args.rows.now c.loop-place.place (c.loop-place.place - 1) c.index-rows-place.result c.args.enclosing.now c.args.behind.now c.in_ok-cond.cond c.in_ok-value.value c.loop-place.line c.in_ok-line-2.line
     (omega (arith, c.loop-place-test.true)) c.index-rows-place.is c.loop-place.invariant c.in_ok-cond.ensures c.in_ok-value.ensures c.in_ok-line-2.ensures
+
+pub shade_rows-loop-place-preserved-in_ok-line-2 : goal.shade_rows-loop-place-preserved-in_ok-line-2
+shade_rows-loop-place-preserved-in_ok-line-2 g t c =
+    let s = g.K.Sheet.shape c.args.sheet.now in let k = g.K.Sheet.listing c.args.sheet.now in
+    rows_next s k c.args.rows.now c.loop-place.place (c.loop-place.place - 1) c.index-rows-place.result c.args.enclosing.now c.args.behind.now c.in_ok-cond.cond c.in_ok-value.value c.loop-place.line c.in_ok-line-2.line
+    (omega (arith, c.loop-place-test.true)) c.index-rows-place.is c.loop-place.invariant c.in_ok-cond.ensures c.in_ok-value.ensures c.in_ok-line-2.ensures

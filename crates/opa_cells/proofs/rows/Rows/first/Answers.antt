@@ -7,4 +7,4 @@ use Rattle.opa_cells.proofs.rows.Rows.first.Goals as goal
 pub returns : goal.returns
 returns g c =
     c.first_of.ensures.first
-    ∙ ap (λ es. slice_get es 0) (sym (rows_entries c.self.inside.rows.entries c.first_of.ensures.order c.first_of.ensures.each) ∙ ap map.entries c.self.view_is)
+    ∙ ap (λ es. slice_get es 0) (sym (rows_entries c.self.inside.rows.entries c.first_of.ensures.order) ∙ ap map.entries c.self.view_is)

@@ -6,7 +6,7 @@ use Rattle.opa_cells.proofs.rows.Rows.get.Goals as goal
 
 pub returns-in-Some : goal.returns-in-Some
 returns-in-Some g c =
-    c.get-in-Some.ensures.value
+    c.get-in-Some.ensures
     ∙ at_row c.self.inside.rows.entries c.args.number c.args.inst.now _ (ap option_copied (sym c.in-Some.is) ∙ c.get.ensures.value)
     ∙ ap (λ m. map.get m (c.args.number, c.args.inst.now)) c.self.view_is
 

@@ -7,7 +7,7 @@ use Rattle.opa_cells.proofs.rows.Rows.len_of.Goals as goal
 pub returns-in-Some : goal.returns-in-Some
 returns-in-Some g c =
     let at = sym c.get-row.ensures.value ∙ ap option_copied c.in-Some.is in
-    c.row_len.ensures.len ∙ sym (row_counted c.self.inside.rows.entries c.args.number c.in-Some.row.now at c.row_len.ensures.order)
+    c.len.ensures ∙ sym (row_counted c.self.inside.rows.entries c.args.number c.in-Some.row.now at)
     ∙ ap (λ m. cells_at m c.args.number) c.self.view_is
 
 pub returns-in-None : goal.returns-in-None

@@ -1,0 +1,12 @@
+use Rattle.std.proofs.Common.{arith, ap, ◌∙◌, ◌≡◌, ◌∷◌}
+use Rattle.std.proofs.lemmas.Grind.{common_steps}
+use Rattle.opa_cells.specs.Rows.{insert_each, tree_map}
+use Rattle.opa_cells.proofs.Sorted.{tree_put}
+use Rattle.opa_cells.proofs.row.add_each.Goals as goal
+
+pub loop-inst-preserved : goal.loop-inst-preserved
+loop-inst-preserved g c =
+    let step : (c.in-Some.inst.now, c.in-Some.value.now) ∷ c.next.new.self ≡ c.loop-inst.inst-iterator = grind (arith, common_steps) in
+    ap (λ m. insert_each m c.next.new.self) (tree_put c.loop-inst.tree.entries c.insert.new.self.entries c.in-Some.inst c.in-Some.value c.in_ok-insert.ensures.entries)
+    ∙ ap (insert_each (tree_map c.loop-inst.tree.entries)) step
+    ∙ c.loop-inst.invariant
