@@ -81,6 +81,11 @@ impl<T: Same + Drop> Builder<T> {
             return Ok(());
         }
         let upto = self.upto;
+        if let Begun::Many(pairs) = &mut self.pairs {
+            enter(pairs, upto, value)?;
+            self.upto = day;
+            return Ok(());
+        }
         self.upto = 0;
         let before = mem::replace(&mut self.pairs, Begun::Nothing);
         let after = entered(self.alloc, before, upto, value)?;
