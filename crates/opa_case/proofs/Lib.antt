@@ -43,3 +43,4 @@ pub mod Refusing
 pub mod Overlaid
 pub mod Touching
 pub mod GoingNames
+pub mod SameLists

@@ -6,6 +6,7 @@ mod case;
 mod change;
 mod changed;
 mod changes;
+mod comparing;
 mod contained;
 mod copies;
 mod counts;

@@ -59,6 +59,14 @@ impl Listed {
         self.cells.get(number, inst)
     }
 
+    /// The lists in order of their keys.
+    pub(crate) fn each(&self, alloc: Global) -> Result<Vec<(u32, &InstanceId, &List<Txt>)>, NoMemory>
+        ensures { IfOk result (λ cells. items seen cells.items ≡ map.entries self.now) }
+    {
+        let cells = self.cells.each(alloc)?;
+        Ok(cells)
+    }
+
     /// How many lists are known.
     pub(crate) fn len(&self) -> u64
         ensures { result ≡ map.len self.now }
