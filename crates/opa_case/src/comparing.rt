@@ -60,10 +60,7 @@ fn are_cells(
     true
 }
 
-fn is_cell(
-    cell: &(u32, &InstanceId, &List<Txt>),
-    other: &(u32, &InstanceId, &List<Txt>),
-) -> bool
+fn is_cell(cell: &(u32, &InstanceId, &List<Txt>), other: &(u32, &InstanceId, &List<Txt>)) -> bool
     ensures { result ≡ true → seen cell.now ≡ seen other.now }
 {
     let (number, inst, names) = cell;

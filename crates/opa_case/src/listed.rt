@@ -60,7 +60,10 @@ impl Listed {
     }
 
     /// The lists in order of their keys.
-    pub(crate) fn each(&self, alloc: Global) -> Result<Vec<(u32, &InstanceId, &List<Txt>)>, NoMemory>
+    pub(crate) fn each(
+        &self,
+        alloc: Global,
+    ) -> Result<Vec<(u32, &InstanceId, &List<Txt>)>, NoMemory>
         ensures { IfOk result (λ cells. items seen cells.items ≡ map.entries self.now) }
     {
         let cells = self.cells.each(alloc)?;
