@@ -19,3 +19,4 @@ pub mod Once
 pub mod Beginning
 pub mod Lowering
 pub mod ListsBegin
+pub mod Between
