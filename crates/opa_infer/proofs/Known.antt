@@ -12,7 +12,7 @@ use Rattle.opa_mean.proofs.Exact.{question_exact}
 use Rattle.opa_mean.proofs.SameBoth.{question_itself}
 use Rattle.opa_tree.specs.declared.rulebase.Rulebase.{Rulebase}
 use Rattle.opa_dirty.specs.Dirty.{slot_reads}
-use Rattle.opa_dirty.specs.Settling.{AreReaders, Waiting, is_slot_same}
+use Rattle.opa_dirty.specs.Settling.{AreReaders, IsByAnswers, ReadersStay, Waiting, is_slot_same, shift}
 use Rattle.opa_dirty.proofs.Causes.{witness, passes_in}
 use Rattle.opa_dirty.proofs.Staging.{same_slot, slot_itself}
 
@@ -46,3 +46,7 @@ known r c readers told = record {
     decided_true : (b : Bool) → ((b ≡ true → ⊥) → ⊥) → b ≡ true
     decided_true true not = refl
     decided_true false not = absurd (not (λ e. cc e))
+
+-- Where cases differ in answers at most, the readers are those of the coming case too.
+pub still_known : ReadersStay → (r : Rulebase) (c c' : CaseView) (readers : Question → Waiting) → IsByAnswers (shift r c c') → ∥ AreReaders r c readers ∥₁ → AreReaders r c' readers
+still_known law r c c' readers by told = law (shift r c c') by readers (known r c readers told)

@@ -2,10 +2,11 @@
 ghost use Rattle.std.specs.Prelude.{◌≡◌, ◌+◌, ◌≤◌, ◌<◌, ◌^◌, false, [], is_some, length, map, IfOk, OnOk, OnErr};
 ghost use Rattle.std.specs.Option.{option_copied};
 ghost use Rattle.opa_code.specs.Rulebases.{rulebase_of};
-ghost use Rattle.opa_dirty.specs.Settling.{AreCurrent, AreReaders, SameLines, laid, laid_over, shift};
+ghost use Rattle.opa_dirty.specs.Settling.{AreCurrent, AreReaders, AreSettled, IsBegun, SameLines, laid, laid_over, shift};
 ghost use Rattle.opa_listen.specs.Hearing.{hearer};
 ghost use Rattle.opa_mean.specs.Rulebases.{IsOf};
 ghost use Rattle.opa_readers.specs.Indexes.{readers_in};
+ghost use Rattle.opa_settle.specs.Tasks.{AreRanked, slots_of};
 ghost use Rattle.opa_store.specs.Nexts.{answered, case_with};
 ghost use Rattle.opa_store.specs.Stores.{kept_of, staged_of};
 ghost use Rattle.opa_tree.specs.Rules.{rule_of};
@@ -21,15 +22,16 @@ use opa_kinds::values_have_kinds;
 use opa_line::Line;
 use opa_listen::Listener;
 use opa_model::AttrId;
-use opa_readers::{Index, begin};
-use opa_settle::{settle, settle_answer};
+use opa_readers::Index;
+use opa_settle::{Tasks, settle, settle_answer};
 use opa_store::{Answered, Store};
 use opa_tree::Rulebase;
 use opa_value::Value;
 use std::alloc::Global;
 use std::sync::ledger::Ledger;
 
-/// Stages what another case reaches, by its readers, and makes ready what is told of it. Without memory nothing is staged.
+/// Stages what another case reaches, by its readers and by what waits at first, and makes ready what is told of it. Without memory
+/// nothing is staged.
 pub(crate) fn prepare_change<L: Ledger>(
     alloc: Global,
     base: &Rulebase,
@@ -37,6 +39,7 @@ pub(crate) fn prepare_change<L: Ledger>(
     held: &Case,
     next: &Case,
     readers: &Index,
+    tasks: Tasks,
     store: &mut Store<L>,
     steps: &mut Steps<L>,
     listeners: &mut Vec<Box<dyn Listener>>,
@@ -45,10 +48,13 @@ pub(crate) fn prepare_change<L: Ledger>(
     requires before { IsOf base.now held.now }
     requires after { IsOf base.now next.now }
     requires exact { AreReaders base.now next.now (readers_in readers.now) }
+    requires begun { IsBegun (shift base.now held.now next.now) (slots_of tasks) }
+    requires ranked { AreRanked base.now tasks }
     requires current { AreCurrent base.now held.now (kept_of store.old) }
     requires empty { store.old.slots ≡ [] }
     requires fewer { length listeners.old.items < 2 ^ 64 }
     ensures current { OnOk result (AreCurrent base.now next.now (laid_over next.now (kept_of store.new) (staged_of store.new))) }
+    ensures settled { OnOk result (AreSettled (shift base.now held.now next.now) (staged_of store.new)) }
     ensures kept { SameLines (kept_of store.old) (kept_of store.new) }
     ensures empty { OnErr result (store.new.slots ≡ []) }
     ensures dirty { OnOk result (length store.new.slots ≡ reached base.now held.now next.now) }
@@ -58,7 +64,7 @@ pub(crate) fn prepare_change<L: Ledger>(
     ensures quiet { map (λ l. hearer (state l)) listeners.new.items ≡ map (λ l. hearer (state l)) listeners.old.items }
 {
     match stage_change(
-        alloc, base, code, held, next, readers, store, steps, listeners,
+        alloc, base, code, held, next, readers, tasks, store, steps, listeners,
     ) {
         Ok(ready) => Ok(ready),
         Err(_) => {
@@ -76,6 +82,7 @@ fn stage_change<L: Ledger>(
     held: &Case,
     next: &Case,
     readers: &Index,
+    tasks: Tasks,
     store: &mut Store<L>,
     steps: &mut Steps<L>,
     listeners: &mut Vec<Box<dyn Listener>>,
@@ -84,10 +91,13 @@ fn stage_change<L: Ledger>(
     requires before { IsOf base.now held.now }
     requires after { IsOf base.now next.now }
     requires exact { AreReaders base.now next.now (readers_in readers.now) }
+    requires begun { IsBegun (shift base.now held.now next.now) (slots_of tasks) }
+    requires ranked { AreRanked base.now tasks }
     requires current { AreCurrent base.now held.now (kept_of store.old) }
     requires empty { store.old.slots ≡ [] }
     requires fewer { length listeners.old.items < 2 ^ 64 }
     ensures current { OnOk result (AreCurrent base.now next.now (laid_over next.now (kept_of store.new) (staged_of store.new))) }
+    ensures settled { OnOk result (AreSettled (shift base.now held.now next.now) (staged_of store.new)) }
     ensures kept { SameLines (kept_of store.old) (kept_of store.new) }
     ensures dirty { OnOk result (length store.new.slots ≡ reached base.now held.now next.now) }
     ensures counted { OnOk result (steps.new ≡ steps.old + reached base.now held.now next.now) }
@@ -97,7 +107,6 @@ fn stage_change<L: Ledger>(
 {
     new_can_tell();
     values_have_kinds();
-    let tasks = begin(alloc, base, held, next, readers)?;
     settle(alloc, base, code, readers, held, next, store, tasks, steps)?;
     let ready = made_ready(alloc, base, held, next, store, listeners)?;
     Ok(ready)

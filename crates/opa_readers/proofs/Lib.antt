@@ -1,5 +1,6 @@
 pub mod Adding
 pub mod AllRenewed
+pub mod ByAnswers
 pub mod Coming
 pub mod Indexed
 pub mod ListsTold

@@ -31,6 +31,10 @@ abbrev pub answer_told : Rulebase → CaseView → CaseView → ℕ × InstanceI
 answer_told r c c' k =
     cond (not (is_some (rule_of r.rules (attr_at k.0))) && is_some (first_difference DAYS (line_value (get c.answers k)) (line_value (get c'.answers k)))) (question.Attr (attr_at k.0) k.1 ∷ []) []
 
+-- the same where nothing was answered before
+abbrev pub newly_told : Rulebase → CaseView → CaseView → ℕ × InstanceId → List Question
+newly_told r c c' k = cond (is_some (get c.answers k)) [] (answer_told r c c' k)
+
 -- a list, where it differs
 abbrev pub list_told : CaseView → CaseView → ℕ × InstanceId → List Question
 list_told c c' k = cond (not (same_names (list_of c (rel_at k.0) k.1) (list_of c' (rel_at k.0) k.1))) (question.Members (rel_at k.0) k.1 ∷ []) []
@@ -40,3 +44,9 @@ pub record AreGiven (r : Rulebase) (c c' : CaseView) (readers : Question → Wai
   pub given : (q : Question) → Contains told q → is_given r q ≡ true
   pub differ : (q : Question) → Contains told q → is_changed r c c' q ≡ true
   pub all : (q : Question) (x : AttrId × InstanceId) → Contains (readers q) x → is_given r q ≡ true → is_changed r c c' q ≡ true → Contains told q
+
+-- Exactly the answers that differ, of attributes that no rule gives.
+pub record AreAnswersTold (r : Rulebase) (c c' : CaseView) (told : List Question) : Type 0 where
+  pub given : (q : Question) → Contains told q → is_given r q ≡ true
+  pub differ : (q : Question) → Contains told q → is_changed r c c' q ≡ true
+  pub all : (a : AttrId) (i : InstanceId) → is_given r (question.Attr a i) ≡ true → is_changed r c c' (question.Attr a i) ≡ true → Contains told (question.Attr a i)

@@ -21,7 +21,7 @@ mod take;
 mod told;
 mod touched;
 
-pub use beginning::begin;
+pub use beginning::{are_by_answers, begin, begin_answers};
 pub use fresh::fresh_slots;
 pub use given::given_changes;
 pub use index::Index;

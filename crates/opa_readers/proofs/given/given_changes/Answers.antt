@@ -5,5 +5,5 @@ use Rattle.opa_readers.proofs.given.given_changes.Goals as goal
 
 pub returns : goal.returns
 returns c =
-    are_given c.answers_differ.ensures c.args.base.now c.args.old.now c.args.new.now c.requires.before c.requires.after c.args.index.now c.as_slice.result.now c.as_slice-2.result.now c.new-told.result c.add_answers.new.told c.add_lists.new.told
-    (ap (map seen) c.as_slice.ensures.value ∙ c.in_ok-lines.ensures) (ap (map seen) c.as_slice-2.ensures.value ∙ c.in_ok-lists.ensures) c.new-told.ensures c.in_ok-add_answers.ensures c.in_ok-add_lists.ensures
+    are_given c.args.base.now c.args.old.now c.args.new.now c.args.index.now c.in_ok-told.told c.in_ok-told.ensures c.as_slice.result.now c.add_lists.new.told
+    (ap (map seen) c.as_slice.ensures.value ∙ c.in_ok-lists.ensures) c.in_ok-add_lists.ensures
