@@ -1,21 +1,22 @@
 -- How many lines of conclusions are counted, from a change to a whole input.
 use Rattle.std.proofs.Common.{◌≡◌, ◌≤◌, ◌<◌, ◌+◌, ◌==◌, ℕ, zero, suc, Bool, true, false, List, [], ◌∷◌, length, drop, is_some, not, filter, inl, inr, refl, sym, ap, ◌∙◌, subst, add-one, arith}
-use Rattle.std.specs.Prelude.{Option, None, Some, Result, Ok, Err}
+use Rattle.std.specs.Prelude.{Option, None, Some, Result, Ok, IfOk}
 use Rattle.std.proofs.lemmas.List.Filters.{length-filter_both}
 use Rattle.csv.specs.Records.{field_at}
 use Rattle.opa_case.specs.Cases.{CaseView, no_case}
 use Rattle.opa_case.specs.declared.change.ChangeCommand.{ChangeCommand}
-use Rattle.opa_case.specs.declared.change.Refusal.{Refusal}
+use Rattle.opa_dirty.proofs.Between.{dirty_over, dirty_nowhere}
 use Rattle.opa_infer.specs.Sessions.{reached, first_slots}
 use Rattle.opa_mean.specs.Changes.{is_dirty, slots}
 use Rattle.opa_mean.specs.Given.{base_of, facts_of}
+use Rattle.opa_mean.specs.Rulebases.{IsOf}
 use Rattle.opa_script.specs.declared.command.Command.{Command}
 use Rattle.opa_script.specs.Commands.{IsCommand}
 use Rattle.opa_script.specs.Laws.{IsWellFormed}
 use Rattle.opa_model.specs.declared.lists.Lists.{Lists}
 use Rattle.opa_tree.specs.declared.rulebase.Rulebase.{Rulebase}
 use Rattle.opa_batch.specs.declared.head.Head.{Head}
-use Rattle.opa_batch.specs.Counting.{CountsAtMost, ChangeReaches, LineReaches, CellReaches, CellsReach, RecordReaches, RecordsReach, MayCount, due}
+use Rattle.opa_batch.specs.Counting.{CountsAtMost, IsAtMost, ChangeReaches, LineReaches, CellReaches, CellsReach, RecordReaches, RecordsReach, MayCount, due}
 use Rattle.opa_batch.specs.Numbered.{left_by, CountsCells, CountsRecords}
 use Rattle.opa_batch.specs.Rows.{change_in, stepped, line_of, IsCell}
 use Rattle.opa_batch.proofs.HeadLaws.{here, past}
@@ -23,27 +24,24 @@ use Rattle.opa_batch.proofs.HeadLaws.{here, past}
 filtered : {A : Type 0} (p : A → Bool) (xs : List A) → length (filter p xs) ≤ length xs
 filtered p xs = omega (arith, length-filter_both p (λ x. not (p x)) (λ x. refl) xs)
 
--- nothing was counted
-pub nothing : (Reaches : ℕ → Type 0) → Reaches 0 → (before now : ℕ) → now ≡ before → CountsAtMost Reaches before now
-nothing Reaches none before now e = (0, none, omega (arith, e))
+-- nothing is reached where nothing changes
+pub nowhere : (Reaches : ℕ → Type 0) → Reaches 0 → (r : Rulebase) (c d : CaseView) → d ≡ c → IsAtMost Reaches (reached r c d)
+nowhere Reaches none r c d e =
+    let nothing : reached r c d ≡ 0 = ap (reached r c) e ∙ dirty_nowhere r c in
+    (0, none, omega (arith, nothing))
 
 -- ---- a change, and the line of a cell
 
-module _ (r : Rulebase) (c : CaseView) (before now : ℕ) where
-  of_step : (k : ChangeCommand) (x : Result CaseView Refusal) → stepped r c (Some k) ≡ x → ((d : CaseView) → stepped r c (Some k) ≡ Ok d → now ≤ before + reached r c d) → ((e : Refusal) → stepped r c (Some k) ≡ Err e → now ≡ before)
-      → CountsAtMost (ChangeReaches r c (Some k)) before now
-  of_step k (Ok d) is made refused = (reached r c d, inr (d, is, refl), made d is)
-  of_step k (Err e) is made refused = nothing (ChangeReaches r c (Some k)) (inl refl) before now (refused e is)
+module _ (r : Rulebase) (c : CaseView) where
+  pub change_reaches : (k : ChangeCommand) (d : CaseView) → stepped r c (Some k) ≡ Ok d → IsAtMost (ChangeReaches r c (Some k)) (reached r c d)
+  change_reaches k d is = (reached r c d, inr (d, is, refl), omega arith)
 
-  pub change_counts : (k : ChangeCommand) → ((d : CaseView) → stepped r c (Some k) ≡ Ok d → now ≤ before + reached r c d) → ((e : Refusal) → stepped r c (Some k) ≡ Err e → now ≡ before) → CountsAtMost (ChangeReaches r c (Some k)) before now
-  change_counts k made refused = of_step k (stepped r c (Some k)) refl made refused
+  pub line_reaches : (m : Lists) (line : List ℕ) (k : Command) (n : ℕ) → m ≡ r.model → IsCommand m line k → IsWellFormed k → IsAtMost (ChangeReaches r c (change_in k)) n → IsAtMost (LineReaches r c line) n
+  line_reaches m line k n same is formed x = (x.0, inr (k, subst (λ l. IsCommand l line k) same is, formed, x.1), x.2)
 
-  pub line_counts : (m : Lists) (line : List ℕ) (k : Command) → m ≡ r.model → IsCommand m line k → IsWellFormed k → CountsAtMost (ChangeReaches r c (change_in k)) before now → CountsAtMost (LineReaches r c line) before now
-  line_counts m line k same is formed x = (x.0, inr (k, subst (λ l. IsCommand l line k) same is, formed, x.1), x.2)
-
-  pub full_cell_counts : (h : Head) (cell : List ℕ) (b : Bool) → b ≡ (length cell == 0) → b ≡ false → CountsAtMost (LineReaches r c (line_of h cell)) before now → CountsAtMost (CellReaches r c h cell) before now
-  full_cell_counts h [] b e f x = absurd (let q : true ≡ false = sym e ∙ f in cc q)
-  full_cell_counts h (b ∷ cell) t e f x = x
+  pub full_cell_reaches : (h : Head) (cell : List ℕ) (b : Bool) (n : ℕ) → b ≡ (length cell == 0) → b ≡ false → IsAtMost (LineReaches r c (line_of h cell)) n → IsAtMost (CellReaches r c h cell) n
+  full_cell_reaches h [] b n e f x = absurd (let q : true ≡ false = sym e ∙ f in cc q)
+  full_cell_reaches h (b ∷ cell) t n e f x = x
 
 -- no cell need be reached
 pub no_line : (r : Rulebase) (c : CaseView) (h : Head) (cell : List ℕ) → CellReaches r c h cell 0
@@ -56,55 +54,79 @@ cells_end : (r : Rulebase) (n : ℕ) (c : CaseView) (heads : List Head) → Cell
 cells_end r n c [] = refl
 cells_end r n c (h ∷ heads) = refl
 
-module _ (r : Rulebase) (heads : List Head) (cells : List (List ℕ)) (first : CaseView) (before : ℕ) where
-  pub cells_begin : CountsCells r heads cells first 0 first before before
-  cells_begin = record { counted = 0; few = omega arith; leads = λ rest h. let e : rest ≡ 0 + rest = omega arith in subst (λ n. CellsReach r 1 first heads cells n) e h }
+module _ (r : Rulebase) (heads : List Head) (cells : List (List ℕ)) (first : CaseView) where
+  pub cells_begin : CountsCells r heads cells first 0 first
+  cells_begin =
+      let nothing : reached r first first ≡ 0 = dirty_nowhere r first in
+      record { counted = 0; few = omega (arith, nothing); leads = λ rest h. let e : rest ≡ 0 + rest = omega arith in subst (λ n. CellsReach r 1 first heads cells n) e h }
 
-  module _ (place : ℕ) (c : CaseView) (now : ℕ) (way : CountsCells r heads cells first place c before now) where
-    ended : CellsReach r (place + 1) c (drop place heads) (drop place cells) 0 → CountsAtMost (CellsReach r 1 first heads cells) before now
+  module _ (place : ℕ) (c : CaseView) (way : CountsCells r heads cells first place c) where
+    ended : CellsReach r (place + 1) c (drop place heads) (drop place cells) 0 → IsAtMost (CellsReach r 1 first heads cells) (reached r first c)
     ended h = (way.counted + 0, way.leads 0 h, omega (arith, way.few))
 
-    pub cells_are_done : drop place heads ≡ [] → CountsAtMost (CellsReach r 1 first heads cells) before now
+    pub cells_are_done : drop place heads ≡ [] → IsAtMost (CellsReach r 1 first heads cells) (reached r first c)
     cells_are_done e = ended (subst (λ hs. CellsReach r (place + 1) c hs (drop place cells) 0) (sym e) refl)
 
-    pub cells_are_short : None ≡ field_at cells place → CountsAtMost (CellsReach r 1 first heads cells) before now
+    pub cells_are_short : None ≡ field_at cells place → IsAtMost (CellsReach r 1 first heads cells) (reached r first c)
     cells_are_short e = ended (subst (λ xs. CellsReach r (place + 1) c (drop place heads) xs 0) (sym (past cells place e)) (cells_end r (place + 1) c (drop place heads)))
 
-    module _ (h : Head) (cell : List ℕ) (of : drop place heads ≡ h ∷ drop (place + 1) heads) (at : Some cell ≡ field_at cells place) (now' : ℕ) (x : CountsAtMost (CellReaches r c h cell) now now') where
+    module _ (h : Head) (cell : List ℕ) (of : drop place heads ≡ h ∷ drop (place + 1) heads) (at : Some cell ≡ field_at cells place) where
       under : (n : ℕ) → CellsReach r (place + 1) c (h ∷ drop (place + 1) heads) (cell ∷ drop (place + 1) cells) n → CellsReach r 1 first heads cells (way.counted + n)
       under n k =
           way.leads n (subst (λ hs. CellsReach r (place + 1) c hs (drop place cells) n) (sym of) (subst (λ xs. CellsReach r (place + 1) c (h ∷ drop (place + 1) heads) xs n) (sym (here cells place cell at)) k))
 
-      pub cells_stop : CountsAtMost (CellsReach r 1 first heads cells) before now'
-      cells_stop = (way.counted + x.0, under x.0 (inl x.1), omega (arith, way.few, x.2))
+      module _ (d : CaseView) (fits : IsOf r c) (afterwards : IsOf r d) (x : IsAtMost (CellReaches r c h cell) (reached r c d)) where
+        over : reached r first d ≤ reached r first c + reached r c d
+        over = dirty_over r first c d fits afterwards
 
-      pub cells_go_on : (d : CaseView) (o : Option (List ℕ)) → is_some o ≡ false → IsCell r (place + 1) c h cell (left_by o d) → CountsCells r heads cells first (place + 1) d before now'
-      cells_go_on d (Some text) e is = absurd (cc e)
-      cells_go_on d None e is = record {
-        counted = way.counted + x.0;
-        few = omega (arith, way.few, x.2);
-        leads = λ rest k.
-            let same : way.counted + (x.0 + rest) ≡ (way.counted + x.0) + rest = omega arith in
-            subst (CellsReach r 1 first heads cells) same (under (x.0 + rest) (inr (x.0, rest, d, x.1, is, k, refl)));
-      }
+        pub cells_stop : IsAtMost (CellsReach r 1 first heads cells) (reached r first d)
+        cells_stop = let few = over in (way.counted + x.0, under x.0 (inl x.1), omega (arith, way.few, x.2, few))
+
+        pub cells_go_on : (o : Option (List ℕ)) → is_some o ≡ false → IsCell r (place + 1) c h cell (left_by o d) → CountsCells r heads cells first (place + 1) d
+        cells_go_on (Some text) e is = absurd (cc e)
+        cells_go_on None e is =
+            let few = over in
+            record {
+              counted = way.counted + x.0;
+              few = omega (arith, way.few, x.2, few);
+              leads = λ rest k.
+                  let same : way.counted + (x.0 + rest) ≡ (way.counted + x.0) + rest = omega arith in
+                  subst (CellsReach r 1 first heads cells) same (under (x.0 + rest) (inr (x.0, rest, d, x.1, is, k, refl)));
+            }
 
 -- ---- a record
 
-pub record_counts : (r : Rulebase) (heads : List Head) (cells : List (List ℕ)) (c : CaseView) (before now : ℕ) → length cells ≡ length heads → c ≡ no_case → CountsAtMost (CellsReach r 1 c heads cells) before now
-    → CountsAtMost (RecordReaches r heads cells) before now
-record_counts r heads cells c before now same empty x = (x.0, inr (same, subst (λ d. CellsReach r 1 d heads cells x.0) empty x.1), x.2)
+module _ (r : Rulebase) (heads : List Head) (cells : List (List ℕ)) where
+  pub record_reaches : (c d : CaseView) → length cells ≡ length heads → c ≡ no_case → IsAtMost (CellsReach r 1 c heads cells) (reached r c d) → IsAtMost (RecordReaches r heads cells) (reached r no_case d)
+  record_reaches c d same empty x =
+      let y : IsAtMost (CellsReach r 1 no_case heads cells) (reached r no_case d) = subst (λ (e : CaseView). IsAtMost (CellsReach r 1 e heads cells) (reached r e d)) empty x in
+      (y.0, inr (same, y.1), y.2)
 
--- nothing was determined for a record
-pub not_determined : (r : Rulebase) (heads : List Head) (cells : List (List ℕ)) (before more : ℕ) → CountsAtMost (RecordReaches r heads cells) (before + more) before
-not_determined r heads cells before more = (0, inl refl, omega arith)
+  -- its case is held in the place of another
+  pub record_counts : (b : Rulebase) (made : Result CaseView (List ℕ)) (c d : CaseView) (before now : ℕ) → b ≡ r → made ≡ Ok d → IfOk made (λ e. IsAtMost (RecordReaches b heads cells) (reached b no_case e))
+      → now ≤ before + (reached r c no_case + reached r no_case d) → CountsAtMost (RecordReaches r heads cells) (before + reached r c no_case) now
+  record_counts b made c d before now same is reaches few =
+      let x : IsAtMost (RecordReaches b heads cells) (reached b no_case d) = subst (λ (m : Result CaseView (List ℕ)). IfOk m (λ e. IsAtMost (RecordReaches b heads cells) (reached b no_case e))) is reaches in
+      let y : IsAtMost (RecordReaches r heads cells) (reached r no_case d) = subst (λ (k : Rulebase). IsAtMost (RecordReaches k heads cells) (reached k no_case d)) same x in
+      (y.0, y.1, omega (arith, y.2, few))
 
--- the case of which nothing is known is determined anew
-pub emptied : (r : Rulebase) (c d : CaseView) (place before now : ℕ) → (place ≡ 0 → ⊥) → d ≡ no_case → now ≤ before + reached r c d → now ≤ before + due r place
-emptied r c d zero before now some e few = absurd (some refl)
-emptied r c d (suc place) before now some e few =
-    let bound : reached r c no_case ≤ first_slots r = filtered (λ s. is_dirty (base_of r) (facts_of c) (facts_of no_case) s.0 s.1) (slots (base_of r) (facts_of no_case)) in
-    let same : reached r c d ≡ reached r c no_case = ap (reached r c) e in
-    omega (arith, few, bound, same)
+  -- nothing was determined for a record
+  pub not_determined : (before more : ℕ) → CountsAtMost (RecordReaches r heads cells) (before + more) before
+  not_determined before more = (0, inl refl, omega arith)
+
+  -- where a record comes first nothing is known before it, and else no more is reached than there is where nothing is known
+  forgotten : (c : CaseView) (place : ℕ) → (place ≡ 0 → c ≡ no_case) → reached r c no_case ≤ due r place
+  forgotten c zero first = let nothing : reached r c no_case ≡ 0 = ap (λ (d : CaseView). reached r d no_case) (first refl) ∙ dirty_nowhere r no_case in omega (arith, nothing)
+  forgotten c (suc place) first = filtered (λ s. is_dirty (base_of r) (facts_of c) (facts_of no_case) s.0 s.1) (slots (base_of r) (facts_of no_case))
+
+  pub record_is_due : (c : CaseView) (place before now : ℕ) → (place ≡ 0 → c ≡ no_case) → CountsAtMost (RecordReaches r heads cells) (before + reached r c no_case) now → CountsAtMost (RecordReaches r heads cells) (before + due r place) now
+  record_is_due c place before now first x = let few = forgotten c place first in (x.0, x.1, omega (arith, x.2, few))
+
+-- another case is held: no more is reached than over the case of which nothing is known
+pub over_nothing : (r : Rulebase) (c d : CaseView) (before now : ℕ) → IsOf r no_case → IsOf r d → now ≤ before + reached r c d → now ≤ before + (reached r c no_case + reached r no_case d)
+over_nothing r c d before now none fits few =
+    let over : reached r c d ≤ reached r c no_case + reached r no_case d = dirty_over r c no_case d none fits in
+    omega (arith, few, over)
 
 -- ---- records
 

@@ -3,7 +3,6 @@ pub mod CellLaws
 pub mod RowLaws
 pub mod CutLaws
 pub mod WriterLaws
-pub mod EmptyLaws
 pub mod SameLaws
 pub mod MakingLaws
 pub mod PartLaws

@@ -20,6 +20,10 @@ use Rattle.opa_batch.specs.Serving.{IsOpened}
 abbrev pub CountsAtMost : (ℕ → Type 0) → ℕ → ℕ → Type 0
 CountsAtMost Reaches before now = (n : ℕ) × Reaches n × (now ≤ before + n)
 
+-- No more than such a number.
+abbrev pub IsAtMost : (ℕ → Type 0) → ℕ → Type 0
+IsAtMost Reaches m = (n : ℕ) × Reaches n × (m ≤ n)
+
 -- so many lines a change reaches that is made: none, where it is refused or isn't carried out
 abbrev pub ChangeReaches : Rulebase → CaseView → Option ChangeCommand → ℕ → Type 0
 ChangeReaches r c k n = (n ≡ 0) ⊎ ((d : CaseView) × (stepped r c k ≡ Ok d) × (n ≡ reached r c d))

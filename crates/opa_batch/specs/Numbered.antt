@@ -2,6 +2,7 @@
 use Rattle.std.specs.Prelude.{◌≡◌, ◌≤◌, ◌+◌, ◌++◌, ◌∷◌, ℕ, List, map, drop, slice_get, Option, None, Some, Result, Ok, Err}
 use Rattle.opa_model.specs.declared.ids.AttrId.{AttrId}
 use Rattle.opa_case.specs.Cases.{CaseView}
+use Rattle.opa_infer.specs.Sessions.{reached}
 use Rattle.opa_tree.specs.declared.rulebase.Rulebase.{Rulebase}
 use Rattle.opa_batch.specs.declared.head.Head.{Head}
 use Rattle.opa_batch.specs.Rows.{AreCells, IsRow}
@@ -41,13 +42,13 @@ pub record HasRows (r : Rulebase) (heads : List Head) (records : List (List (Lis
 pub record AreAdded (r : Rulebase) (heads : List Head) (records : List (List (List ℕ))) (first : List ℕ) (place : ℕ) (text : List ℕ) : Type 0 where
   pub adds : (more : List ℕ) → AreRows r heads (place + 1) (drop place records) more → HasRows r heads records first (text ++ more)
 
--- So many lines the cells before a place reached, and no more steps were counted; what is reached from there on comes to it.
-pub record CountsCells (r : Rulebase) (heads : List Head) (cells : List (List ℕ)) (first : CaseView) (place : ℕ) (c : CaseView) (before now : ℕ) : Type 0 where
+-- So many lines the cells before a place reach one by one, and no more are reached at once; what is reached from there on comes to it.
+pub record CountsCells (r : Rulebase) (heads : List Head) (cells : List (List ℕ)) (first : CaseView) (place : ℕ) (c : CaseView) : Type 0 where
   pub counted : ℕ
-  pub few : now ≤ before + counted
+  pub few : reached r first c ≤ counted
   pub leads : (rest : ℕ) → CellsReach r (place + 1) c (drop place heads) (drop place cells) rest → CellsReach r 1 first heads cells (counted + rest)
 
--- The same of the records before a place.
+-- So many lines the records before a place reach, and no more steps were counted; what is reached from there on comes to it.
 pub record CountsRecords (r : Rulebase) (heads : List Head) (records : List (List (List ℕ))) (place before now : ℕ) : Type 0 where
   pub counted : ℕ
   pub few : now + due r place ≤ before + counted

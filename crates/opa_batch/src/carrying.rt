@@ -1,41 +1,63 @@
-// The line of a cell is carried out over a session.
-ghost use Rattle.std.specs.Prelude.{◌≡◌, Some, IfOk};
+// The line of a cell is carried out over the case of its record.
+ghost use Rattle.std.specs.Prelude.{◌≡◌, ◌≢◌, Some, Ok, Err, IfOk, IfErr, OnOk, OnErr};
 ghost use Rattle.opa_case.specs.Laws.{IsDeclared};
 ghost use Rattle.opa_case.specs.Shapes.{shape_of};
-ghost use Rattle.opa_infer.specs.Sessions.{rules_of, held_of};
+ghost use Rattle.opa_case.specs.declared.change.Refusal.TheVariants as refusals;
+ghost use Rattle.opa_infer.specs.Sessions.{reached};
+ghost use Rattle.opa_mean.specs.Rulebases.{IsOf};
 ghost use Rattle.opa_script.specs.Laws.{IsInRange};
-ghost use Rattle.opa_batch.specs.Counting.{CountsAtMost, ChangeReaches, LineReaches, CellReaches};
+ghost use Rattle.opa_batch.specs.Counting.{IsAtMost, ChangeReaches, LineReaches, CellReaches};
 ghost use Rattle.opa_batch.specs.Numbered.{left_by};
 ghost use Rattle.opa_batch.specs.Rows.{change_in as change_of, stepped, in_column, IsCarriedOut, IsCell};
 
 use crate::faults::{change_fault, command_fault};
 use crate::head::Head;
 use crate::lines::{asked, line_of};
-use opa_case::{ChangeCommand, Refusal};
-use opa_infer::Session;
-use opa_io::{NoMemory, Steps, Txt};
-use opa_listen::Listener;
-use opa_mean::Held;
+use opa_case::{Case, ChangeCommand, Refusal};
+use opa_io::{NoMemory, Txt};
 use opa_script::Command;
+use opa_tree::Rulebase;
 use std::alloc::Global;
-use std::sync::ledger::Ledger;
+
+/// Makes a change of a case whole, or refuses it with the case as it was.
+fn change_case(base: &Rulebase, case: &mut Case, change: ChangeCommand) -> Result<(), Refusal>
+    requires fits { IsOf base.now case.old }
+    requires declared { IsDeclared (shape_of base.now.model) change }
+    ensures ok { OnOk result (stepped base.now case.old (Some change) ≡ Ok case.new) }
+    ensures err { IfErr result (λ e. e ≢ refusals.NoMemory → stepped base.now case.old (Some change) ≡ Err e) }
+    ensures fits { OnOk result (IsOf base.now case.new) }
+    ensures unchanged { OnErr result (case.new ≡ case.old) }
+{
+    match change {
+        ChangeCommand::Answer(attr, inst, line) => {
+            case.answer(&base.model, &base.ruled, attr, &inst, line)
+        }
+        ChangeCommand::Withdraw(attr, inst) => {
+            case.withdraw(&base.model, &base.ruled, attr, &inst)
+        }
+        ChangeCommand::SetList(rel, inst, names) => {
+            case.set_list(&base.model, &base.ruled, rel, &inst, names)
+        }
+        ChangeCommand::Forget(rel, inst) => case.forget(&base.model, &base.ruled, rel, &inst),
+    }
+}
 
 /// Makes a change, or tells its fault.
-fn take_change<L: Ledger>(
+fn take_change(
     alloc: Global,
-    session: &mut Session<L>,
+    base: &Rulebase,
+    case: &mut Case,
     column: usize,
     change: ChangeCommand,
-    steps: &mut Steps<L>,
 ) -> Result<Option<Txt>, NoMemory>
-    requires declared { IsDeclared (shape_of (rules_of session.old).model) change }
-    ensures ok { IfOk result (λ fault. left_by fault (held_of session.new) ≡ in_column column (stepped (rules_of session.old) (held_of session.old) (Some change))) }
-    ensures base { rules_of session.new ≡ rules_of session.old }
-    ensures counts { CountsAtMost (ChangeReaches (rules_of session.old) (held_of session.old) (Some change)) steps.old steps.new }
+    requires fits { IsOf base.now case.old }
+    requires declared { IsDeclared (shape_of base.now.model) change }
+    ensures ok { IfOk result (λ fault. left_by fault case.new ≡ in_column column (stepped base.now case.old (Some change))) }
+    ensures fits { IfOk result (λ _. IsOf base.now case.new) }
+    ensures reaches { IfOk result (λ _. IsAtMost (ChangeReaches base.now case.old (Some change)) (reached base.now case.old case.new)) }
 {
-    let mut nobody: Vec<Box<dyn Listener>> = Vec::new(alloc);
-    match session.apply(alloc, change, &mut nobody, steps) {
-        Ok(_) => Ok(None),
+    match change_case(base, case, change) {
+        Ok(()) => Ok(None),
         Err(Refusal::NoMemory) => Err(NoMemory),
         Err(refusal) => {
             let text = change_fault(alloc, column, refusal)?;
@@ -65,42 +87,44 @@ fn change_in(command: Command) -> Option<ChangeCommand>
 }
 
 /// Carries out a command: a change alone does something.
-fn take_command<L: Ledger>(
+fn take_command(
     alloc: Global,
-    session: &mut Session<L>,
+    base: &Rulebase,
+    case: &mut Case,
     column: usize,
     command: Command,
-    steps: &mut Steps<L>,
 ) -> Result<Option<Txt>, NoMemory>
-    requires command { IsInRange (rules_of session.old).model command }
-    ensures ok { IfOk result (λ fault. left_by fault (held_of session.new) ≡ in_column column (stepped (rules_of session.old) (held_of session.old) (change_of command))) }
-    ensures base { rules_of session.new ≡ rules_of session.old }
-    ensures counts { CountsAtMost (ChangeReaches (rules_of session.old) (held_of session.old) (change_of command)) steps.old steps.new }
+    requires fits { IsOf base.now case.old }
+    requires command { IsInRange base.now.model command }
+    ensures ok { IfOk result (λ fault. left_by fault case.new ≡ in_column column (stepped base.now case.old (change_of command))) }
+    ensures fits { IfOk result (λ _. IsOf base.now case.new) }
+    ensures reaches { IfOk result (λ _. IsAtMost (ChangeReaches base.now case.old (change_of command)) (reached base.now case.old case.new)) }
 {
     match change_in(command) {
         None => Ok(None),
         Some(change) => {
-            let fault = take_change(alloc, session, column, change, steps)?;
+            let fault = take_change(alloc, base, case, column, change)?;
             Ok(fault)
         }
     }
 }
 
 /// Reads a line and carries it out, and answers its fault if it has one.
-fn take_line<L: Ledger>(
+fn take_line(
     alloc: Global,
-    session: &mut Session<L>,
+    base: &Rulebase,
+    case: &mut Case,
     column: usize,
     line: &[u8],
-    steps: &mut Steps<L>,
 ) -> Result<Option<Txt>, NoMemory>
-    ensures ok { IfOk result (λ fault. IsCarriedOut (rules_of session.old) column (held_of session.old) line.now (left_by fault (held_of session.new))) }
-    ensures base { rules_of session.new ≡ rules_of session.old }
-    ensures counts { CountsAtMost (LineReaches (rules_of session.old) (held_of session.old) line.now) steps.old steps.new }
+    requires fits { IsOf base.now case.old }
+    ensures ok { IfOk result (λ fault. IsCarriedOut base.now column case.old line.now (left_by fault case.new)) }
+    ensures fits { IfOk result (λ _. IsOf base.now case.new) }
+    ensures reaches { IfOk result (λ _. IsAtMost (LineReaches base.now case.old line.now) (reached base.now case.old case.new)) }
 {
-    match asked(alloc, &session.base().model, line) {
+    match asked(alloc, &base.model, line) {
         Ok(command) => {
-            let fault = take_command(alloc, session, column, command, steps)?;
+            let fault = take_command(alloc, base, case, column, command)?;
             Ok(fault)
         }
         Err(fault) => {
@@ -111,22 +135,23 @@ fn take_line<L: Ledger>(
 }
 
 /// Carries out the cell of a column, and answers its fault if it has one. An empty cell does nothing.
-pub(crate) fn take_cell<L: Ledger>(
+pub(crate) fn take_cell(
     alloc: Global,
-    session: &mut Session<L>,
+    base: &Rulebase,
+    case: &mut Case,
     column: usize,
     head: &Head,
     cell: &[u8],
-    steps: &mut Steps<L>,
 ) -> Result<Option<Txt>, NoMemory>
-    ensures ok { IfOk result (λ fault. IsCell (rules_of session.old) column (held_of session.old) head.now cell.now (left_by fault (held_of session.new))) }
-    ensures base { rules_of session.new ≡ rules_of session.old }
-    ensures counts { CountsAtMost (CellReaches (rules_of session.old) (held_of session.old) head.now cell.now) steps.old steps.new }
+    requires fits { IsOf base.now case.old }
+    ensures ok { IfOk result (λ fault. IsCell base.now column case.old head.now cell.now (left_by fault case.new)) }
+    ensures fits { IfOk result (λ _. IsOf base.now case.new) }
+    ensures reaches { IfOk result (λ _. IsAtMost (CellReaches base.now case.old head.now cell.now) (reached base.now case.old case.new)) }
 {
     if cell.is_empty() {
         return Ok(None);
     }
     let line = line_of(alloc, head, cell)?;
-    let fault = take_line(alloc, session, column, &line, steps)?;
+    let fault = take_line(alloc, base, case, column, &line)?;
     Ok(fault)
 }

@@ -1,9 +1,7 @@
 // What an input gives over a rulebase is made.
-ghost use Rattle.std.specs.Prelude.{◌≡◌, ◌+◌, ◌<◌, ◌≤◌, ◌∷◌, ◌^◌, true, length, Some, IfOk, OnOk};
+ghost use Rattle.std.specs.Prelude.{◌≡◌, ◌+◌, ◌<◌, ◌∷◌, ◌^◌, length, Some, IfOk, OnOk};
 ghost use Rattle.csv.specs.Records.{fields_of};
 ghost use Rattle.opa_case.specs.Cases.{no_case};
-ghost use Rattle.opa_case.specs.Fits.{Fits};
-ghost use Rattle.opa_case.specs.Shapes.{shape_of};
 ghost use Rattle.opa_infer.specs.Sessions.{rules_of, held_of, first_slots};
 ghost use Rattle.opa_io.specs.declared.fault.Status.TheVariants as statuses;
 ghost use Rattle.opa_table.specs.Records.{table_records};
@@ -23,11 +21,8 @@ use crate::kept::{Kept, add_kept, add_known, none_kept};
 use crate::records::{cut_next, reader_of};
 use crate::same::slot_of;
 use csv::{ByteRecord, Reader, Writer};
-use opa_case::{Case, empty_fits};
 use opa_infer::Session;
 use opa_io::{NoMemory, Status, Steps};
-use opa_listen::Listener;
-use opa_mean::Held;
 use opa_tree::Rulebase;
 use std::alloc::Global;
 use std::sync::ledger::Ledger;
@@ -37,58 +32,6 @@ use std::sync::ledger::Ledger;
 pub(crate) struct Made {
     pub(crate) good: Status,
     pub(crate) text: Vec<u8>,
-}
-
-/// The case of which nothing is known, which fits.
-fn empty_case(alloc: Global, base: &Rulebase) -> Case
-    ensures none { result ≡ no_case }
-    ensures fits { Fits (shape_of base.now.model) base.now.ruled result }
-{
-    // The count shows the model's form.
-    let _count = base.model.attribute_count();
-    empty_fits();
-    Case::new(alloc)
-}
-
-/// Whether nothing is known: the case that is held fits, so that this is the case where nothing is answered and nothing listed.
-fn is_empty<L: Ledger>(session: &Session<L>) -> bool
-    ensures { result ≡ true → held_of session.now ≡ no_case }
-{
-    empty_fits();
-    let case = session.case();
-    let answers = case.answers();
-    let lists = case.lists();
-    if 0 < answers {
-        return false;
-    }
-    if 0 < lists {
-        return false;
-    }
-    true
-}
-
-/// Nothing is known of the next record; of the first one nothing is known yet.
-fn forget_case<L: Ledger>(
-    alloc: Global,
-    session: &mut Session<L>,
-    place: usize,
-    steps: &mut Steps<L>,
-) -> Result<(), NoMemory>
-    requires first { place ≡ 0 → held_of session.old ≡ no_case }
-    ensures empty { IfOk result (λ _. held_of session.new ≡ no_case) }
-    ensures base { rules_of session.new ≡ rules_of session.old }
-    ensures counts { steps.new ≤ steps.old + due (rules_of session.old) place }
-{
-    if place == 0 {
-        return Ok(());
-    }
-    if is_empty(session) {
-        return Ok(());
-    }
-    let case = empty_case(alloc, session.base());
-    let mut nobody: Vec<Box<dyn Listener>> = Vec::new(alloc);
-    session.replace_case(alloc, case, &mut nobody, steps)?;
-    Ok(())
 }
 
 /// Decides the record at a place, keeps it with its row, and adds the row.
@@ -112,7 +55,6 @@ fn add_decided<L: Ledger>(
     ensures slots { OnOk result (length kept.new.items ≡ length kept.old.items) }
     ensures counts { CountsAtMost (RecordReaches (rules_of session.old) heads.now (fields_of row.old)) (steps.old + due (rules_of session.old) place) steps.new }
 {
-    forget_case(alloc, session, place, steps)?;
     let fault = take_record(alloc, session, heads, row, steps)?;
     add_kept(alloc, session, place + 1, &fault, row, kept, slot, out)?;
     Ok(())

@@ -1,30 +1,30 @@
-use Rattle.std.proofs.Common.{List, ℕ, subst, ◌∙◌}
-use Rattle.opa_infer.specs.Sessions.{rules_of, held_of}
+use Rattle.std.proofs.Common.{List, ℕ, refl, subst, ◌∙◌}
+use Rattle.opa_infer.specs.Sessions.{reached}
 use Rattle.opa_batch.specs.Rows.{IsCarriedOut}
-use Rattle.opa_batch.specs.Counting.{CountsAtMost, LineReaches}
+use Rattle.opa_batch.specs.Counting.{IsAtMost, CellReaches, LineReaches}
 use Rattle.opa_batch.specs.Numbered.{left_by}
 use Rattle.opa_batch.proofs.CellLaws.{full_cell}
-use Rattle.opa_batch.proofs.CountLaws.{full_cell_counts}
+use Rattle.opa_batch.proofs.CountLaws.{full_cell_reaches, no_line, nowhere}
 use Rattle.opa_batch.proofs.carrying.take_cell.Goals as goal
 
+pub returns-then-is_empty-clause-reaches : goal.returns-then-is_empty-clause-reaches
+returns-then-is_empty-clause-reaches c =
+    let r = c.args.base.now in
+    let held = c.args.case.now in
+    nowhere (CellReaches r held c.args.head.now c.args.cell.now) (no_line r held c.args.head.now c.args.cell.now) r held held refl
+
 pub returns-clause-ok : goal.returns-clause-ok
-returns-clause-ok g c =
-    let r = rules_of c.args.session.now in
-    let held = held_of c.args.session.now in
-    let x = left_by c.in_ok-fault.fault (held_of c.take_line.new.session) in
+returns-clause-ok c =
+    let r = c.args.base.now in
+    let held = c.args.case.now in
+    let x = left_by c.in_ok-fault.fault c.take_line.new.case in
     full_cell r c.args.column held c.args.head.now c.args.cell.now x c.is_empty.result c.is_empty.ensures c.if-is_empty.false
     (subst (λ (l : List ℕ). IsCarriedOut r c.args.column held l x) (c.deref.ensures.value ∙ c.in_ok-line.ensures) c.in_ok-fault.ensures.ok)
 
-pub returns-in_err-fault-clause-counts : goal.returns-in_err-fault-clause-counts
-returns-in_err-fault-clause-counts g c =
-    let r = rules_of c.args.session.now in
-    let held = held_of c.args.session.now in
-    full_cell_counts r held c.args.steps.now c.take_line.new.steps c.args.head.now c.args.cell.now c.is_empty.result c.is_empty.ensures c.if-is_empty.false
-    (subst (λ (l : List ℕ). CountsAtMost (LineReaches r held l) c.args.steps.now c.take_line.new.steps) (c.deref.ensures.value ∙ c.in_ok-line.ensures) c.in_err-fault.ensures.counts)
-
-pub returns-clause-counts : goal.returns-clause-counts
-returns-clause-counts g c =
-    let r = rules_of c.args.session.now in
-    let held = held_of c.args.session.now in
-    full_cell_counts r held c.args.steps.now c.take_line.new.steps c.args.head.now c.args.cell.now c.is_empty.result c.is_empty.ensures c.if-is_empty.false
-    (subst (λ (l : List ℕ). CountsAtMost (LineReaches r held l) c.args.steps.now c.take_line.new.steps) (c.deref.ensures.value ∙ c.in_ok-line.ensures) c.in_ok-fault.ensures.counts)
+pub returns-clause-reaches : goal.returns-clause-reaches
+returns-clause-reaches c =
+    let r = c.args.base.now in
+    let held = c.args.case.now in
+    let n = reached r held c.take_line.new.case in
+    full_cell_reaches r held c.args.head.now c.args.cell.now c.is_empty.result n c.is_empty.ensures c.if-is_empty.false
+    (subst (λ (l : List ℕ). IsAtMost (LineReaches r held l) n) (c.deref.ensures.value ∙ c.in_ok-line.ensures) c.in_ok-fault.ensures.reaches)
