@@ -1,5 +1,5 @@
 -- Steps that stand for needs, put together.
-use Rattle.std.proofs.Common.{◌≡◌, ℕ, ◌+◌, ◌-◌, ◌<◌, ◌≤◌, ◌⊎◌, inl, inr, Bor, None, Some, Bool, true, false, cond, List, [], ◌∷◌, ◌++◌, length, take, get_or, refl, sym, ◌∙◌, ap, subst, arith}
+use Rattle.std.proofs.Common.{◌≡◌, ℕ, ◌+◌, ◌-◌, ◌<◌, ◌≤◌, ◌⊎◌, inl, inr, Bor, Option, None, Some, Bool, true, false, cond, List, [], ◌∷◌, ◌++◌, length, take, reverse, get_or, refl, sym, ◌∙◌, ap, subst, arith}
 use Rattle.std.specs.Prelude.{flat_map, nat_lt, ◌&&◌}
 use borrow.Author.Tests.{ltb-true}
 use Rattle.opa_date.specs.declared.TheConstants.{DAYS}
@@ -9,18 +9,20 @@ use Rattle.opa_need.specs.Dates.{date_in}
 use Rattle.opa_need.specs.declared.steps.Step.TheVariants as step
 use Rattle.std.specs.List.{AllByRecursion}
 use Rattle.std.proofs.lemmas.List.{append_assoc, append-nil, take_more}
+use Rattle.opa_io.proofs.Lists.{reverse_push}
 use Rattle.std.proofs.lemmas.Grind.{flat_map-append}
 use Rattle.opa_case.specs.Cases.{CaseView, IsLive}
 use Rattle.opa_tree.specs.declared.rulebase.Rulebase.{Rulebase}
 use Rattle.opa_mean.specs.Uses.{Use, on_date_uses, in_window_uses}
 use Rattle.opa_mean.proofs.Everywhere.{all_append}
 use Rattle.opa_value.specs.declared.value.Value.{Value}
-use Rattle.opa_value.specs.Truth.{is_true}
+use Rattle.opa_value.specs.Truth.{is_true, is_unknown}
 use Rattle.opa_cells.specs.declared.instance.InstanceId.{InstanceId}
 use Rattle.opa_tree.specs.declared.expr.Expr.{Expr}
 use Rattle.opa_tree.specs.declared.kinds.Quant.{Quant}
 use Rattle.opa_tree.specs.declared.kinds.Quant.TheVariants as quant
-use Rattle.opa_need.specs.Steps.{part_needs, part_value, member_needs, span_needs, step_needs, claim, IsReady, StandFor, Adds}
+use Rattle.opa_cells.specs.Instances.{named}
+use Rattle.opa_need.specs.Steps.{part_needs, part_value, parts_needs, tree_needs, member_needs, members_needs, span_needs, step_needs, claim, AreListed, IsFirstMember, IsFirstPart, IsReady, PutsOn, StandFor, Adds}
 use Rattle.opa_need.specs.declared.steps.Step.{Step}
 
 -- one item more of those that are gone through
@@ -99,8 +101,79 @@ module _ (r : Rulebase) (c : CaseView) where
   pub adds_both : (us vs : List Use) (old mid new : List Step) → Adds r c us old mid → Adds r c vs mid new → Adds r c (us ++ vs) old new
   adds_both us vs old mid new h k ws s = subst (λ xs. StandFor r c xs new) (append_assoc ws us vs) (k (ws ++ us) (h ws s))
 
-  pub all_more : {X : Type 0} (f : X → List Use) (xs : List X) (i : ℕ) (x : X) (old new : List Step) → i < length xs → x ≡ get_or xs i x → StandFor r c (flat_map f (take i xs)) old → Adds r c (f x) old new → StandFor r c (flat_map f (take (i + 1) xs)) new
-  all_more f xs i x old new within is h k = subst (λ us. StandFor r c us new) (sym (flat_more f xs i x within is)) (k (flat_map f (take i xs)) h)
+  -- a part that is unknown needs what its tree does, and another nothing
+  pub open_part : (x : Expr) (es : List InstanceId) (d : ℕ) (v : Value) (b : Bool) → b ≡ true → b ≡ is_unknown v → v ≡ part_value r c x es d → part_needs r c x es d ≡ tree_needs r c x es d
+  open_part x es d v b e f g = ap (λ k. cond k (tree_needs r c x es d) []) (sym (ap is_unknown g) ∙ sym f ∙ e)
+
+  pub closed_part : (x : Expr) (es : List InstanceId) (d : ℕ) (v : Value) (b : Bool) → b ≡ false → b ≡ is_unknown v → v ≡ part_value r c x es d → part_needs r c x es d ≡ []
+  closed_part x es d v b e f g = ap (λ k. cond k (tree_needs r c x es d) []) (sym (ap is_unknown g) ∙ sym f ∙ e)
+
+  pub adds_open : (x : Expr) (es : List InstanceId) (d : ℕ) (v : Value) (b : Bool) (old new : List Step) → b ≡ true → b ≡ is_unknown v → v ≡ part_value r c x es d → Adds r c (tree_needs r c x es d) old new → Adds r c (part_needs r c x es d) old new
+  adds_open x es d v b old new e f g h = subst (λ us. Adds r c us old new) (sym (open_part x es d v b e f g)) h
+
+  pub adds_closed : (x : Expr) (es : List InstanceId) (d : ℕ) (v : Value) (b : Bool) (old new : List Step) → b ≡ false → b ≡ is_unknown v → v ≡ part_value r c x es d → new ≡ old → Adds r c (part_needs r c x es d) old new
+  adds_closed x es d v b old new e f g same = subst (λ us. Adds r c us old new) (sym (closed_part x es d v b e f g)) (adds_none old new same)
+
+  -- a known part is passed over, and an unknown one is the first
+  pub parts_pass : (all rest later : List Expr) (x : Expr) (es : List InstanceId) (d : ℕ) (v : Value) (b : Bool) → b ≡ false → b ≡ is_unknown v → v ≡ part_value r c x es d → rest ≡ x ∷ later
+      → parts_needs r c all es d ≡ parts_needs r c rest es d → parts_needs r c all es d ≡ parts_needs r c later es d
+  parts_pass all rest later x es d v b e f g at h = h ∙ ap (λ xs. parts_needs r c xs es d) at ∙ ap (λ us. us ++ parts_needs r c later es d) (closed_part x es d v b e f g)
+
+  pub parts_stop : (all rest later : List Expr) (x : Expr) (es : List InstanceId) (d : ℕ) (v : Value) (b : Bool) → b ≡ true → b ≡ is_unknown v → v ≡ part_value r c x es d → rest ≡ x ∷ later
+      → parts_needs r c all es d ≡ parts_needs r c rest es d → parts_needs r c all es d ≡ tree_needs r c x es d ++ parts_needs r c later es d
+  parts_stop all rest later x es d v b e f g at h = h ∙ ap (λ xs. parts_needs r c xs es d) at ∙ ap (λ us. us ++ parts_needs r c later es d) (open_part x es d v b e f g)
+
+  no_steps : (us : List Use) (steps : List Step) → length steps ≡ 0 → StandFor r c us steps → us ≡ []
+  no_steps us [] e h = sym h.asking
+  no_steps us (s ∷ steps) e h = absurd (cc e)
+
+  -- a member without a step is passed over, and one with some is the first
+  pub members_pass : (q : Quant) (t : ℕ) (all rest later : List (List ℕ)) (n : List ℕ) (xs : List Expr) (es : List InstanceId) (d : ℕ) (steps : List Step) → rest ≡ n ∷ later → length steps ≡ 0 → StandFor r c (member_needs r c q xs (named t n ∷ es) d) steps
+      → (members_needs r c q t all xs es d ≡ members_needs r c q t rest xs es d) × AreListed r c t rest → (members_needs r c q t all xs es d ≡ members_needs r c q t later xs es d) × AreListed r c t later
+  members_pass q t all rest later n xs es d steps at none stand h =
+      (h.0 ∙ ap (λ names. members_needs r c q t names xs es d) at ∙ ap (λ us. us ++ members_needs r c q t later xs es d) (no_steps (member_needs r c q xs (named t n ∷ es) d) steps none stand), (subst (AreListed r c t) at h.1).1)
+
+  pub members_stop : (q : Quant) (t : ℕ) (all rest : List (List ℕ)) (later : Bor (List (List ℕ))) (n : List ℕ) (xs : List Expr) (es : List InstanceId) (d : ℕ) (steps : List Step) → rest ≡ n ∷ later.now → StandFor r c (member_needs r c q xs (named t n ∷ es) d) steps
+      → (members_needs r c q t all xs es d ≡ members_needs r c q t rest xs es d) × AreListed r c t rest → IsFirstMember r c q t all xs es d (Some (steps, later))
+  members_stop q t all rest later n xs es d steps at stand h =
+      (member_needs r c q xs (named t n ∷ es) d, stand, (subst (AreListed r c t) at h.1).1, h.0 ∙ ap (λ names. members_needs r c q t names xs es d) at)
+
+  pub puts_none : (us : List Use) (old new : List Step) → us ≡ [] → new ≡ old → PutsOn r c us old new
+  puts_none us old new e f = ([], subst (λ vs. StandFor r c vs []) (sym e) (none_stand [] refl), ap reverse f)
+
+  pub puts_one : (s : Step) (us : List Use) (old new : List Step) → new ≡ old ++ s ∷ [] → step_needs r c s ≡ us → claim r c s ≡ [] → IsReady r c s → PutsOn r c us old new
+  puts_one s us old new e f g k = (s ∷ [], one_stands s us f g k, ap reverse e ∙ reverse_push old s)
+
+  -- what comes later is put before the other steps first
+  pub puts_both : (us vs ws : List Use) (old mid new : List Step) → ws ≡ us ++ vs → PutsOn r c vs old mid → PutsOn r c us mid new → PutsOn r c ws old new
+  puts_both us vs ws old mid new e h k = subst (λ xs. PutsOn r c xs old new) (sym e)
+      (k.0 ++ h.0, both_stand us vs k.0 h.0 k.1 h.1, k.2 ∙ ap (λ xs. k.0 ++ xs) h.2 ∙ sym (append_assoc k.0 h.0 (reverse old)))
+
+  pub no_part : (all : List Expr) (es : List InstanceId) (d : ℕ) (o : Option (Bor Expr × Bor (List Expr))) (steps : List Step) → o ≡ None → IsFirstPart r c all es d o → PutsOn r c (parts_needs r c all es d) steps steps
+  no_part all es d o steps at h = puts_none (parts_needs r c all es d) steps steps (subst (IsFirstPart r c all es d) at h) refl
+
+  pub some_part : (all : List Expr) (es : List InstanceId) (d : ℕ) (o : Option (Bor Expr × Bor (List Expr))) (x : Bor Expr) (later : Bor (List Expr)) (old mid new : List Step) → o ≡ Some (x, later) → IsFirstPart r c all es d o
+      → PutsOn r c (parts_needs r c later.now es d) old mid → PutsOn r c (tree_needs r c x.now es d) mid new → PutsOn r c (parts_needs r c all es d) old new
+  some_part all es d o x later old mid new at h k j = puts_both (tree_needs r c x.now es d) (parts_needs r c later.now es d) (parts_needs r c all es d) old mid new (subst (IsFirstPart r c all es d) at h) k j
+
+  pub no_member : (q : Quant) (t : ℕ) (all : List (List ℕ)) (xs : List Expr) (es : List InstanceId) (d : ℕ) (o : Option (List Step × Bor (List (List ℕ)))) (steps : List Step) → o ≡ None → IsFirstMember r c q t all xs es d o
+      → PutsOn r c (members_needs r c q t all xs es d) steps steps
+  no_member q t all xs es d o steps at h = puts_none (members_needs r c q t all xs es d) steps steps (subst (IsFirstMember r c q t all xs es d) at h) refl
+
+  pub some_member : (q : Quant) (t : ℕ) (all : List (List ℕ)) (xs : List Expr) (es : List InstanceId) (d : ℕ) (o : Option (List Step × Bor (List (List ℕ)))) (steps : List Step) (later : Bor (List (List ℕ))) (old mid new : List Step) → o ≡ Some (steps, later)
+      → IsFirstMember r c q t all xs es d o → PutsOn r c (members_needs r c q t later.now xs es d) old mid → reverse new ≡ steps ++ reverse mid → PutsOn r c (members_needs r c q t all xs es d) old new
+  some_member q t all xs es d o steps later old mid new at h k e =
+      let first = subst (IsFirstMember r c q t all xs es d) at h in puts_both first.0 (members_needs r c q t later.now xs es d) (members_needs r c q t all xs es d) old mid new first.3 k (steps, first.1, e)
+
+  -- the parts of a tree, and members, as a step
+  pub parts_on : (x : Bor (List Expr)) (es es' : List InstanceId) (d : ℕ) (old new : List Step) → es' ≡ es → AllByRecursion (IsLive c) es → d < DAYS → new ≡ old ++ step.Parts x es' d ∷ [] → PutsOn r c (parts_needs r c x.now es d) old new
+  parts_on x es es' d old new same live lt e =
+      puts_one (step.Parts x es' d) (parts_needs r c x.now es d) old new e (ap (λ ks. parts_needs r c x.now ks d) same) refl (subst (λ ks. AllByRecursion (IsLive c) ks) (sym same) live, lt)
+
+  pub members_on : (q : Quant) (t : ℕ) (names : Bor (List (List ℕ))) (x : Bor (List Expr)) (es es' : List InstanceId) (d : ℕ) (old new : List Step) → es' ≡ es → AllByRecursion (IsLive c) es → d < DAYS → AreListed r c t names.now → new ≡ old ++ step.Members q t names x es' d ∷ []
+      → PutsOn r c (members_needs r c q t names.now x.now es d) old new
+  members_on q t names x es es' d old new same live lt listed e =
+      puts_one (step.Members q t names x es' d) (members_needs r c q t names.now x.now es d) old new e (ap (λ ks. members_needs r c q t names.now x.now ks d) same) refl (subst (λ ks. AllByRecursion (IsLive c) ks) (sym same) live, lt, listed)
 
   pub member_single : (q : Quant) (x : Expr) (es : List InstanceId) (d : ℕ) → part_needs r c x es d ≡ member_needs r c q (x ∷ []) es d
   member_single quant.SumIf x es d = refl

@@ -1,5 +1,6 @@
 -- Steps on the way to all questions: what they ask for, and what is claimed when they come to the front.
 use Rattle.std.specs.Prelude.{◌≡◌, ◌≢◌, ℕ, ◌+◌, ◌-◌, ◌<◌, ◌≤◌, List, [], ◌∷◌, ◌++◌, Option, None, Some, ◌&&◌, nat_le, nat_lt, find, reverse, flat_map}
+use Rattle.std.specs.Borrow.{Bor}
 use Rattle.std.specs.List.{AllByRecursion}
 use Rattle.std.specs.FinMap.{FinMap, get}
 use Rattle.opa_date.specs.declared.TheConstants.{DAYS}
@@ -68,6 +69,10 @@ module _ (r : Rulebase) (c : CaseView) where
   quantifier_needs q rel es enclosing d = at_place_uses (place (container_of c.live) enclosing ((shape_of r.model).source rel)) (λ i.
       over_needs (asked (shape_of r.model) (list_of c) rel i) (λ n. member_needs q es (named ((shape_of r.model).target rel) n ∷ enclosing) d) (list_of c rel i))
 
+  -- of members one behind the other: the instances of the entity that have these names
+  abbrev pub members_needs : Quant → ℕ → List (List ℕ) → List Expr → Uses
+  members_needs q t names es enclosing d = flat_map (λ n. member_needs q es (named t n ∷ enclosing) d) names
+
   abbrev pub span_needs : List Expr → Uses
   span_needs = part.span_needs (shape_of r.model) (part.fresh_look (base_of r) (facts_of c)) (asked (shape_of r.model) (facts_of c).members) (part.point_needs (base_of r) (facts_of c))
 
@@ -101,6 +106,8 @@ module _ (r : Rulebase) (c : CaseView) where
   step_needs (step.Days e enclosing first end) = days_needs e.now enclosing first end
   step_needs (step.AfterDay e enclosing d end) = days_needs e.now enclosing (d + 1) end
   step_needs (step.AfterPoint a i d) = []
+  step_needs (step.Parts es enclosing d) = parts_needs es.now enclosing d
+  step_needs (step.Members q t names es enclosing d) = members_needs q t names.now es.now enclosing d
 
   -- what is found when a step comes to the front
   abbrev pub claim : Step → List Use
@@ -116,6 +123,10 @@ module _ (r : Rulebase) (c : CaseView) where
   AreSound found [] = Unit {0}
   AreSound found (s ∷ steps) = AreFound found (claim s) × AreSound (added found (step_needs s)) steps
 
+  -- the instances of the entity that have these names are live
+  abbrev pub AreListed : ℕ → List (List ℕ) → Type 0
+  AreListed t names = AllByRecursion (λ n. IsLive c (named t n)) names
+
   -- a step's instances are live, and its days are days of the calendar
   abbrev pub IsReady : Step → Type 0
   IsReady (step.Tree e enclosing d) = AllByRecursion (IsLive c) enclosing × (d < DAYS)
@@ -125,6 +136,8 @@ module _ (r : Rulebase) (c : CaseView) where
   IsReady (step.Days e enclosing first end) = AllByRecursion (IsLive c) enclosing × (end ≤ DAYS)
   IsReady (step.AfterDay e enclosing d end) = AllByRecursion (IsLive c) enclosing × (d < DAYS) × (end ≤ DAYS)
   IsReady (step.AfterPoint a i d) = IsLive c i × (d < DAYS)
+  IsReady (step.Parts es enclosing d) = AllByRecursion (IsLive c) enclosing × (d < DAYS)
+  IsReady (step.Members q t names es enclosing d) = AllByRecursion (IsLive c) enclosing × (d < DAYS) × AreListed t names.now
 
   -- Steps that stand for needs: they ask for them in order, claim nothing of their own, and are ready.
   pub record StandFor (us : List Use) (steps : List Step) : Type 0 where
@@ -139,6 +152,17 @@ module _ (r : Rulebase) (c : CaseView) where
   -- steps that stand for needs are put before the others
   abbrev pub PutsOn : List Use → List Step → List Step → Type 0
   PutsOn us old steps = (new : List Step) × StandFor us new × (reverse steps ≡ new ++ reverse old)
+
+  -- Of parts none asks for anything, or it is the tree of this one that does first, and those behind it come later.
+  abbrev pub IsFirstPart : List Expr → List InstanceId → ℕ → Option (Bor Expr × Bor (List Expr)) → Type 0
+  IsFirstPart es enclosing d None = parts_needs es enclosing d ≡ []
+  IsFirstPart es enclosing d (Some x) = parts_needs es enclosing d ≡ tree_needs x.0.now enclosing d ++ parts_needs x.1.now enclosing d
+
+  -- Of members none asks for anything, or these steps stand for the first that does, and those behind it come later.
+  abbrev pub IsFirstMember : Quant → ℕ → List (List ℕ) → List Expr → List InstanceId → ℕ → Option (List Step × Bor (List (List ℕ))) → Type 0
+  IsFirstMember q t names es enclosing d None = members_needs q t names es enclosing d ≡ []
+  IsFirstMember q t names es enclosing d (Some x) =
+      (us : List Use) × StandFor us x.0 × AreListed t x.1.now × (members_needs q t names es enclosing d ≡ us ++ members_needs q t x.1.now es enclosing d)
 
   -- on each day of the run the point's questions are found
   abbrev pub IsRun : List Question → AttrId → InstanceId → Run → Type 0

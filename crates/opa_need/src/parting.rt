@@ -1,56 +1,78 @@
-// Steps for the parts of a tree, one behind the other.
-ghost use Rattle.std.specs.Prelude.{◌≡◌, ◌∷◌, ◌++◌, ◌<◌, [], flat_map, IfOk, OnOk, List as Seq};
+// Steps for the parts of a tree.
+ghost use Rattle.std.specs.Prelude.{◌≡◌, ◌∷◌, ◌++◌, ◌<◌, [], IfOk, OnOk, List as Seq};
 ghost use Rattle.std.specs.List.{AllByRecursion};
 ghost use Rattle.opa_case.specs.Cases.{IsLive};
 ghost use Rattle.opa_cells.specs.Instances.{named};
 ghost use Rattle.opa_date.specs.declared.TheConstants.{DAYS};
 ghost use Rattle.opa_mean.specs.Uses.{Use};
 ghost use Rattle.opa_tree.specs.declared.kinds.Quant.TheVariants as quants;
-ghost use Rattle.opa_need.specs.Steps.{StandFor, Adds, part_needs, member_needs};
+ghost use Rattle.opa_need.specs.Steps.{StandFor, Adds, part_needs, part_value, tree_needs, member_needs};
 
-use crate::looking::{again, is_true, value_at};
+use crate::looking::{again, is_true, is_unknown, value_at};
 use crate::operands::{Operands, taken};
 use crate::steps::Step;
 use opa_case::InstanceId;
 use opa_io::{List, NoMemory, Txt};
 use opa_mean::{Held, within};
 use opa_tree::{Expr, Quant};
+use opa_value::Value;
 use std::alloc::Global;
 
-/// Adds a part.
+/// Adds a tree.
 #[tactic(auto, using(crate::proofs::OpeningLaws::adds_one))]
-pub(crate) fn add_part<'a, H: Held>(
+fn add_tree<'a, H: Held>(
     alloc: Global,
     _held: &H,
+    steps: &mut List<Step<'a>>,
+    tree: &'a Expr,
+    enclosing: &List<InstanceId>,
+    day: u32,
+) -> Result<(), NoMemory>
+    requires day { day < DAYS }
+    requires live { AllByRecursion (IsLive (H.held _held.now)) enclosing.now }
+    ensures { OnOk result (Adds (H.rules _held.now) (H.held _held.now) (tree_needs (H.rules _held.now) (H.held _held.now) tree.now enclosing.now day) steps.old steps.new) }
+{
+    steps.push(Step::Tree(tree, again(alloc, enclosing)?, day))
+}
+
+/// Adds a part that has this value: it is looked at where it is unknown.
+pub(crate) fn add_valued<'a, H: Held>(
+    alloc: Global,
+    held: &H,
+    steps: &mut List<Step<'a>>,
+    part: &'a Expr,
+    value: &Value,
+    enclosing: &List<InstanceId>,
+    day: u32,
+) -> Result<(), NoMemory>
+    requires day { day < DAYS }
+    requires live { AllByRecursion (IsLive (H.held held.now)) enclosing.now }
+    requires value { value.now ≡ part_value (H.rules held.now) (H.held held.now) part.now enclosing.now day }
+    ensures { OnOk result (Adds (H.rules held.now) (H.held held.now) (part_needs (H.rules held.now) (H.held held.now) part.now enclosing.now day) steps.old steps.new) }
+{
+    let open = is_unknown(value);
+    if open {
+        add_tree(alloc, held, steps, part, enclosing, day)
+    } else {
+        Ok(())
+    }
+}
+
+/// Adds a part.
+pub(crate) fn add_part<'a, H: Held>(
+    alloc: Global,
+    held: &H,
     steps: &mut List<Step<'a>>,
     part: &'a Expr,
     enclosing: &List<InstanceId>,
     day: u32,
 ) -> Result<(), NoMemory>
     requires day { day < DAYS }
-    requires live { AllByRecursion (IsLive (H.held _held.now)) enclosing.now }
-    ensures { OnOk result (Adds (H.rules _held.now) (H.held _held.now) (part_needs (H.rules _held.now) (H.held _held.now) part.now enclosing.now day) steps.old steps.new) }
-{
-    steps.push(Step::Part(part, again(alloc, enclosing)?, day))
-}
-
-/// The steps of several parts.
-pub(crate) fn open_parts<'a, H: Held>(
-    alloc: Global,
-    held: &H,
-    parts: &'a [Expr],
-    enclosing: &List<InstanceId>,
-    day: u32,
-) -> Result<List<Step<'a>>, NoMemory>
-    requires day { day < DAYS }
     requires live { AllByRecursion (IsLive (H.held held.now)) enclosing.now }
-    ensures { IfOk result (StandFor (H.rules held.now) (H.held held.now) (flat_map (λ e. part_needs (H.rules held.now) (H.held held.now) e enclosing.now day) parts.now)) }
+    ensures { OnOk result (Adds (H.rules held.now) (H.held held.now) (part_needs (H.rules held.now) (H.held held.now) part.now enclosing.now day) steps.old steps.new) }
 {
-    let mut steps = List::new(alloc);
-    for part in parts {
-        add_part(alloc, held, &mut steps, part, enclosing, day)?;
-    }
-    Ok(steps)
+    let value = value_at(alloc, held, part, enclosing, day)?;
+    add_valued(alloc, held, steps, part, &value, enclosing, day)
 }
 
 /// Adds what is looked at of a member of a quantifier.
@@ -94,8 +116,8 @@ fn add_tested<'a, H: Held>(
     requires live { AllByRecursion (IsLive (H.held held.now)) inner.now }
     ensures { OnOk result (Adds (H.rules held.now) (H.held held.now) (member_needs (H.rules held.now) (H.held held.now) quants.SumIf (number.now ∷ test.now ∷ []) inner.now day) steps.old steps.new) }
 {
-    add_part(alloc, held, steps, test, inner, day)?;
     let value = value_at(alloc, held, test, inner, day)?;
+    add_valued(alloc, held, steps, test, &value, inner, day)?;
     let met = is_true(&value);
     if met {
         add_part(alloc, held, steps, number, inner, day)
@@ -104,26 +126,24 @@ fn add_tested<'a, H: Held>(
     }
 }
 
-/// The steps of the members of a quantifier, in list order.
-pub(crate) fn open_members<'a, H: Held>(
+/// The steps of a member of a quantifier.
+pub(crate) fn member_steps<'a, H: Held>(
     alloc: Global,
     held: &H,
     quant: Quant,
     target: u32,
-    names: &[Txt],
+    name: &Txt,
     parts: &'a [Expr],
     enclosing: &List<InstanceId>,
     day: u32,
 ) -> Result<List<Step<'a>>, NoMemory>
     requires day { day < DAYS }
     requires live { AllByRecursion (IsLive (H.held held.now)) enclosing.now }
-    requires listed { AllByRecursion (λ n. IsLive (H.held held.now) (named target n)) names.now }
-    ensures { IfOk result (StandFor (H.rules held.now) (H.held held.now) (flat_map (λ n. member_needs (H.rules held.now) (H.held held.now) quant parts.now (named target n ∷ enclosing.now) day) names.now)) }
+    requires listed { IsLive (H.held held.now) (named target name.now) }
+    ensures { IfOk result (StandFor (H.rules held.now) (H.held held.now) (member_needs (H.rules held.now) (H.held held.now) quant parts.now (named target name.now ∷ enclosing.now) day)) }
 {
     let mut steps = List::new(alloc);
-    for name in names {
-        let inner = within(alloc, target, name, enclosing.as_slice())?;
-        add_member(alloc, held, &mut steps, quant, parts, &inner, day)?;
-    }
+    let inner = within(alloc, target, name, enclosing.as_slice())?;
+    add_member(alloc, held, &mut steps, quant, parts, &inner, day)?;
     Ok(steps)
 }

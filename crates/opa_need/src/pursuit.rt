@@ -1,18 +1,18 @@
 // All questions of a point at a day, step by step.
-ghost use Rattle.std.specs.Prelude.{◌≡◌, ◌++◌, ◌∷◌, [], ◌<◌, ◌≤◌, false, reverse, None, IfOk, OnOk, List as Seq};
+ghost use Rattle.std.specs.Prelude.{◌≡◌, [], ◌<◌, false, None, IfOk, List as Seq};
 ghost use Rattle.std.specs.List.{AllByRecursion};
 ghost use Rattle.opa_case.specs.Cases.{IsLive};
 ghost use Rattle.opa_case.specs.declared.question.Question.{Question as Questions};
 ghost use Rattle.opa_date.specs.declared.TheConstants.{DAYS};
 ghost use Rattle.opa_mean.specs.Next.{first_or};
 ghost use Rattle.opa_need.specs.Finding.{added};
-ghost use Rattle.opa_need.specs.Steps.{IsReady, LeadsOn, PutsOn, Settles, part_needs, point_needs, tree_needs};
+ghost use Rattle.opa_need.specs.Steps.{AreListed, IsReady, LeadsOn, Settles, point_needs};
 ghost use Rattle.opa_need.specs.declared.steps.Step.{Step as Steps};
 ghost use Rattle.opa_need.specs.declared.steps.Step.TheVariants as step;
 
 use crate::found::Found;
-use crate::looking::{again, is_unknown, rule_of, value_at};
-use crate::opening::open;
+use crate::looking::{again, rule_of};
+use crate::putting::{take_members, take_part, take_parts, take_tree};
 use crate::runs::{Run, Runs, add_run, run_of};
 use crate::stays::open_from;
 use crate::steps::Step;
@@ -20,10 +20,10 @@ use crate::stretches::{settled, settled_part};
 use opa_case::{InstanceId, Question};
 use opa_cells::Cells;
 use opa_date::DAYS;
-use opa_io::{List, NoMemory};
+use opa_io::{List, NoMemory, Txt};
 use opa_mean::{Held, alone};
 use opa_model::{AttrId, RelId};
-use opa_tree::Expr;
+use opa_tree::{Expr, Quant};
 use std::alloc::Global;
 
 /// The questions of a point at a day, each once; or, where only the first is wanted, some of them from the first one on.
@@ -97,6 +97,14 @@ fn take<'a, H: Held>(
         Step::AfterPoint(attr, inst, day) => {
             step_leave(alloc, held, steps, *attr, inst, *day, found, runs)
         }
+        Step::Parts(parts, enclosing, day) => {
+            step_parts(alloc, held, steps, *parts, enclosing, *day, found, runs)
+        }
+        Step::Members(quant, target, names, parts, enclosing, day) => {
+            step_members(
+                alloc, held, steps, *quant, *target, *names, *parts, enclosing, *day, found, runs,
+            )
+        }
     }
 }
 
@@ -135,6 +143,50 @@ fn step_part<'a, H: Held>(
     ensures { IfOk result (λ x. LeadsOn (H.rules held.now) (H.held held.now) (step.Part part.entry enclosing.now day) found runs steps.old x.0 x.1 steps.new) }
 {
     take_part(alloc, held, steps, part, enclosing, day)?;
+    Ok((found, runs))
+}
+
+/// Parts, one behind the other.
+fn step_parts<'a, H: Held>(
+    alloc: Global,
+    held: &'a H,
+    steps: &mut List<Step<'a>>,
+    parts: &'a [Expr],
+    enclosing: &List<InstanceId>,
+    day: u32,
+    found: Found,
+    runs: Runs,
+) -> Result<(Found, Runs), NoMemory>
+    requires day { day < DAYS }
+    requires live { AllByRecursion (IsLive (H.held held.now)) enclosing.now }
+    ensures { IfOk result (λ x. LeadsOn (H.rules held.now) (H.held held.now) (step.Parts parts.entry enclosing.now day) found runs steps.old x.0 x.1 steps.new) }
+{
+    take_parts(alloc, held, steps, parts, enclosing, day)?;
+    Ok((found, runs))
+}
+
+/// Members of a quantifier, in list order.
+fn step_members<'a, H: Held>(
+    alloc: Global,
+    held: &'a H,
+    steps: &mut List<Step<'a>>,
+    quant: Quant,
+    target: u32,
+    names: &'a [Txt],
+    parts: &'a [Expr],
+    enclosing: &List<InstanceId>,
+    day: u32,
+    found: Found,
+    runs: Runs,
+) -> Result<(Found, Runs), NoMemory>
+    requires day { day < DAYS }
+    requires live { AllByRecursion (IsLive (H.held held.now)) enclosing.now }
+    requires listed { AreListed (H.rules held.now) (H.held held.now) target names.now }
+    ensures { IfOk result (λ x. LeadsOn (H.rules held.now) (H.held held.now) (step.Members quant target names.entry parts.entry enclosing.now day) found runs steps.old x.0 x.1 steps.new) }
+{
+    take_members(
+        alloc, held, steps, quant, target, names, parts, enclosing, day,
+    )?;
     Ok((found, runs))
 }
 
@@ -316,52 +368,4 @@ fn point_until<H: Held>(
             Ok(until)
         }
     }
-}
-
-/// Puts steps before the others, the first of them first.
-fn put_all<'a>(steps: &mut List<Step<'a>>, new: &mut List<Step<'a>>) -> Result<(), NoMemory>
-    ensures { OnOk result (reverse steps.new ≡ new.old ++ reverse steps.old) }
-{
-    while let Some(step) = new.pop() {
-        steps.push(step)?;
-    }
-    Ok(())
-}
-
-/// A tree: its parts take its place.
-fn take_tree<'a, H: Held>(
-    alloc: Global,
-    held: &H,
-    steps: &mut List<Step<'a>>,
-    tree: &'a Expr,
-    enclosing: &List<InstanceId>,
-    day: u32,
-) -> Result<(), NoMemory>
-    requires day { day < DAYS }
-    requires live { AllByRecursion (IsLive (H.held held.now)) enclosing.now }
-    ensures { OnOk result (PutsOn (H.rules held.now) (H.held held.now) (tree_needs (H.rules held.now) (H.held held.now) tree.now enclosing.now day) steps.old steps.new) }
-{
-    let mut new = open(alloc, held, tree, enclosing, day)?;
-    put_all(steps, &mut new)?;
-    Ok(())
-}
-
-/// A part: it is looked at where it is unknown.
-fn take_part<'a, H: Held>(
-    alloc: Global,
-    held: &H,
-    steps: &mut List<Step<'a>>,
-    part: &'a Expr,
-    enclosing: &List<InstanceId>,
-    day: u32,
-) -> Result<(), NoMemory>
-    requires day { day < DAYS }
-    requires live { AllByRecursion (IsLive (H.held held.now)) enclosing.now }
-    ensures { OnOk result (PutsOn (H.rules held.now) (H.held held.now) (part_needs (H.rules held.now) (H.held held.now) part.now enclosing.now day) steps.old steps.new) }
-{
-    let value = value_at(alloc, held, part, enclosing, day)?;
-    if is_unknown(&value) {
-        take_tree(alloc, held, steps, part, enclosing, day)?;
-    }
-    Ok(())
 }

@@ -1,1 +1,2 @@
 pub mod FirstListing
+mod TableLaws

@@ -2,6 +2,7 @@
 #![tactic(auto)]
 
 mod numbers;
+mod table;
 mod texts;
 
 pub use numbers::screen_of;

@@ -5,7 +5,7 @@ ghost use Rattle.std.specs.String.{string_bytes};
 ghost use Rattle.opa_screen.specs.Screens as spec;
 ghost use Rattle.opa_text.specs.Points.{HasAsked};
 
-use crate::numbers::screen_of;
+use crate::table::{lies_on, table_of};
 use opa_case::Question;
 use opa_io::{List, NoMemory, Txt, front};
 use opa_model::Model;
@@ -53,10 +53,11 @@ fn question_lines(
     requires { AllByRecursion (HasAsked model.now) questions.now }
     ensures { IfOk result (λ text. text ≡ spec.question_lines model.now (spec.shown_on model.now screen questions.now)) }
 {
+    let table = table_of(alloc, model)?;
     let mut out = String::new(alloc);
     let mut rest = questions;
     while let Some((question, later)) = front(rest) {
-        if screen_of(model, question) == screen {
+        if lies_on(model, &table, question, screen) {
             add_line(alloc, model, &mut out, question)?;
         }
         rest = later;

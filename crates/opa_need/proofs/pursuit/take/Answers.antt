@@ -90,3 +90,38 @@ pub returns-in-AfterPoint : goal.returns-in-AfterPoint
 returns-in-AfterPoint g c =
     let r = g.H.Held.rules c.args.held.now in let held = g.H.Held.held c.args.held.now in
     if_ok_then _ _ c.step_leave.result (λ x h. of_step r held c.args.step.now (step.AfterPoint c.in-AfterPoint.attr c.in-AfterPoint.inst c.in-AfterPoint.day) c.args.found x.0 c.args.runs x.1 c.args.steps.now c.step_leave.new._steps c.in-AfterPoint.is h) c.step_leave.ensures
+
+pub step_parts-requires-clause-day : goal.step_parts-requires-clause-day
+step_parts-requires-clause-day g c =
+    let r = g.H.Held.rules c.args.held.now in let held = g.H.Held.held c.args.held.now in
+    let ready = subst (λ (s : Step). IsReady r held s) c.in-Parts.is c.requires in ready.1
+
+pub step_parts-requires-clause-live : goal.step_parts-requires-clause-live
+step_parts-requires-clause-live g c =
+    let r = g.H.Held.rules c.args.held.now in let held = g.H.Held.held c.args.held.now in
+    let ready = subst (λ (s : Step). IsReady r held s) c.in-Parts.is c.requires in ready.0
+
+pub step_members-requires-clause-day : goal.step_members-requires-clause-day
+step_members-requires-clause-day g c =
+    let r = g.H.Held.rules c.args.held.now in let held = g.H.Held.held c.args.held.now in
+    let ready = subst (λ (s : Step). IsReady r held s) c.in-Members.is c.requires in ready.1
+
+pub step_members-requires-clause-live : goal.step_members-requires-clause-live
+step_members-requires-clause-live g c =
+    let r = g.H.Held.rules c.args.held.now in let held = g.H.Held.held c.args.held.now in
+    let ready = subst (λ (s : Step). IsReady r held s) c.in-Members.is c.requires in ready.0
+
+pub step_members-requires-clause-listed : goal.step_members-requires-clause-listed
+step_members-requires-clause-listed g c =
+    let r = g.H.Held.rules c.args.held.now in let held = g.H.Held.held c.args.held.now in
+    let ready = subst (λ (s : Step). IsReady r held s) c.in-Members.is c.requires in ready.2
+
+pub returns-in-Parts : goal.returns-in-Parts
+returns-in-Parts g c =
+    let r = g.H.Held.rules c.args.held.now in let held = g.H.Held.held c.args.held.now in
+    if_ok_then _ _ c.step_parts.result (λ x h. of_step r held c.args.step.now (step.Parts c.in-Parts.parts c.in-Parts.enclosing c.in-Parts.day) c.args.found x.0 c.args.runs x.1 c.args.steps.now c.step_parts.new.steps c.in-Parts.is h) c.step_parts.ensures
+
+pub returns-in-Members : goal.returns-in-Members
+returns-in-Members g c =
+    let r = g.H.Held.rules c.args.held.now in let held = g.H.Held.held c.args.held.now in
+    if_ok_then _ _ c.step_members.result (λ x h. of_step r held c.args.step.now (step.Members c.in-Members.quant c.in-Members.target c.in-Members.names c.in-Members.parts c.in-Members.enclosing c.in-Members.day) c.args.found x.0 c.args.runs x.1 c.args.steps.now c.step_members.new.steps c.in-Members.is h) c.step_members.ensures
