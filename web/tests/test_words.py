@@ -16,7 +16,7 @@ if not MISSING:
     from interview.words import BadWords, Words, beside
     from sennabasket import UNCERTAIN, UNKNOWN, Point, Rulebase, Timeline
 
-    BASE = Rulebase.describe(EXAMPLES / "food.txt", HERE.parents[1] / "tools" / "describe")
+    BASE = Rulebase.describe(EXAMPLES / "food.txt")
 
 
 @needs_site
@@ -65,7 +65,7 @@ class OfARulebase(unittest.TestCase):
 
     def test_the_examples_words_are_whole(self) -> None:
         for path in (HERE.parent / "policies").glob("*.words.toml"):
-            base = Rulebase.describe(EXAMPLES / path.name.replace(".words.toml", ".txt"), HERE.parents[1] / "tools" / "describe")
+            base = Rulebase.describe(EXAMPLES / path.name.replace(".words.toml", ".txt"))
             self.assertEqual(Words.read(base, path).faults(), [])
 
     def test_the_tool(self) -> None:
