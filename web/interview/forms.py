@@ -109,7 +109,7 @@ def act(case: Case, made: list[Field], saying: Saying, form: Any, is_strict: boo
             each.error, each.error_at = saying(wrong.key, **wrong.parts), wrong.at
         except Refused as refused:
             key = f"error_change_{refused.number if refused.sort == 'change' else 0}"
-            each.error = saying(key, bounds=fields.bounds(each.about, saying), printed=refused.printed)
+            each.error = saying(key, bounds=fields.bounds(each.about, saying, is_wrong=True), printed=refused.printed)
         except BadText:
             each.error = saying("error_text")
         each.error_at = each.error_at or (f"{each.key}-0" if each.is_list else each.control(each.key))

@@ -2,6 +2,7 @@
 from __future__ import annotations
 
 import secrets
+import shlex
 from collections.abc import Callable
 from datetime import date
 from functools import partial
@@ -196,8 +197,8 @@ class Views(Serving):
                 }
             )  # fmt: skip
         return self.show(
-            template, results=results, day=day, is_open=any(goal.state == "undecided" for goal in goals), base=self.site.base, today=date.today(),
-            groups=groups,
+            template, results=results, day=day, is_open=any(goal.state == "undecided" for goal in goals), file=quoted(words.base.name),
+            today=date.today(), groups=groups,
         )
 
     def result(self) -> Answer:
@@ -220,6 +221,11 @@ class Views(Serving):
         response = Response(text, content_type=sort)
         response.headers["Content-Disposition"] = f'attachment; filename="{name}"'
         return response
+
+
+def quoted(name: str) -> str:
+    """The name of a file as a word of a command."""
+    return shlex.quote(f"./{name}" if name.startswith("-") else name)
 
 
 def rows(goal: Goal, saying: Saying, said: Callable[[Any], str]) -> list[tuple[int, str, str]]:
