@@ -36,7 +36,7 @@ PERMIT: dict[str, Any] = {
     "Does the resident have a car?": True,
     "What is the length of the car?": "4.8",
 }
-PERMIT_REPLIES = "true\nfalse\ntrue\n4.8\n"
+PERMIT_REPLIES = "true\ntrue\nfalse\n4.8\n"
 FAMILY: dict[str, Any] = {
     "Which are the children?": ["Anna", "Ben"],
     "What is Anna's date of birth?": "2010-05-01",

@@ -2,6 +2,7 @@
 import json
 import os
 import pathlib
+import re
 import shutil
 import signal
 import sqlite3
@@ -31,7 +32,7 @@ def goals(rulebase: str, lines: list[str]) -> list[str]:
 def transcript(rulebase: str, replies: str) -> list[str]:
     """The goals at the end of the transcript of `opa interview` for these replies."""
     printed = run([found("opa"), "interview", rulebase], EXAMPLES, replies.splitlines(), MEMORY, 60).split("\n")[:-1]
-    return [line for line in printed if not line.startswith("[")]
+    return [line for line in printed if re.search(r" \((un)?(decided|settled)\)$", line)]
 
 
 @unittest.skipIf(missing(), missing())
@@ -154,6 +155,17 @@ class InABrowser(unittest.TestCase):
             driven.open(path), check(path)
         driven.open("/result?lang=en")
         self.assertEqual(usable.unreached(driven), [])
+
+    def test_the_checks_find_errors(self) -> None:
+        driven = self.driven(self.server("permit.txt"))
+        page = (
+            "<h1>A</h1><h3 style='color:%23aaa'>pale</h3><input id=a><input id=a><a href='%23b'></a><button style='width:9px;height:9px;padding:0'>x</button>"
+            "<label>one<input type=radio></label><table><tr><td>x</td></tr></table><svg></svg><p style='background:%23222'>dark</p><label for=c>c</label>"
+        )
+        driven.driver.get(f"data:text/html,{page}")
+        found = " ".join(usable.faults(driven))
+        for said in ("no language", "no title", "left out", "the id a", "names b", "no name: <input> a", "9 by 9", "without a question", "table", "without a title", "contrast of 2.3", "contrast of 1.3", "names c"):
+            self.assertIn(said, found)
 
     def test_the_first_tab_stop_skips_to_the_content(self) -> None:
         from selenium.webdriver.common.keys import Keys

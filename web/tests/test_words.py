@@ -77,6 +77,8 @@ class OfARulebase(unittest.TestCase):
                 run = lambda: subprocess.run([sys.executable, str(HERE.parent / "words"), str(main)], capture_output=True, text=True)
                 written = run()
                 self.assertEqual(written.returncode, 0)
+                main.with_name(f"{name}.words.toml").touch()
+                self.assertEqual(run().stdout, written.stdout)
                 main.with_name(f"{name}.words.toml").write_text(written.stdout)
                 self.assertEqual(beside(main), main.with_name(f"{name}.words.toml"))
                 self.assertEqual(run().stdout, f"{name}.words.toml: 0 faults\n")
