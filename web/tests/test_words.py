@@ -119,6 +119,14 @@ class Sayings(unittest.TestCase):
                 made.fill(held, saying)
                 self.assertEqual(made.said(saying), held)
 
+    def test_bounds(self) -> None:
+        from interview.fields import bounds
+
+        about = BASE.attributes["the monthly rent"]
+        self.assertEqual((bounds(about, Saying("en")), bounds(about, Saying("de"))), ("0 or more.", "0 oder mehr."))
+        self.assertEqual(bounds(about, Saying("en"), is_wrong=True), "0 or more. At most 2 digits after the decimal point.")
+        self.assertEqual(bounds(BASE.lists["the members"], Saying("en")), "")
+
     def test_days(self) -> None:
         about = BASE.attributes["the member's date of birth"]
         for parts in (("31", "2", "2024"), ("0", "1", "2024"), ("1", "13", "2024"), ("1", "1", "24"), ("１", "1", "2024"), ("1", "1", "1599"), ("1", "1", "2400"), ("", "1", "2024")):
