@@ -56,6 +56,12 @@ def fresh(case: Case, screen: Screen, words: Words, saying: Saying) -> list[Fiel
     return [each for each in made if each is not None]
 
 
+def progress(case: Case, still: int, made: list[Field]) -> tuple[int, int]:
+    """How many answers there are, and how many questions are open at least."""
+    kept = case.stats()
+    return kept["answers"] + kept["lists"], max(still, len(made))
+
+
 def held(case: Case, points: list[Point], words: Words, saying: Saying) -> list[Field]:
     """Fields with what is held; those whose instance has gone are left out."""
     found = []

@@ -126,7 +126,9 @@ class Interviews(SiteCase):
         browser = Browser(self.site("food.txt")).start()
         question = "Who lives with you, and buys and prepares food together with you?"
         browser.send({"On which day do you apply, or did you apply?": "2024-11-12"})
+        self.assertIn("You have given 1 answer.", browser.said)
         browser.send({question: ["Ada"]}, action="add-name:q0")
+        self.assertIn("You have given 1 answer.", browser.said)
         self.assertEqual(browser.filled("/questions")["q0-0"] + browser.filled("/questions")["q0-1"], ["Ada", ""])
         browser.send({question: ["Ada", "Bo"]}, action="remove-name:q0:0")
         self.assertEqual(browser.filled("/questions")["q0-0"], ["Bo"])
