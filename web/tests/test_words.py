@@ -147,6 +147,8 @@ class Pictures(unittest.TestCase):
                 self.assertAlmostEqual(sum(bar.width for bar in made.bars), 100)
                 self.assertAlmostEqual(made.bars[0].left, 0)
                 self.assertTrue(0 <= made.today <= 100)
+                places = [place for _, place in made.years]
+                self.assertTrue(all(two - one > 15 for one, two in zip(places, places[1:])), places)  # 37 of 245 pixels
                 self.assertTrue(all(0 <= bar.top and 0 < bar.height <= 60 for bar in made.bars))
 
 
