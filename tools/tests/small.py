@@ -9,7 +9,16 @@ import tempfile
 
 TOP = pathlib.Path(__file__).resolve().parents[2]
 TOOLS = ("source", "launch", "build", "release", "proving.py", "notices.py", "unproved")
+PROGRAMS = ("opa", "desk", "rules")
 PROGRAM = "#!/bin/sh\necho {} \"$@\"\n"
+# Stands in for the tests of `rules` that a release is to pass.
+RULES = """import os, unittest
+
+
+class Rules(unittest.TestCase):
+    def test_programs(self) -> None:
+        self.assertTrue(os.access(os.environ["RULES"], os.X_OK) and os.access(os.environ["OPA"], os.X_OK))
+"""
 
 # Does what `rt ci` does as far as tools/proving.py looks at it. A crate that has the word `wrong` isn't proved; with
 # the word `differs` everything is proved and built, and the program prints something else than it should.
@@ -18,7 +27,7 @@ case "$1" in
   version) cat "$KIT_OF_TEST" ;;
   doc) echo "$PROGRAMS_OF_TEST/kit/START-HERE.md" ;;
   ci)
-    for crate in low opa desk; do
+    for crate in low opa desk rules; do
       [ -d crates/$crate ] || continue
       if grep -q wrong crates/$crate/src/*; then
         echo "rt: $crate NOT PROVED"; echo "1 passed, 1 failed"; exit 1
@@ -26,7 +35,7 @@ case "$1" in
       mkdir -p crates/$crate/out
       echo "rt: $crate proved"
     done
-    for crate in opa desk; do
+    for crate in opa desk rules; do
       [ ! -d crates/$crate ] || cp "$PROGRAMS_OF_TEST/$crate" crates/$crate/out/$crate
     done
     if grep -q differs crates/opa/src/*; then
@@ -48,17 +57,18 @@ class Checkout:
         (self.top / "tools").mkdir(parents=True)
         for name in TOOLS:
             shutil.copy(TOP / "tools" / name, self.top / "tools")
-        for name in ("opa", "desk", "KIT", "HANDLES", "VERSION"):
+        for name in (*PROGRAMS, "KIT", "HANDLES", "VERSION"):
             shutil.copy(TOP / name, self.top)
-        crates = "# a note: none\nlow: std # the lowest: it uses std\ntests_low: low\nopa: low\ndesk: low\n"
+        crates = "# a note: none\nlow: std # the lowest: it uses std\ntests_low: low\nopa: low\ndesk: low\nrules: low\n"
         self.write("crates.txt", crates)
-        for name in ("low", "tests_low", "opa", "desk"):
+        for name in ("low", "tests_low", *PROGRAMS):
             self.write(f"crates/{name}/src/main.rt", f"// {name}\n")
         self.write("tools/stories.py", "print('1 passed, 0 failed')\n")
+        self.write("tools/tests/test_rules.py", RULES)
         self.write(".gitignore", "out/\n__pycache__/\n")
         self.programs = self.room / "programs"
         self.programs.mkdir()
-        for name in ("opa", "desk"):
+        for name in PROGRAMS:
             self.program(name, PROGRAM.format(f"proved {name}"))
         kit = self.programs / "kit"
         (kit / "rlibs" / "std.rlib" / "below" / "os").mkdir(parents=True)
@@ -107,13 +117,13 @@ class Checkout:
 
     def release(self, needs: str = "glibc 2.0") -> None:
         """Writes a release of these sources by hand."""
-        for name in ("opa", "desk"):
+        for name in PROGRAMS:
             self.write(f"release/{name}", PROGRAM.format(f"released {name}"), 0o755)
         for name in ("VERSION", "KIT"):
             self.write(f"release/{name}", (self.top / name).read_text())
         self.write("release/SOURCE", f"{self.source()}\n")
         self.write("release/NEEDS", f"{needs}\n")
         self.write("release/NOTICES", "none\n")
-        names = ("opa", "desk", "VERSION", "KIT", "SOURCE", "NEEDS", "NOTICES")
+        names = (*PROGRAMS, "VERSION", "KIT", "SOURCE", "NEEDS", "NOTICES")
         sums = [(hashlib.sha256((self.top / "release" / name).read_bytes()).hexdigest(), name) for name in names]
         self.write("release/SHA256SUMS", "".join(f"{sum}  {name}\n" for sum, name in sums))

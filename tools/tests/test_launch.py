@@ -23,6 +23,7 @@ class Launch(unittest.TestCase):
         self.checkout.release()
         self.assertEqual(self.checkout.run("./opa", "run", "a b")[:2], (0, "released opa run a b\n"))
         self.assertEqual(self.checkout.run("./desk")[:2], (0, "released desk\n"))
+        self.assertEqual(self.checkout.run("./rules", "describe", "x")[:2], (0, "released rules describe x\n"))
 
     def test_a_release_of_other_sources_does_not_run(self) -> None:
         self.checkout.release()
@@ -38,6 +39,17 @@ class Launch(unittest.TestCase):
         self.checkout.release()
         self.checkout.write("release/SHA256SUMS", "")
         self.refused("don't fit its checksums")
+
+    def test_a_release_without_rules(self) -> None:
+        """An earlier release is of other sources; one of these sources in which the program is missing is broken."""
+        self.checkout.release()
+        self.checkout.write("release/SOURCE", "the checksum of the sources of opa and desk\n")
+        (self.checkout.top / "release" / "rules").unlink()
+        status, printed, said = self.checkout.run("./rules", "describe", "x")
+        self.assertEqual((status, printed, said.count("\n")), (2, "", 1), said)
+        self.assertIn("rules: release/ is of other sources", said)
+        self.checkout.write("release/SOURCE", f"{self.checkout.source()}\n")
+        self.assertIn("rules: the files of release/ don't fit its checksums", self.checkout.run("./rules")[2])
 
     def test_a_later_c_library_is_named(self) -> None:
         self.checkout.release("glibc 99.1")
@@ -115,13 +127,13 @@ class Source(unittest.TestCase):
         self.assertRegex(self.first, r"^[0-9a-f]{64}$")
 
     def test_what_the_programs_stand_on_changes_it(self) -> None:
-        for name in ("KIT", "HANDLES", "crates/low/src/main.rt", "crates/opa/proofs/F/Proof.antt"):
+        for name in ("KIT", "HANDLES", "crates/low/src/main.rt", "crates/opa/proofs/F/Proof.antt", "crates/rules/src/b.rt"):
             before = self.checkout.source()
             self.checkout.write(name, "other\n")
             self.assertNotEqual(self.checkout.source(), before, name)
 
     def test_a_line_of_crates_txt_changes_it(self) -> None:
-        self.checkout.write("crates.txt", "low: std csv\ntests_low: low\nopa: low\ndesk: low\n")
+        self.checkout.write("crates.txt", "low: std csv\ntests_low: low\nopa: low\ndesk: low\nrules: low\n")
         self.assertNotEqual(self.checkout.source(), self.first)
 
     def test_nothing_else_changes_it(self) -> None:
@@ -130,8 +142,9 @@ class Source(unittest.TestCase):
         self.assertEqual(self.checkout.source(), self.first)
 
     def test_without_the_programs_there_is_none(self) -> None:
-        self.checkout.write("crates.txt", "low: std\n")
-        self.assertNotEqual(self.checkout.run("tools/source")[0], 0)
+        for text in ("low: std\n", "low: std\nopa: low\ndesk: low\n"):
+            self.checkout.write("crates.txt", text)
+            self.assertNotEqual(self.checkout.run("tools/source")[0], 0)
 
 
 if __name__ == "__main__":

@@ -3,7 +3,7 @@ import os
 import shutil
 import unittest
 
-from small import Checkout
+from small import PROGRAMS, Checkout
 
 
 class Release(unittest.TestCase):
@@ -11,7 +11,7 @@ class Release(unittest.TestCase):
         self.checkout = Checkout()
         self.addCleanup(self.checkout.close)
         # Programs of this machine, since a release is of x86-64 and reads which C library it wants.
-        for name in ("opa", "desk"):
+        for name in PROGRAMS:
             shutil.copy("/bin/true", self.checkout.programs / name)
 
     def made(self) -> None:
@@ -29,7 +29,9 @@ class Release(unittest.TestCase):
         self.made()
         release = self.checkout.top / "release"
         self.assertEqual((release / "opa").read_bytes(), (self.checkout.programs / "opa").read_bytes())
-        self.assertTrue(os.access(release / "desk", os.X_OK))
+        for name in PROGRAMS:
+            self.assertTrue(os.access(release / name, os.X_OK))
+            self.assertIn(f"  {name}\n", (release / "SHA256SUMS").read_text())
         self.assertEqual((release / "SOURCE").read_text().strip(), self.checkout.source())
         self.assertRegex((release / "NEEDS").read_text(), r"^glibc 2\.\d+\n$")
         notices = (release / "NOTICES").read_text()
@@ -64,6 +66,13 @@ class Release(unittest.TestCase):
         self.assertEqual(self.checkout.run("tools/release")[0], 1)
         self.checked(3)
 
+    def test_it_is_not_made_if_a_test_of_rules_fails(self) -> None:
+        self.checkout.write("tools/tests/test_rules.py", "raise ValueError\n")
+        self.checkout.commit()
+        status, _, said = self.checkout.run("tools/release")
+        self.assertEqual((status, "a test of rules fails" in said), (1, True), said)
+        self.checked(3)
+
     def test_it_is_not_made_if_the_gate_built_other_bytes(self) -> None:
         self.checkout.write("crates/opa/out/opa", "other\n", 0o755)
         self.checkout.commit()
@@ -88,18 +97,27 @@ class Release(unittest.TestCase):
         (self.checkout.top / "release" / "desk").unlink()
         self.checked(5, "isn't there")
 
+    def test_check_of_a_release_without_rules(self) -> None:
+        """An earlier release had opa and desk only."""
+        self.made()
+        release = self.checkout.top / "release"
+        (release / "rules").unlink()
+        self.checked(5, "isn't there")
+        (release / "SOURCE").write_text("the checksum of the sources of opa and desk\n")
+        self.checked(4, "of other sources")
+
     def test_check_of_what_was_built_here(self) -> None:
         self.made()
-        for name in ("opa", "desk"):
+        for name in PROGRAMS:
             built = self.checkout.top / "crates" / name / "out"
             built.mkdir()
             shutil.copy(self.checkout.programs / name, built)
-        self.checked(0, "opa and desk as built here, byte for byte")
+        self.checked(0, "opa, desk and rules as built here, byte for byte")
         self.checkout.write("crates/desk/out/desk", "other\n")
         self.checked(6, "release/desk isn't byte for byte")
         # What a stamp says to be of other sources isn't compared.
         self.checkout.write("crates/desk/out/desk.source", "other sum\n")
-        self.checked(0, "opa as built here")
+        self.checked(0, "opa and rules as built here")
 
 
 if __name__ == "__main__":

@@ -29,6 +29,13 @@ class Counts(unittest.TestCase):
         self.assertEqual(test.unit_tests(0, "Ran 29 tests in 14.040s\n\nOK\n"), (29, 0))
         self.assertEqual(test.unit_tests(1, "Ran 29 tests in 1s\n\nFAILED (failures=1, errors=2)\n"), (26, 3))
         self.assertEqual(test.unit_tests(1, "no module\n"), (0, 1))
+        self.assertEqual(test.unit_tests(0, "Ran 9 tests in 1s\n\nOK (skipped=9)\n"), (0, 0))
+        self.assertEqual(test.unit_tests(1, "Ran 9 tests in 1s\n\nFAILED (errors=1, skipped=2)\n"), (6, 1))
+
+    def test_reasons(self) -> None:
+        said = "a (x.A.a) ... skipped 'no cc'\nb ... ok\nc ... skipped \"it isn't there\"\nd ... skipped 'no cc'\n"
+        self.assertEqual(test.reasons(said), ["no cc", "it isn't there"])
+        self.assertEqual(test.reasons("a ... ok\n"), [])
 
     def test_the_first_version_of_the_changes(self) -> None:
         with tempfile.TemporaryDirectory() as held, mock.patch.object(test, "TOP", pathlib.Path(held)):

@@ -42,7 +42,7 @@ def create_app(
 ) -> Flask:
     """The application; a rulebase that isn't accepted raises RulebaseRefused with its refusal."""
     main = pathlib.Path(rulebase).resolve()
-    base = Rulebase.describe(main, describe or TOP / "tools" / "describe", opa)
+    base = Rulebase.describe(main, describe, opa)
     cases = Cases(base, desk=desk, opa=opa, seconds=seconds, **({"memory": memory} if memory else {}))
     said = Words.read(base, pathlib.Path(words) if words else beside(main, TOP / "web" / "policies"))
     kept = Store(pathlib.Path(store or TOP / "out" / "cases.sqlite"), base.name, days)

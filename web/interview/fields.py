@@ -151,7 +151,7 @@ class Field:
             values.number(number if number is not None else values.GREATEST * 2)
         except BadText:
             if number is not None and abs(number) <= values.GREATEST:
-                raise Wrong("error_change_3", at, bounds=bounds(self.about, saying)) from None
+                raise Wrong("error_change_3", at, bounds=bounds(self.about, saying, is_wrong=True)) from None
             raise Wrong("error_number", at, example=saying.number(values.Decimal("1250.5"), 2)) from None
         assert number is not None
         return number
@@ -200,8 +200,8 @@ def day_of(piece: Piece, key: str) -> date:
     return day
 
 
-def bounds(about: Attribute | Listed, saying: Saying) -> str:
-    """What the declaration says of a number, in a sentence."""
+def bounds(about: Attribute | Listed, saying: Saying, is_wrong: bool = False) -> str:
+    """What the declaration says of a number, in sentences; of an amount its decimals only if something is wrong."""
     if not isinstance(about, Attribute) or about.kind not in ("number", "currency"):
         return ""
     said = {key: saying.number(values.Decimal(text)) for key, text in (("least", about.least), ("most", about.most)) if text is not None}
@@ -209,6 +209,8 @@ def bounds(about: Attribute | Listed, saying: Saying) -> str:
     parts = [saying(key, **said)] if key else []
     if about.decimals == 0:
         parts.append(saying("decimals_0"))
+    elif about.decimals is not None and (is_wrong or about.kind == "number" and about.decimals < 4):
+        parts.append(saying("decimals_1" if about.decimals == 1 else "decimals_many", count=about.decimals))
     return " ".join(parts)
 
 

@@ -56,6 +56,12 @@ def fresh(case: Case, screen: Screen, words: Words, saying: Saying) -> list[Fiel
     return [each for each in made if each is not None]
 
 
+def progress(case: Case, still: int, made: list[Field]) -> tuple[int, int]:
+    """How many answers there are, and how many questions are open at least."""
+    kept = case.stats()
+    return kept["answers"] + kept["lists"], max(still, len(made))
+
+
 def held(case: Case, points: list[Point], words: Words, saying: Saying) -> list[Field]:
     """Fields with what is held; those whose instance has gone are left out."""
     found = []
@@ -109,7 +115,7 @@ def act(case: Case, made: list[Field], saying: Saying, form: Any, is_strict: boo
             each.error, each.error_at = saying(wrong.key, **wrong.parts), wrong.at
         except Refused as refused:
             key = f"error_change_{refused.number if refused.sort == 'change' else 0}"
-            each.error = saying(key, bounds=fields.bounds(each.about, saying), printed=refused.printed)
+            each.error = saying(key, bounds=fields.bounds(each.about, saying, is_wrong=True), printed=refused.printed)
         except BadText:
             each.error = saying("error_text")
         each.error_at = each.error_at or (f"{each.key}-0" if each.is_list else each.control(each.key))

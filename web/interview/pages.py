@@ -2,6 +2,7 @@
 from __future__ import annotations
 
 import secrets
+import shlex
 from collections.abc import Callable
 from datetime import date
 from functools import partial
@@ -71,14 +72,14 @@ class Views(Serving):
             screen, still = forms.needed(case)
             if screen is None:
                 return None
-            held = case.stats()
-            return screen, len(still), held["answers"] + held["lists"], forms.fresh(case, screen, self.site.words, g.saying), len(kept.pages)
+            made = forms.fresh(case, screen, self.site.words, g.saying)
+            return screen, made, forms.progress(case, len(still), made), len(kept.pages)
 
         found = self.look(what)
         if found is None:
             return redirect("/result", 303)
-        screen, still, given, made, pages = found
-        return self.form(made, title_of_screen=screen.title, progress=(given, max(still, len(made))), back=f"/page/{pages - 1}" if pages else "/")
+        screen, made, progress, pages = found
+        return self.form(made, title_of_screen=screen.title, progress=progress, back=f"/page/{pages - 1}" if pages else "/")
 
     def form(self, made: list[fields.Field], status: int = 200, **parts: Any) -> Answer:
         groups: list[tuple[str | None, list[fields.Field]]] = []
@@ -96,6 +97,7 @@ class Views(Serving):
     def sent(self, number: int | None, one: Point | None = None) -> Answer:
         """Answers that were sent: of the questions' page, of an earlier page by its number, or of one point."""
         parts: dict[str, Any] = {"title_of_screen": request.form.get("title", "")[:1000], "progress": None, "back": "/questions"}
+        is_next = number is None and one is None
         if number is not None:
             parts |= {"back": f"/page/{number - 1}" if number else "/", "is_earlier": True}
         if one is not None:
@@ -103,8 +105,10 @@ class Views(Serving):
 
         def what(case: Case, kept: Kept) -> tuple[list[fields.Field], bool, int]:
             made = forms.sent(case, self.site.words, g.saying, request.form, one)
-            is_done = forms.act(case, made, g.saying, request.form, is_strict=number is not None or one is not None)
-            if is_done and number is None and one is None:
+            is_done = forms.act(case, made, g.saying, request.form, is_strict=not is_next)
+            if is_next and not is_done:
+                parts["progress"] = forms.progress(case, len(forms.needed(case)[1]), made)
+            if is_done and is_next:
                 page = [(each.point.phrase, each.point.of) for each in made]
                 if not kept.pages or kept.pages[-1] != page:
                     kept.pages = [*kept.pages, page][-forms.MOST_PAGES :]
@@ -112,7 +116,7 @@ class Views(Serving):
 
         made, is_done, pages = self.site.live.change(g.token, what)
         if not is_done:
-            if number is None and one is None and pages:
+            if is_next and pages:
                 parts["back"] = f"/page/{pages - 1}"
             return self.form(made, 422 if any(each.error for each in made) else 200, **parts)
         if one is not None:
@@ -196,8 +200,8 @@ class Views(Serving):
                 }
             )  # fmt: skip
         return self.show(
-            template, results=results, day=day, is_open=any(goal.state == "undecided" for goal in goals), base=self.site.base, today=date.today(),
-            groups=groups,
+            template, results=results, day=day, is_open=any(goal.state == "undecided" for goal in goals), file=quoted(words.base.name),
+            today=date.today(), groups=groups,
         )
 
     def result(self) -> Answer:
@@ -220,6 +224,11 @@ class Views(Serving):
         response = Response(text, content_type=sort)
         response.headers["Content-Disposition"] = f'attachment; filename="{name}"'
         return response
+
+
+def quoted(name: str) -> str:
+    """The name of a file as a word of a command."""
+    return shlex.quote(f"./{name}" if name.startswith("-") else name)
 
 
 def rows(goal: Goal, saying: Saying, said: Callable[[Any], str]) -> list[tuple[int, str, str]]:

@@ -74,6 +74,6 @@ class Why:
         """The rule's own text, and where it stands; of a table its heads and records are too many to be shown."""
         rule = self.words.base.attributes[line.point.phrase].rule
         assert rule is not None
-        if any(table["file"] == rule.file for table in self.words.base.document.get("tables", ())):
+        if self.words.base.is_table(rule.file):
             return [], self.saying("why_table", file=rule.file)
         return self.words.base.text_of(rule.file, rule.line, rule.last_line), self.saying("why_text", file=rule.file, line=rule.line)

@@ -49,7 +49,7 @@ class Server:
             words + (["--workers", str(workers)] if workers else []), stdout=subprocess.DEVNULL, stderr=subprocess.DEVNULL
         )
         self.address = f"http://127.0.0.1:{self.port}"
-        for _ in range(200):
+        for _ in range(900):
             try:
                 urllib.request.urlopen(self.address + "/", timeout=2).close()
                 return

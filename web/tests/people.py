@@ -36,6 +36,16 @@ PERMIT: dict[str, Any] = {
     "Does the resident have a car?": True,
     "What is the length of the car?": "4.8",
 }
+PERMIT_REPLIES = "true\ntrue\nfalse\n4.8\n"
+FAMILY: dict[str, Any] = {
+    "Which are the children?": ["Anna", "Ben"],
+    "What is Anna's date of birth?": "2010-05-01",
+    "What is Ben's date of birth?": "2015-09-10",
+    "What is Anna's last day in approved education?": "2028-06-30",
+    "What is Ben's last day in approved education?": "2033-06-30",
+    "What is the adjusted net income?": "62000",
+}
+FAMILY_REPLIES = '"Anna", "Ben"\n2010-05-01\n2015-09-10\n2028-06-30\n2033-06-30\n62000\n'
 
 
 def renamed(person: dict[str, Any], name: str) -> dict[str, Any]:

@@ -1,13 +1,19 @@
 """Whole interviews in Chromium, driven by selenium."""
-import pathlib
-import sqlite3
 import json
+import os
+import pathlib
+import re
+import shutil
+import signal
+import sqlite3
+import subprocess
 import tempfile
 import unittest
 
+import usable
 from browsing import EXAMPLES
 from driving import Driven, Server, missing
-from people import ADA, GOALS, PERMIT, renamed
+from people import ADA, FAMILY, FAMILY_REPLIES, GOALS, PERMIT, PERMIT_REPLIES, renamed
 from sennabasket.program import MEMORY, found, run
 
 WIDTHS = (320, 768, 1280)
@@ -19,7 +25,14 @@ def kept(store: pathlib.Path) -> list[list[str]]:
 
 
 def goals(rulebase: str, lines: list[str]) -> list[str]:
-    return run([found("opa"), "run", rulebase], EXAMPLES, [*lines, "goals"], MEMORY, 20).split("\n")[:-1]
+    """The goals as `opa run` prints them over kept lines."""
+    return run([found("opa"), "run", rulebase], EXAMPLES, [*lines, "goals"], MEMORY, 60).split("\n")[:-1]
+
+
+def transcript(rulebase: str, replies: str) -> list[str]:
+    """The goals at the end of the transcript of `opa interview` for these replies."""
+    printed = run([found("opa"), "interview", rulebase], EXAMPLES, replies.splitlines(), MEMORY, 60).split("\n")[:-1]
+    return [line for line in printed if re.search(r" \((un)?(decided|settled)\)$", line)]
 
 
 @unittest.skipIf(missing(), missing())
@@ -51,6 +64,7 @@ class InABrowser(unittest.TestCase):
             driven.answer(ADA)
         self.assertEqual(driven.path, "/result")
         self.assertEqual(goals("food.txt", kept(self.store)[0]), GOALS)
+        self.assertEqual(transcript("food.txt", (EXAMPLES / "food_ada_replies.txt").read_text()), GOALS)
         for text in ("204.00 dollars a month", "129.00 dollars", "12 December 2024", "Settled"):
             self.assertIn(text, driven.text)
         for path in ("/result", "/answers", "/print", "/page/3", "/nowhere", "/?lang=de"):
@@ -78,6 +92,7 @@ class InABrowser(unittest.TestCase):
         driven.press(lambda: length.send_keys("4.8" + Keys.ENTER))
         self.assertEqual(driven.path, "/result")
         self.assertEqual(goals("permit.txt", kept(self.store)[0]), ["the resident is entitled: true (settled)", "the yearly fee: 90.00 (settled)"])
+        self.assertEqual(goals("permit.txt", kept(self.store)[0]), transcript("permit.txt", PERMIT_REPLIES))
         driven.open("/questions")
         driven.open("/page/2")
         driven.press(driven.one("a.back").click)
@@ -98,6 +113,59 @@ class InABrowser(unittest.TestCase):
         driven.open("/result")
         self.assertEqual(goals("permit.txt", kept(self.store)[0])[1], "the yearly fee: 90.00; from 2025-05-01 0.00 (settled)")
         self.assertEqual(len(driven.all("svg.line")), 2)
+
+    def test_child_benefit(self) -> None:
+        """A second policy, with amounts that change over time: the same goals as the transcript, and a picture of each line."""
+        driven = self.driven(self.server("child_benefit.txt"))
+        driven.start()
+        driven.interview(FAMILY)
+        self.assertEqual(driven.path, "/result")
+        wanted = transcript("child_benefit.txt", FAMILY_REPLIES)
+        self.assertEqual(goals("child_benefit.txt", kept(self.store)[0]), wanted)
+        self.assertIn("from 2025-04-07 38.97", wanted[1])
+        driven.open("/result?at=2025-06-01")
+        self.assertEqual([each.text for each in driven.all(".now strong")], ["43.30", "38.97"])
+        self.assertEqual(len(driven.all("svg.line")), 2)
+        self.assertGreater(len(driven.all("svg.line rect.bar")), 8)
+        self.assertIn("from 7 April 2025", driven.text)
+        driven.open("/print?at=2025-06-01")
+        self.assertEqual(len(driven.all("details:not([open])")), 0)
+
+    def test_each_page_is_usable(self) -> None:
+        """The checks of usable.py over each page, at the smallest and the largest width; and all of a page by the keyboard."""
+        driven = self.driven(self.server("food.txt"))
+
+        def check(name: str) -> None:
+            for width in (320, 1280):
+                driven.width(width)
+                self.assertEqual(usable.faults(driven), [], (name, width))
+
+        driven.open("/"), check("the start")
+        driven.start(), check("the first questions")
+        driven.fill("On which day do you apply, or did you apply?", "2024-02-31")
+        driven.go(), check("a wrong day")
+        driven.answer(ADA)
+        driven.fill("Who lives with you, and buys and prepares food together with you?", ["Ada", "Bo"])
+        check("names")
+        driven.open("/questions")
+        driven.answer(ADA), check("questions of a person")
+        self.assertEqual(usable.unreached(driven), [])
+        driven.interview(ADA)
+        for path in ("/result", "/answers", "/print", "/page/2", "/change?phrase=the+monthly+rent", "/change?phrase=the+members", "/nowhere", "/?lang=de", "/result?lang=de"):
+            driven.open(path), check(path)
+        driven.open("/result?lang=en")
+        self.assertEqual(usable.unreached(driven), [])
+
+    def test_the_checks_find_errors(self) -> None:
+        driven = self.driven(self.server("permit.txt"))
+        page = (
+            "<h1>A</h1><h3 style='color:%23aaa'>pale</h3><input id=a><input id=a><a href='%23b'></a><button style='width:9px;height:9px;padding:0'>x</button>"
+            "<label>one<input type=radio></label><table><tr><td>x</td></tr></table><svg></svg><p style='background:%23222'>dark</p><label for=c>c</label>"
+        )
+        driven.driver.get(f"data:text/html,{page}")
+        found = " ".join(usable.faults(driven))
+        for said in ("no language", "no title", "left out", "the id a", "names b", "no name: <input> a", "9 by 9", "without a question", "table", "without a title", "contrast of 2.3", "contrast of 1.3", "names c"):
+            self.assertIn(said, found)
 
     def test_the_first_tab_stop_skips_to_the_content(self) -> None:
         from selenium.webdriver.common.keys import Keys
@@ -149,6 +217,20 @@ class InABrowser(unittest.TestCase):
         for _ in range(3):
             server.kill()
             server = self.server("permit.txt", port=server.port)
+            driven.answer(PERMIT)
+        self.assertEqual(driven.path, "/result")
+        self.assertIn("90.00", driven.text)
+
+    @unittest.skipUnless(shutil.which("gunicorn"), "gunicorn isn't installed (Debian: gunicorn)")
+    def test_workers(self) -> None:
+        """With several workers, of which one is killed after each page: whichever answers goes on where the interview was."""
+        server = self.server("permit.txt", workers=3)
+        driven = self.driven(server)
+        driven.start()
+        for _ in range(3):
+            workers = subprocess.run(["ps", "-o", "pid=", "--ppid", str(server.process.pid)], capture_output=True, text=True).stdout.split()
+            self.assertTrue(workers)
+            os.kill(int(workers[0]), signal.SIGKILL)
             driven.answer(PERMIT)
         self.assertEqual(driven.path, "/result")
         self.assertIn("90.00", driven.text)

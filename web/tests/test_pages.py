@@ -126,7 +126,9 @@ class Interviews(SiteCase):
         browser = Browser(self.site("food.txt")).start()
         question = "Who lives with you, and buys and prepares food together with you?"
         browser.send({"On which day do you apply, or did you apply?": "2024-11-12"})
+        self.assertIn("You have given 1 answer.", browser.said)
         browser.send({question: ["Ada"]}, action="add-name:q0")
+        self.assertIn("You have given 1 answer.", browser.said)
         self.assertEqual(browser.filled("/questions")["q0-0"] + browser.filled("/questions")["q0-1"], ["Ada", ""])
         browser.send({question: ["Ada", "Bo"]}, action="remove-name:q0:0")
         self.assertEqual(browser.filled("/questions")["q0-0"], ["Bo"])
@@ -179,7 +181,7 @@ class Faults(SiteCase):
         browser.send({"Does the resident live in the street?": True, "Does the resident have a garage?": False})
         browser.send({"Does the resident have a car?": True})
         question = "What is the length of the car?"
-        for typed, said in (("25", "From 0 to 20"), ("-1", "From 0 to 20"), ("4.123", "outside"), ("long", "Write a number"), ("1e3", "Write a number"), ("4.56789", "outside"), ("99999999999999999", "Write a number"), ("٣", "Write a number")):
+        for typed, said in (("25", "From 0 to 20"), ("-1", "From 0 to 20"), ("4.123", "At most 2 digits after the decimal point"), ("long", "Write a number"), ("1e3", "Write a number"), ("4.56789", "outside"), ("99999999999999999", "Write a number"), ("٣", "Write a number")):
             browser.send({question: typed})
             self.assertEqual(browser.status, 422, typed)
             self.assertIn(said, browser.said)
@@ -237,6 +239,8 @@ class Downloads(SiteCase):
         app = self.site("food.txt")
         browser = Browser(app).start()
         interview(browser, ADA)
+        for number in range(1, 5):
+            self.assertIn(f"opa verify food.txt report{number}.txt\n", browser.text)
         opa = app.extensions["site"].live.cases.opa
         with tempfile.TemporaryDirectory() as folder:
             report = pathlib.Path(folder) / "report2.txt"

@@ -340,8 +340,11 @@ class Programs(SiteCase):
             file.write_text("goal the weather\n")
             done = subprocess.run([sys.executable, str(HERE.parent / "run"), str(file), "--store", f"{folder}/c.sqlite"], capture_output=True, text=True, timeout=60)
             self.assertEqual((done.returncode, done.stdout), (1, "refused: rulebase 3 bad.txt:1\n"))
+            self.assertIn("bad.txt, line 1: 'goal the weather': a phrase", done.stderr)
+            self.assertIn("Nothing is served", done.stderr)
             done = subprocess.run([sys.executable, str(HERE.parent / "run"), f"{folder}/none.txt"], capture_output=True, text=True, timeout=60)
             self.assertEqual(done.returncode, 1)
+            self.assertIn("isn't there", done.stderr)
 
     def test_goals_are_the_programs(self) -> None:
         app = self.site()

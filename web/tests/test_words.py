@@ -16,7 +16,7 @@ if not MISSING:
     from interview.words import BadWords, Words, beside
     from sennabasket import UNCERTAIN, UNKNOWN, Point, Rulebase, Timeline
 
-    BASE = Rulebase.describe(EXAMPLES / "food.txt", HERE.parents[1] / "tools" / "describe")
+    BASE = Rulebase.describe(EXAMPLES / "food.txt")
 
 
 @needs_site
@@ -65,7 +65,7 @@ class OfARulebase(unittest.TestCase):
 
     def test_the_examples_words_are_whole(self) -> None:
         for path in (HERE.parent / "policies").glob("*.words.toml"):
-            base = Rulebase.describe(EXAMPLES / path.name.replace(".words.toml", ".txt"), HERE.parents[1] / "tools" / "describe")
+            base = Rulebase.describe(EXAMPLES / path.name.replace(".words.toml", ".txt"))
             self.assertEqual(Words.read(base, path).faults(), [])
 
     def test_the_tool(self) -> None:
@@ -77,6 +77,8 @@ class OfARulebase(unittest.TestCase):
                 run = lambda: subprocess.run([sys.executable, str(HERE.parent / "words"), str(main)], capture_output=True, text=True)
                 written = run()
                 self.assertEqual(written.returncode, 0)
+                main.with_name(f"{name}.words.toml").touch()
+                self.assertEqual(run().stdout, written.stdout)
                 main.with_name(f"{name}.words.toml").write_text(written.stdout)
                 self.assertEqual(beside(main), main.with_name(f"{name}.words.toml"))
                 self.assertEqual(run().stdout, f"{name}.words.toml: 0 faults\n")
@@ -117,6 +119,14 @@ class Sayings(unittest.TestCase):
                 made.fill(held, saying)
                 self.assertEqual(made.said(saying), held)
 
+    def test_bounds(self) -> None:
+        from interview.fields import bounds
+
+        about = BASE.attributes["the monthly rent"]
+        self.assertEqual((bounds(about, Saying("en")), bounds(about, Saying("de"))), ("0 or more.", "0 oder mehr."))
+        self.assertEqual(bounds(about, Saying("en"), is_wrong=True), "0 or more. At most 2 digits after the decimal point.")
+        self.assertEqual(bounds(BASE.lists["the members"], Saying("en")), "")
+
     def test_days(self) -> None:
         about = BASE.attributes["the member's date of birth"]
         for parts in (("31", "2", "2024"), ("0", "1", "2024"), ("1", "13", "2024"), ("1", "1", "24"), ("１", "1", "2024"), ("1", "1", "1599"), ("1", "1", "2400"), ("", "1", "2024")):
@@ -137,6 +147,8 @@ class Pictures(unittest.TestCase):
                 self.assertAlmostEqual(sum(bar.width for bar in made.bars), 100)
                 self.assertAlmostEqual(made.bars[0].left, 0)
                 self.assertTrue(0 <= made.today <= 100)
+                places = [place for _, place in made.years]
+                self.assertTrue(all(two - one > 15 for one, two in zip(places, places[1:])), places)  # 37 of 245 pixels
                 self.assertTrue(all(0 <= bar.top and 0 < bar.height <= 60 for bar in made.bars))
 
 

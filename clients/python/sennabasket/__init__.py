@@ -1,6 +1,6 @@
 """A client for `opa` and `desk`: cases over a rulebase, with values of Python.
 
-    base = Rulebase.describe("examples/food.txt", "tools/describe")
+    base = Rulebase.describe("examples/food.txt")
     with Cases(base) as cases:
         case = cases.open()
         case.list("the members", ["Ada"])

@@ -1,6 +1,8 @@
 """What can go wrong: each fault is an exception of its own, and all of them are of one family."""
 from __future__ import annotations
 
+import re
+
 MEANINGS = {
     ("command", 1): "the line has not the form of a command",
     ("command", 2): "nothing that is declared has this phrase",
@@ -14,6 +16,20 @@ MEANINGS = {
     ("undo", 0): "nothing is supposed",
     ("cases", 0): "too many cases are open",
     ("line", 0): "the line is too long, or has no case's name",
+}
+
+
+# What `refused: rulebase N` means.
+REFUSALS = {
+    1: "this file isn't UTF-8",
+    2: "this block is not well formed: its layout, a connector, a date or a number",
+    3: "a phrase, a verb or an entity here isn't declared, or the rule is about something that isn't an attribute",
+    4: "this goal isn't global, or the rule uses something of an entity that it isn't about",
+    5: "a kind, a number of decimals or a number of days that isn't allowed here",
+    6: "a second rule for one attribute, or something declared or named twice",
+    7: "this rule goes round in a circle with those whose phrases are listed",
+    8: "a limit is reached",
+    9: "a file that is named here, or the main file, isn't there",
 }
 
 
@@ -38,11 +54,14 @@ class Refused(Fault):
 
 
 class RulebaseRefused(Fault):
-    """The rulebase isn't accepted: `printed` is `refused: rulebase N FILE:LINE`."""
+    """The rulebase isn't accepted: `printed` as it stands (`refused: rulebase N FILE:LINE`), its `number`, `file`, `line` and `words`."""
 
     def __init__(self, printed: str) -> None:
         self.printed = printed
-        super().__init__(printed)
+        found = re.match(r"refused: rulebase (\d+) (.*):(\d+)$", printed, re.M)
+        self.number, self.file, self.line = (int(found[1]), found[2], int(found[3])) if found else (0, "", 0)
+        self.words = REFUSALS.get(self.number, "the rulebase isn't accepted")
+        super().__init__(f"{printed}: {self.words}")
 
 
 class ProgramDied(Fault):

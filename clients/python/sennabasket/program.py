@@ -4,6 +4,7 @@ Both run in the rulebase's folder, since that is where the files of a rulebase a
 """
 from __future__ import annotations
 
+import functools
 import os
 import pathlib
 import selectors
@@ -19,13 +20,25 @@ MOST_PRINTED = 64 << 20
 MOST_GIVEN = 60 << 20  # a program takes 64 MiB of input and then ends; it is started again before
 
 
+@functools.cache
+def of_repository(name: str) -> tuple[str, str]:
+    """The program that the repository's launcher runs (built here of these sources, or released), or why there is none."""
+    try:
+        done = subprocess.run([TOP / name, "--which"], stdin=subprocess.DEVNULL, capture_output=True, text=True, timeout=120)
+    except (OSError, subprocess.SubprocessError) as error:
+        return "", str(error)
+    return (done.stdout.strip(), "") if done.returncode == 0 else ("", done.stderr.strip())
+
+
 def found(name: str, given: str | None = None) -> str:
-    """The program of this name: the given one, the one that the environment names (OPA, DESK), or the repository's, if it is built."""
+    """The program of this name: the given one, the one that the environment names (OPA, DESK, RULES), or the repository's."""
     path = given or os.environ.get(name.upper())
-    if not path and not (TOP / "crates" / name / "out" / name).is_file():
-        raise ProgramDied(f"./{name} isn't built yet: build it by running ./{name} once, or name a program by {name.upper()}=PATH")
-    path = path or str(TOP / name)
-    return str(pathlib.Path(path).resolve()) if "/" in path else path
+    if path:
+        return str(pathlib.Path(path).resolve()) if "/" in path else path
+    path, why = of_repository(name)
+    if not path:
+        raise ProgramDied(f"{why} (or name a program by {name.upper()}=PATH)")
+    return path
 
 
 def bounded(words: list[str], memory: int, seconds: float | None = None) -> list[str]:

@@ -11,7 +11,7 @@ from collections.abc import Mapping
 from dataclasses import dataclass, field
 from typing import Any
 
-from . import texts
+from . import program, texts
 from .errors import Fault, RulebaseRefused
 
 FORMAT = {"name": "sennabasket description", "version": 1}
@@ -118,15 +118,24 @@ class Rulebase:
         )
 
     @classmethod
-    def describe(cls, rulebase: pathlib.Path | str, describe: pathlib.Path | str, opa: str | None = None) -> Rulebase:
-        """Runs the program that describes rulebases, and takes what it prints: `rules`, where the environment names one as RULES."""
-        path, rules = pathlib.Path(rulebase), os.environ.get("RULES")
-        if rules:
-            rules = str(pathlib.Path(rules).resolve()) if "/" in rules else rules
-        words = [rules, "describe", path.name] if rules else [sys.executable, str(describe), str(path)] + (["--opa", opa] if opa else [])
+    def describe(
+        cls, rulebase: pathlib.Path | str, describe: pathlib.Path | str | None = None, opa: str | None = None, rules: str | None = None
+    ) -> Rulebase:
+        """Runs the program that describes rulebases, and takes what it prints.
+
+        It is the proved program `rules`, if it is given, named by the environment as RULES, or there in the repository; else
+        tools/describe. Another program that is given as `describe` is run in place of the repository's.
+        """
+        path, given = pathlib.Path(rulebase), rules or os.environ.get("RULES")
+        proved = program.found("rules", given) if given else "" if describe else program.of_repository("rules")[0]
+        if proved:
+            words = [proved, "describe", path.name]
+        else:
+            words = [sys.executable, str(describe or program.TOP / "tools" / "describe"), str(path)]
+            words += ["--opa", program.found("opa", opa)] if opa or not describe else []
         try:
-            done = subprocess.run(words, cwd=path.parent if rules else None, capture_output=True, text=True, timeout=120)
-        except OSError as error:
+            done = subprocess.run(words, cwd=path.parent if proved else None, capture_output=True, text=True, timeout=120)
+        except (OSError, subprocess.SubprocessError) as error:
             raise Fault(f"the rulebase can't be described: {error}") from error
         if done.returncode == 1:
             raise RulebaseRefused(done.stdout.strip())
@@ -145,6 +154,13 @@ class Rulebase:
         if about is None:
             raise Fault(f"nothing has this question: {text[:200]}")
         return Question(text, Point(about.phrase, point.of), about)
+
+    def is_table(self, file: str) -> bool:
+        """Whether a file of the rulebase is a table; the main file says so, whichever program has described it."""
+        if not hasattr(self, "_tables"):
+            said = (self.folder / self.name).read_text(encoding="utf-8-sig")
+            self._tables = {texts.unquoted(name) for name in re.findall(rf"^table[ \t]+({texts.QUOTED})", said, re.M)}
+        return file in self._tables
 
     def container(self, entity: str) -> Listed:
         """The list in which the instances of an entity live."""

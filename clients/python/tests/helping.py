@@ -31,5 +31,5 @@ described: dict[str, Rulebase] = {}
 def base(name: str) -> Rulebase:
     """An example's rulebase."""
     if name not in described:
-        described[name] = Rulebase.describe(EXAMPLES / name, DESCRIBE)
+        described[name] = Rulebase.describe(EXAMPLES / name)
     return described[name]

@@ -1,14 +1,18 @@
 """The descriptions of all examples: of the schema's form, and as the programs say it."""
 import json
+import os
+import pathlib
 import re
 import subprocess
 import sys
 import tempfile
 import unittest
 from datetime import date
+from unittest import mock
 
 from helping import DESCRIBE, EXAMPLES, TOP, base, needs_programs
-from sennabasket import Cases, Fault, Rulebase, RulebaseRefused
+from sennabasket import Cases, Fault, Rulebase, RulebaseRefused, program
+from sennabasket.program import found
 
 try:
     import jsonschema
@@ -87,6 +91,39 @@ class Descriptions(unittest.TestCase):
             self.assertEqual((done.returncode, done.stdout), (1, "refused: rulebase 3 bad.txt:1\n"))
             with self.assertRaises(Fault):
                 Rulebase.describe(f"{folder}/nowhere/bad.txt", DESCRIBE)
+
+    def test_a_refusal_in_words(self) -> None:
+        refused = RulebaseRefused("refused: rulebase 7 a b.txt:12\nthe fee\nthe rate")
+        self.assertEqual((refused.number, refused.file, refused.line), (7, "a b.txt", 12))
+        self.assertIn("circle", refused.words)
+        self.assertIn(refused.words, str(refused))
+
+    def test_which_program_describes(self) -> None:
+        """`rules` where it is given, named or there; else tools/describe."""
+        file = EXAMPLES / "permit.txt"
+        with tempfile.TemporaryDirectory() as folder:
+            rules = pathlib.Path(folder) / "rules"
+            rules.write_text(f"#!/bin/sh\n[ $1 = describe ] && {sys.executable} {DESCRIBE} $2 --opa {found('opa')} | sed 's/\"proved\": false/\"proved\": true/'\n")
+            rules.chmod(0o755)
+            is_proved = lambda **more: Rulebase.describe(file, **more).document["proved"]
+            with mock.patch.dict(os.environ), mock.patch.object(program, "of_repository", program.of_repository.__wrapped__):
+                os.environ.pop("RULES", None)
+                self.assertTrue(is_proved(rules=str(rules)))
+                os.environ["RULES"] = str(rules)
+                self.assertTrue(is_proved() and is_proved(describe=DESCRIBE))
+                del os.environ["RULES"]
+                self.assertFalse(is_proved(describe=DESCRIBE, opa=found("opa")))
+            for there, wanted in ((str(rules), True), ("", False)):
+                with mock.patch.dict(os.environ, {"OPA": found("opa")}), mock.patch.object(program, "of_repository", lambda name: (there, "none")):
+                    os.environ.pop("RULES", None)
+                    self.assertEqual(is_proved(), wanted)
+                    self.assertFalse(is_proved(describe=DESCRIBE))
+
+    def test_tables(self) -> None:
+        """Which files are tables is read from the main file, since `rules` doesn't say it."""
+        held = base("food.txt")
+        tables = {table["file"] for table in Rulebase.describe(EXAMPLES / "food.txt", DESCRIBE, found("opa")).document.get("tables", ())}
+        self.assertEqual({file for file in held.files if held.is_table(file)}, tables or {f for f in held.files if f.endswith(".csv")})
 
     def test_another_form_is_refused(self) -> None:
         with self.assertRaises(Fault):
