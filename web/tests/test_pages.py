@@ -50,6 +50,11 @@ class Interviews(SiteCase):
         for text in ("Would the application be approved?", "204.00 dollars a month", "129.00 dollars", "12 December 2024", "Ada is elderly"):
             self.assertIn(text, browser.said)
         self.assertEqual(browser.said.count("Settled"), 4)
+        self.assertEqual(browser.text.count("<svg"), 4)
+        for language, sentence in (("en", "This is so on every day."), ("de", "Das gilt an jedem Tag.")):
+            said = browser.open(f"/result?lang={language}").said
+            self.assertGreater(said.count(sentence), 0)
+            self.assertEqual(said.count(sentence) + browser.text.count("<table>"), 4)
 
     def test_permit_with_dates(self) -> None:
         """An answer that changes, as in the example's replies."""

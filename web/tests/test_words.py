@@ -151,6 +151,14 @@ class Pictures(unittest.TestCase):
                 self.assertTrue(all(two - one > 15 for one, two in zip(places, places[1:])), places)  # 37 of 245 pixels
                 self.assertTrue(all(0 <= bar.top and 0 < bar.height <= 60 for bar in made.bars))
 
+    def test_a_value_that_never_changes(self) -> None:
+        """One bar over the whole picture, without a number: there is no table with rows."""
+        for value, look in ((Decimal(204), "value"), (Decimal(0), "value"), (True, "true"), (False, "false"), (UNKNOWN, "unknown"), (UNCERTAIN, "uncertain"), ("a", "value")):
+            made = picture(Timeline.of(value), date(2024, 6, 1))
+            self.assertEqual([(bar.left, bar.width, bar.look, bar.is_labelled) for bar in made.bars], [(0, 100, look, False)])
+            self.assertEqual([year for year, _ in made.years], [2023, 2024, 2025, 2026])
+            self.assertAlmostEqual(made.today, 50, delta=0.1)
+
 
 if __name__ == "__main__":
     unittest.main()
