@@ -44,7 +44,7 @@ def create_app(
     main = pathlib.Path(rulebase).resolve()
     base = Rulebase.describe(main, describe, opa)
     cases = Cases(base, desk=desk, opa=opa, seconds=seconds, **({"memory": memory} if memory else {}))
-    said = Words.read(base, pathlib.Path(words) if words else beside(main, TOP / "web" / "policies"))
+    said = Words.read(base, pathlib.Path(words) if words else beside(main))
     kept = Store(pathlib.Path(store or TOP / "out" / "cases.sqlite"), base.name, days)
     app = Flask(__name__)
     app.config.update(MAX_CONTENT_LENGTH=MOST_SENT, IS_SECURE=is_secure, KEPT_DAYS=days)

@@ -64,9 +64,12 @@ class OfARulebase(unittest.TestCase):
                 self.words(text)
 
     def test_the_examples_words_are_whole(self) -> None:
-        for path in (HERE.parent / "policies").glob("*.words.toml"):
-            base = Rulebase.describe(EXAMPLES / path.name.replace(".words.toml", ".txt"))
-            self.assertEqual(Words.read(base, path).faults(), [])
+        paths = list(EXAMPLES.glob("*.words.toml"))
+        self.assertIn("food.words.toml", [path.name for path in paths])
+        for path in paths:
+            main = path.with_name(path.name.replace(".words.toml", ".txt"))
+            self.assertEqual(beside(main), path)
+            self.assertEqual(Words.read(Rulebase.describe(main), path).faults(), [])
 
     def test_the_tool(self) -> None:
         """What it writes to begin with is a file of words without faults."""
