@@ -92,6 +92,30 @@ class Descriptions(unittest.TestCase):
             with self.assertRaises(Fault):
                 Rulebase.describe(f"{folder}/nowhere/bad.txt", DESCRIBE)
 
+    def test_time_and_memory_are_bounded(self) -> None:
+        """`rules`, tools/describe and what that runs: each has the same bounds, and who asks for too much is ended."""
+        file = EXAMPLES / "permit.txt"
+        with tempfile.TemporaryDirectory() as folder:
+            asks = pathlib.Path(folder) / "asks"
+            asks.write_text(f"#!{sys.executable}\nimport resource\nprint(resource.getrlimit(resource.RLIMIT_AS)[0] >> 20)\nbytes(900 << 20)\nraise SystemExit(7)\n")
+            asks.chmod(0o755)
+            for more in ({"rules": str(asks)}, {"describe": DESCRIBE, "opa": str(asks)}):
+                with self.subTest(more=more), mock.patch.dict(os.environ):
+                    os.environ.pop("RULES", None)
+                    for memory, wanted in ((3 << 30, ": 3072$"), (500 << 20, "MemoryError")):
+                        with self.assertRaisesRegex(Fault, wanted):
+                            Rulebase.describe(file, **more, memory=memory)
+            asks.write_text("#!/bin/sh\nexec sleep 60\n")
+            with self.assertRaisesRegex(Fault, "timed out after 0.2"):
+                Rulebase.describe(file, rules=str(asks), seconds=0.2)
+            asks.write_text("#!/bin/sh\nkill -9 $$\n")
+            with self.assertRaisesRegex(Fault, "status -9"):
+                Rulebase.describe(file, rules=str(asks))
+            for text in ("echo nothing", "exit 1"):
+                asks.write_text(f"#!/bin/sh\n{text}\n")
+                with self.subTest(text=text), self.assertRaisesRegex(Fault, "can't be described"):
+                    Rulebase.describe(file, rules=str(asks))
+
     def test_a_refusal_in_words(self) -> None:
         refused = RulebaseRefused("refused: rulebase 7 a b.txt:12\nthe fee\nthe rate")
         self.assertEqual((refused.number, refused.file, refused.line), (7, "a b.txt", 12))
