@@ -5,29 +5,30 @@ import re
 import subprocess
 import tempfile
 import unittest
+from typing import Any
 
 from browsing import EXAMPLES, Browser, SiteCase, needs_site
 from people import ADA, GOALS, PERMIT, renamed
 
 
-def lines_of(app, browser: Browser) -> list[str]:
+def lines_of(app: Any, browser: Browser) -> list[str]:
     """The kept lines of the browser's case."""
     site = app.extensions["site"]
     kept = site.store.find(browser.client.get_cookie(site.cookie).value if hasattr(browser.client, "get_cookie") else cookie(browser, site.cookie))
     assert kept
-    return kept.lines
+    return list(kept.lines)
 
 
 def cookie(browser: Browser, name: str) -> str:
-    return next(each.value for each in browser.client.cookie_jar if each.name == name)
+    return str(next(each.value for each in browser.client.cookie_jar if each.name == name))
 
 
-def goals_of(app, lines: list[str]) -> list[str]:
+def goals_of(app: Any, lines: list[str]) -> list[str]:
     """What `opa run` prints for `goals` over these lines."""
-    return app.extensions["site"].live.cases.run(lines, ["goals"]).split("\n")[:-1]
+    return str(app.extensions["site"].live.cases.run(lines, ["goals"])).split("\n")[:-1]
 
 
-def interview(browser: Browser, known: dict) -> None:
+def interview(browser: Browser, known: dict[str, Any]) -> None:
     for _ in range(40):
         if browser.address != "/questions":
             return
@@ -108,7 +109,7 @@ class Interviews(SiteCase):
         browser = Browser(app).start()
         interview(browser, PERMIT)
         self.assertIn("90.00", browser.said)
-        address = re.search(r'href="(/change\?[^"]*length[^"]*)"', browser.open("/answers").text)[1]
+        address = re.findall(r'href="(/change\?[^"]*length[^"]*)"', browser.open("/answers").text)[0]
         browser.open(address).send({"What is the length of the car?": "4.5"})
         self.assertEqual(browser.address, "/answers")
         self.assertIn("60.00", browser.open("/result").said)

@@ -14,7 +14,7 @@ if not MISSING:
     from interview.pictures import picture
     from interview.saying import Saying, languages
     from interview.words import BadWords, Words, beside
-    from sennabasket import UNCERTAIN, UNKNOWN, Point, Rulebase, Timeline
+    from sennabasket import UNCERTAIN, UNKNOWN, Point, Rulebase, Timeline, Value
 
     BASE = Rulebase.describe(EXAMPLES / "food.txt")
 
@@ -156,7 +156,10 @@ class Pictures(unittest.TestCase):
 
     def test_a_value_that_never_changes(self) -> None:
         """One bar over the whole picture, without a number: there is no table with rows."""
-        for value, look in ((Decimal(204), "value"), (Decimal(0), "value"), (True, "true"), (False, "false"), (UNKNOWN, "unknown"), (UNCERTAIN, "uncertain"), ("a", "value")):
+        said: list[tuple[Value, str]] = [
+            (Decimal(204), "value"), (Decimal(0), "value"), (True, "true"), (False, "false"), (UNKNOWN, "unknown"), (UNCERTAIN, "uncertain"), ("a", "value"),
+        ]  # fmt: skip
+        for value, look in said:
             made = picture(Timeline.of(value), date(2024, 6, 1))
             self.assertEqual([(bar.left, bar.width, bar.look, bar.is_labelled) for bar in made.bars], [(0, 100, look, False)])
             self.assertEqual([year for year, _ in made.years], [2023, 2024, 2025, 2026])
