@@ -1,5 +1,6 @@
 """How tools/test counts what its parts print."""
 import pathlib
+import sys
 import tempfile
 import unittest
 from unittest import mock
@@ -46,6 +47,13 @@ class Counts(unittest.TestCase):
             self.assertEqual(test.versions(), [])
             changes.write_text("## [Unreleased]\n\n## [1.1.0] - 2025-01-01\n")
             self.assertEqual(test.versions(), ["the first heading of a version in CHANGELOG.md isn't 1.2.0"])
+
+    def test_a_python_with_modules(self) -> None:
+        self.assertTrue(test.has(sys.executable, "json, csv"))
+        self.assertFalse(test.has(sys.executable, "json, nothing_like_this"))
+        self.assertFalse(test.has("/nowhere/python", "json"))
+        self.assertEqual(test.python_with("json"), sys.executable)
+        self.assertEqual(test.python_with("nothing_like_this"), sys.executable)
 
     def test_a_program_that_is_not_there(self) -> None:
         self.assertEqual(test.program_of("opa", "/nowhere/opa")[0], None)

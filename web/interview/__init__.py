@@ -16,6 +16,7 @@ sys.path.insert(0, str(TOP / "clients" / "python"))
 
 from flask import Flask  # noqa: E402
 from sennabasket import Cases, Rulebase  # noqa: E402
+from sennabasket.program import MEMORY  # noqa: E402
 
 from . import pages  # noqa: E402
 from .live import Live  # noqa: E402
@@ -36,15 +37,15 @@ def create_app(
     opa: str | None = None,
     desk: str | None = None,
     seconds: float = 10,
-    memory: int | None = None,
+    memory: int = MEMORY,
     days: float = 30,
     is_secure: bool = False,
 ) -> Flask:
     """The application; a rulebase that isn't accepted raises RulebaseRefused with its refusal."""
     main = pathlib.Path(rulebase).resolve()
-    base = Rulebase.describe(main, describe, opa)
-    cases = Cases(base, desk=desk, opa=opa, seconds=seconds, **({"memory": memory} if memory else {}))
-    said = Words.read(base, pathlib.Path(words) if words else beside(main, TOP / "web" / "policies"))
+    base = Rulebase.describe(main, describe, opa, memory=memory)
+    cases = Cases(base, desk=desk, opa=opa, seconds=seconds, memory=memory)
+    said = Words.read(base, pathlib.Path(words) if words else beside(main))
     kept = Store(pathlib.Path(store or TOP / "out" / "cases.sqlite"), base.name, days)
     app = Flask(__name__)
     app.config.update(MAX_CONTENT_LENGTH=MOST_SENT, IS_SECURE=is_secure, KEPT_DAYS=days)

@@ -8,6 +8,7 @@ import re
 from collections.abc import Mapping
 from dataclasses import dataclass, field
 from datetime import date
+from decimal import Decimal
 
 from sennabasket import FIRST_DAY, LAST_DAY, UNCERTAIN, UNKNOWN, Attribute, BadText, Listed, Missing, Point, Timeline, Value
 from sennabasket import texts, values
@@ -152,7 +153,7 @@ class Field:
         except BadText:
             if number is not None and abs(number) <= values.GREATEST:
                 raise Wrong("error_change_3", at, bounds=bounds(self.about, saying, is_wrong=True)) from None
-            raise Wrong("error_number", at, example=saying.number(values.Decimal("1250.5"), 2)) from None
+            raise Wrong("error_number", at, example=saying.number(Decimal("1250.5"), 2)) from None
         assert number is not None
         return number
 
@@ -174,7 +175,7 @@ class Field:
             return Piece("yes" if value else "no")
         if isinstance(value, date):
             return day_piece(value)
-        if isinstance(value, values.Decimal):
+        if isinstance(value, Decimal):
             return Piece(saying.number(value, 2 if self.about_kind == "currency" and value % 1 else None))
         return Piece(str(value))
 
@@ -204,7 +205,7 @@ def bounds(about: Attribute | Listed, saying: Saying, is_wrong: bool = False) ->
     """What the declaration says of a number, in sentences; of an amount its decimals only if something is wrong."""
     if not isinstance(about, Attribute) or about.kind not in ("number", "currency"):
         return ""
-    said = {key: saying.number(values.Decimal(text)) for key, text in (("least", about.least), ("most", about.most)) if text is not None}
+    said = {key: saying.number(Decimal(text)) for key, text in (("least", about.least), ("most", about.most)) if text is not None}
     key = "number_between" if len(said) == 2 else f"number_{next(iter(said))}" if said else ""
     parts = [saying(key, **said)] if key else []
     if about.decimals == 0:

@@ -1,4 +1,4 @@
-"""A line of values as a picture: bars over time, with a number for each row of the table that stands below it."""
+"""A line of values as a picture: bars over time, with a number for each row of the table that stands below it, if there is one."""
 from __future__ import annotations
 
 from dataclasses import dataclass
@@ -34,11 +34,11 @@ class Picture:
 
 
 def window(line: Timeline, today: date) -> tuple[date, date]:
-    """The days that are shown: the changes near to today, today, and a margin."""
+    """The days that are shown: the changes near to today, today, and a margin; for a value that never changes two years on each side."""
     days = [since.toordinal() for since, _ in line.parts[1:]]
     near = [day for day in days if abs(day - today.toordinal()) < YEARS * 366] or days[-3:]
     first, last = min([today.toordinal(), *near]), max([today.toordinal(), *near])
-    margin = max(200, (last - first) // 10)
+    margin = max(200, (last - first) // 10) if days else 2 * 366
     return date.fromordinal(max(first - margin, FIRST_DAY.toordinal())), date.fromordinal(min(last + margin, LAST_DAY.toordinal()))
 
 
@@ -73,7 +73,7 @@ def picture(line: Timeline, today: date) -> Picture:
             height = 6 + 54 * float((value - least) / (most - least))
         elif value is True or not isinstance(value, (bool, type(UNKNOWN))):
             height = 60.0
-        bars.append(Bar(number, since, end, value, left, width, 80 - height, height, look(value), width > (5 if number < 10 else 8)))
+        bars.append(Bar(number, since, end, value, left, width, 80 - height, height, look(value), len(ends) > 1 and width > (5 if number < 10 else 8)))
     step = max(1, (last.year - first.year) // 3)  # so few that they don't touch at 320 pixels
     years = [(year, place(date(year, 1, 1))) for year in range(first.year + 1, last.year + 1) if (year - first.year) % step == 0]
     return Picture(bars, place(today), [(year, at) for year, at in years if 2 < at < 94])

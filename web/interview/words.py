@@ -35,11 +35,10 @@ class BadWords(Exception):
     """The file isn't as it should be."""
 
 
-def beside(rulebase: pathlib.Path, further: pathlib.Path | None = None) -> pathlib.Path | None:
-    """The words of a rulebase: beside it, or in the further folder."""
-    name = f"{rulebase.stem}.words.toml"
-    places = [rulebase.with_name(name)] + ([further / name] if further else [])
-    return next((place for place in places if place.is_file()), None)
+def beside(rulebase: pathlib.Path) -> pathlib.Path | None:
+    """The words of a rulebase, which lie beside it."""
+    place = rulebase.with_name(f"{rulebase.stem}.words.toml")
+    return place if place.is_file() else None
 
 
 def upper(text: str) -> str:

@@ -7,6 +7,7 @@ import re
 import sys
 import tempfile
 import unittest
+from collections.abc import Mapping
 from html.parser import HTMLParser
 from typing import Any
 
@@ -65,7 +66,8 @@ class Parts(HTMLParser):
 class Browser:
     def __init__(self, app: Any) -> None:
         self.client = app.test_client()
-        self.text, self.status, self.address, self.headers = "", 0, "/", {}
+        self.text, self.status, self.address = "", 0, "/"
+        self.headers: Mapping[str, str] = {}
 
     def open(self, address: str, **more: Any) -> Browser:
         for _ in range(5):

@@ -77,7 +77,7 @@ class Driven:
         if not has_script:
             said.add_experimental_option("prefs", {"profile.managed_default_content_settings.javascript": 2})
         said.binary_location = CHROME or ""
-        self.driver = webdriver.Chrome(service=Service(CHROMEDRIVER), options=said)
+        self.driver = webdriver.Chrome(service=Service(CHROMEDRIVER or ""), options=said)
         self.address = address
 
     def open(self, path: str) -> None:

@@ -5,29 +5,30 @@ import re
 import subprocess
 import tempfile
 import unittest
+from typing import Any
 
 from browsing import EXAMPLES, Browser, SiteCase, needs_site
 from people import ADA, GOALS, PERMIT, renamed
 
 
-def lines_of(app, browser: Browser) -> list[str]:
+def lines_of(app: Any, browser: Browser) -> list[str]:
     """The kept lines of the browser's case."""
     site = app.extensions["site"]
     kept = site.store.find(browser.client.get_cookie(site.cookie).value if hasattr(browser.client, "get_cookie") else cookie(browser, site.cookie))
     assert kept
-    return kept.lines
+    return list(kept.lines)
 
 
 def cookie(browser: Browser, name: str) -> str:
-    return next(each.value for each in browser.client.cookie_jar if each.name == name)
+    return str(next(each.value for each in browser.client.cookie_jar if each.name == name))
 
 
-def goals_of(app, lines: list[str]) -> list[str]:
+def goals_of(app: Any, lines: list[str]) -> list[str]:
     """What `opa run` prints for `goals` over these lines."""
-    return app.extensions["site"].live.cases.run(lines, ["goals"]).split("\n")[:-1]
+    return str(app.extensions["site"].live.cases.run(lines, ["goals"])).split("\n")[:-1]
 
 
-def interview(browser: Browser, known: dict) -> None:
+def interview(browser: Browser, known: dict[str, Any]) -> None:
     for _ in range(40):
         if browser.address != "/questions":
             return
@@ -50,6 +51,11 @@ class Interviews(SiteCase):
         for text in ("Would the application be approved?", "204.00 dollars a month", "129.00 dollars", "12 December 2024", "Ada is elderly"):
             self.assertIn(text, browser.said)
         self.assertEqual(browser.said.count("Settled"), 4)
+        self.assertEqual(browser.text.count("<svg"), 4)
+        for language, sentence in (("en", "This is so on every day."), ("de", "Das gilt an jedem Tag.")):
+            said = browser.open(f"/result?lang={language}").said
+            self.assertGreater(said.count(sentence), 0)
+            self.assertEqual(said.count(sentence) + browser.text.count("<table>"), 4)
 
     def test_permit_with_dates(self) -> None:
         """An answer that changes, as in the example's replies."""
@@ -103,7 +109,7 @@ class Interviews(SiteCase):
         browser = Browser(app).start()
         interview(browser, PERMIT)
         self.assertIn("90.00", browser.said)
-        address = re.search(r'href="(/change\?[^"]*length[^"]*)"', browser.open("/answers").text)[1]
+        address = re.findall(r'href="(/change\?[^"]*length[^"]*)"', browser.open("/answers").text)[0]
         browser.open(address).send({"What is the length of the car?": "4.5"})
         self.assertEqual(browser.address, "/answers")
         self.assertIn("60.00", browser.open("/result").said)

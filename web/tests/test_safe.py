@@ -45,7 +45,7 @@ class Pages(SiteCase):
             self.assertEqual(len(ids), len(set(ids)), page)
             for control in re.findall(r"<input [^>]*>", text):
                 if 'type="hidden"' not in control:
-                    key = re.search(r'\sid="([^"]+)"', control)[1]
+                    key = re.findall(r'\sid="([^"]+)"', control)[0]
                     named = re.search(r'aria-labelledby="([^"]+)"', control)
                     self.assertTrue(key in labelled or (named and named[1] in ids), control)
             for told in re.findall(r'aria-describedby="([^"]+)"', text):
@@ -62,7 +62,7 @@ class Pages(SiteCase):
             text = "".join(each * 2 for each in text) if len(text) == 3 else text
             parts = [int(text[n : n + 2], 16) / 255 for n in (0, 2, 4)]
             one, two, three = (part / 12.92 if part <= 0.03928 else ((part + 0.055) / 1.055) ** 2.4 for part in parts)
-            return 0.2126 * one + 0.7152 * two + 0.0722 * three
+            return float(0.2126 * one + 0.7152 * two + 0.0722 * three)
 
         def contrast(one: str, two: str) -> float:
             high, low = sorted((light(one), light(two)), reverse=True)
@@ -106,7 +106,8 @@ class Pages(SiteCase):
         browser, other = Browser(app).start(), Browser(app).start()
         before = lines_of(app, browser)
         stranger = other.filled("/questions")["csrf"][0]
-        for sent in ({}, {"csrf": ""}, {"csrf": stranger}, {"csrf": "é"}, {"csrf": "0" * 64}):
+        forged: list[dict[str, str]] = [{}, {"csrf": ""}, {"csrf": stranger}, {"csrf": "é"}, {"csrf": "0" * 64}]
+        for sent in forged:
             for page in ("/questions", "/start", "/end", "/page/0", "/change?phrase=the+resident+has+a+car"):
                 answer = browser.client.post(page, data={**sent, "q0-p": "the resident has a car", "q0": "yes", "action": "go"})
                 self.assertEqual(answer.status_code, 400, (sent, page))

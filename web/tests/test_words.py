@@ -14,7 +14,7 @@ if not MISSING:
     from interview.pictures import picture
     from interview.saying import Saying, languages
     from interview.words import BadWords, Words, beside
-    from sennabasket import UNCERTAIN, UNKNOWN, Point, Rulebase, Timeline
+    from sennabasket import UNCERTAIN, UNKNOWN, Point, Rulebase, Timeline, Value
 
     BASE = Rulebase.describe(EXAMPLES / "food.txt")
 
@@ -64,9 +64,12 @@ class OfARulebase(unittest.TestCase):
                 self.words(text)
 
     def test_the_examples_words_are_whole(self) -> None:
-        for path in (HERE.parent / "policies").glob("*.words.toml"):
-            base = Rulebase.describe(EXAMPLES / path.name.replace(".words.toml", ".txt"))
-            self.assertEqual(Words.read(base, path).faults(), [])
+        paths = list(EXAMPLES.glob("*.words.toml"))
+        self.assertIn("food.words.toml", [path.name for path in paths])
+        for path in paths:
+            main = path.with_name(path.name.replace(".words.toml", ".txt"))
+            self.assertEqual(beside(main), path)
+            self.assertEqual(Words.read(Rulebase.describe(main), path).faults(), [])
 
     def test_the_tool(self) -> None:
         """What it writes to begin with is a file of words without faults."""
@@ -150,6 +153,17 @@ class Pictures(unittest.TestCase):
                 places = [place for _, place in made.years]
                 self.assertTrue(all(two - one > 15 for one, two in zip(places, places[1:])), places)  # 37 of 245 pixels
                 self.assertTrue(all(0 <= bar.top and 0 < bar.height <= 60 for bar in made.bars))
+
+    def test_a_value_that_never_changes(self) -> None:
+        """One bar over the whole picture, without a number: there is no table with rows."""
+        said: list[tuple[Value, str]] = [
+            (Decimal(204), "value"), (Decimal(0), "value"), (True, "true"), (False, "false"), (UNKNOWN, "unknown"), (UNCERTAIN, "uncertain"), ("a", "value"),
+        ]  # fmt: skip
+        for value, look in said:
+            made = picture(Timeline.of(value), date(2024, 6, 1))
+            self.assertEqual([(bar.left, bar.width, bar.look, bar.is_labelled) for bar in made.bars], [(0, 100, look, False)])
+            self.assertEqual([year for year, _ in made.years], [2023, 2024, 2025, 2026])
+            self.assertAlmostEqual(made.today, 50, delta=0.1)
 
 
 if __name__ == "__main__":

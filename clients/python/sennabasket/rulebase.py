@@ -15,6 +15,7 @@ from . import program, texts
 from .errors import Fault, RulebaseRefused
 
 FORMAT = {"name": "sennabasket description", "version": 1}
+SECONDS = 120.0
 
 
 @dataclass(frozen=True)
@@ -119,12 +120,20 @@ class Rulebase:
 
     @classmethod
     def describe(
-        cls, rulebase: pathlib.Path | str, describe: pathlib.Path | str | None = None, opa: str | None = None, rules: str | None = None
+        cls,
+        rulebase: pathlib.Path | str,
+        describe: pathlib.Path | str | None = None,
+        opa: str | None = None,
+        rules: str | None = None,
+        *,
+        seconds: float = SECONDS,
+        memory: int = program.MEMORY,
     ) -> Rulebase:
         """Runs the program that describes rulebases, and takes what it prints.
 
         It is the proved program `rules`, if it is given, named by the environment as RULES, or there in the repository; else
-        tools/describe. Another program that is given as `describe` is run in place of the repository's.
+        tools/describe. Another program that is given as `describe` is run in place of the repository's. It is bounded in time and
+        address space, and so is what it runs.
         """
         path, given = pathlib.Path(rulebase), rules or os.environ.get("RULES")
         proved = program.found("rules", given) if given else "" if describe else program.of_repository("rules")[0]
@@ -134,14 +143,19 @@ class Rulebase:
             words = [sys.executable, str(describe or program.TOP / "tools" / "describe"), str(path)]
             words += ["--opa", program.found("opa", opa)] if opa or not describe else []
         try:
-            done = subprocess.run(words, cwd=path.parent if proved else None, capture_output=True, text=True, timeout=120)
-        except (OSError, subprocess.SubprocessError) as error:
+            done = subprocess.run(
+                program.bounded(words, memory, seconds), cwd=path.parent if proved else None, stdin=subprocess.DEVNULL, capture_output=True,
+                encoding="utf-8", errors="replace", timeout=seconds,
+            )  # fmt: skip
+            document = None if done.returncode else json.loads(done.stdout)
+        except (OSError, ValueError, subprocess.SubprocessError) as error:
             raise Fault(f"the rulebase can't be described: {error}") from error
-        if done.returncode == 1:
+        if done.returncode == 1 and done.stdout.startswith("refused: rulebase"):
             raise RulebaseRefused(done.stdout.strip())
-        if done.returncode:
-            raise Fault(f"the rulebase can't be described: {(done.stderr or done.stdout).strip()[:500]}")
-        return cls.from_description(json.loads(done.stdout), pathlib.Path(rulebase).resolve().parent)
+        if document is None:
+            why = (done.stderr or done.stdout).strip()[:500] or f"the program ended with status {done.returncode}"
+            raise Fault(f"the rulebase can't be described: {why}")
+        return cls.from_description(document, pathlib.Path(rulebase).resolve().parent)
 
     def question(self, text: str) -> Question:
         """What a printed question asks for."""

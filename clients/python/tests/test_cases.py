@@ -179,7 +179,10 @@ class ManyCases(unittest.TestCase):
                         wrong.append(number)
 
             threads = [threading.Thread(target=work, args=(number,)) for number in range(8)]
-            [t.start() for t in threads], [t.join() for t in threads]
+            for thread in threads:
+                thread.start()
+            for thread in threads:
+                thread.join()
             self.assertEqual(wrong, [])
 
     def program(self, text: str) -> str:

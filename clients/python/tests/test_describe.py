@@ -8,11 +8,13 @@ import sys
 import tempfile
 import unittest
 from datetime import date
+from typing import Any
 from unittest import mock
 
 from helping import DESCRIBE, EXAMPLES, TOP, base, needs_programs
-from sennabasket import Cases, Fault, Rulebase, RulebaseRefused, program
+from sennabasket import Attribute, Cases, Fault, Listed, Rulebase, RulebaseRefused, program
 from sennabasket.program import found
+from sennabasket.reports import Gone, Stated
 
 try:
     import jsonschema
@@ -37,7 +39,8 @@ class Descriptions(unittest.TestCase):
     def test_what_is_mentioned_is_declared(self) -> None:
         for name in RULEBASES:
             found = base(name)
-            for about in [*found.attributes.values(), *found.lists.values()]:
+            declared: list[Attribute | Listed] = [*found.attributes.values(), *found.lists.values()]
+            for about in declared:
                 with self.subTest(name=name, phrase=about.phrase):
                     for phrase in about.rule.attributes if about.rule else ():
                         self.assertIn(phrase, found.attributes)
@@ -72,13 +75,14 @@ class Descriptions(unittest.TestCase):
             case = cases.open(lines)
             for phrase in found.goals:
                 report = case.report(phrase, date(2024, 3, 14))
-                seen, open_lines = set(), [report.asked]
+                seen: set[int] = set()
+                open_lines: list[Stated | Gone] = [report.asked]
                 while open_lines:
                     line = open_lines.pop()
                     if line.number not in seen:
                         seen.add(line.number)
-                        open_lines += [b for b in report.below(line, found)] if hasattr(line, "origin") else []
-                self.assertEqual(seen, {s.number for s in (*report.stated, *report.lists)})
+                        open_lines += report.below(line, found) if isinstance(line, Stated) else []
+                self.assertEqual(seen, {s.number for s in report.stated} | {g.number for g in report.lists})
 
     def test_a_refused_rulebase(self) -> None:
         with tempfile.TemporaryDirectory() as folder:
@@ -91,6 +95,31 @@ class Descriptions(unittest.TestCase):
             self.assertEqual((done.returncode, done.stdout), (1, "refused: rulebase 3 bad.txt:1\n"))
             with self.assertRaises(Fault):
                 Rulebase.describe(f"{folder}/nowhere/bad.txt", DESCRIBE)
+
+    def test_time_and_memory_are_bounded(self) -> None:
+        """`rules`, tools/describe and what that runs: each has the same bounds, and who asks for too much is ended."""
+        file = EXAMPLES / "permit.txt"
+        with tempfile.TemporaryDirectory() as folder:
+            asks = pathlib.Path(folder) / "asks"
+            asks.write_text(f"#!{sys.executable}\nimport resource\nprint(resource.getrlimit(resource.RLIMIT_AS)[0] >> 20)\nbytes(900 << 20)\nraise SystemExit(7)\n")
+            asks.chmod(0o755)
+            ways: list[dict[str, Any]] = [{"rules": str(asks)}, {"describe": DESCRIBE, "opa": str(asks)}]
+            for more in ways:
+                with self.subTest(more=more), mock.patch.dict(os.environ):
+                    os.environ.pop("RULES", None)
+                    for memory, wanted in ((3 << 30, ": 3072$"), (500 << 20, "MemoryError")):
+                        with self.assertRaisesRegex(Fault, wanted):
+                            Rulebase.describe(file, memory=memory, **more)
+            asks.write_text("#!/bin/sh\nexec sleep 60\n")
+            with self.assertRaisesRegex(Fault, "timed out after 0.2"):
+                Rulebase.describe(file, rules=str(asks), seconds=0.2)
+            asks.write_text("#!/bin/sh\nkill -9 $$\n")
+            with self.assertRaisesRegex(Fault, "status -9"):
+                Rulebase.describe(file, rules=str(asks))
+            for text in ("echo nothing", "exit 1"):
+                asks.write_text(f"#!/bin/sh\n{text}\n")
+                with self.subTest(text=text), self.assertRaisesRegex(Fault, "can't be described"):
+                    Rulebase.describe(file, rules=str(asks))
 
     def test_a_refusal_in_words(self) -> None:
         refused = RulebaseRefused("refused: rulebase 7 a b.txt:12\nthe fee\nthe rate")

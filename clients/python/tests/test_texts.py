@@ -1,5 +1,6 @@
 """Texts and values: nothing that is typed becomes a line of its own, and what is written is read back the same."""
 import unittest
+from collections.abc import Callable
 from datetime import date
 from decimal import Decimal
 
@@ -16,7 +17,8 @@ ODD = ['"', '""', '" of "Ben', 'Ada"; from 2024-01-01 "Bo', "#", "/x", "Ä ö ü
 class Texts(unittest.TestCase):
     def test_hostile_texts_are_refused(self) -> None:
         for text in HOSTILE:
-            for make in (texts.quoted, texts.name, texts.phrase, texts.command, values.written, lambda t: texts.point("the fee", t)):
+            makes: list[Callable[[str], str]] = [texts.quoted, texts.name, texts.phrase, texts.command, values.written, lambda t: texts.point("the fee", t)]
+            for make in makes:
                 with self.subTest(text=text, make=make), self.assertRaises(BadText):
                     make(text)
 
@@ -49,10 +51,11 @@ class Texts(unittest.TestCase):
 
 class Values(unittest.TestCase):
     def test_written_and_read(self) -> None:
-        for value, text in [
+        said: list[tuple[values.Value | int, str]] = [
             (True, "true"), (False, "false"), (Decimal("2.50"), "2.5"), (Decimal("-0"), "0"), (Decimal("1E+3"), "1000"), (7, "7"),
             (date(2024, 2, 29), "2024-02-29"), ("Ada", '"Ada"'), (UNKNOWN, "unknown"), (UNCERTAIN, "uncertain"), (Decimal("-3.25"), "-3.25"),
-        ]:  # fmt: skip
+        ]  # fmt: skip
+        for value, text in said:
             with self.subTest(value=value):
                 self.assertEqual(values.written(value), text)
                 self.assertEqual(values.read(text), value)
