@@ -76,4 +76,4 @@ def picture(line: Timeline, today: date) -> Picture:
         bars.append(Bar(number, since, end, value, left, width, 80 - height, height, look(value), len(ends) > 1 and width > (5 if number < 10 else 8)))
     step = max(1, (last.year - first.year) // 3)  # so few that they don't touch at 320 pixels
     years = [(year, place(date(year, 1, 1))) for year in range(first.year + 1, last.year + 1) if (year - first.year) % step == 0]
-    return Picture(bars, place(today), [(year, at) for year, at in years if 2 < at < 94])
+    return Picture(bars, place(today), [(year, at) for year, at in years if 8 < at < 92])  # a year is at most 15 wide

@@ -38,11 +38,14 @@ class Why:
         made = self.stated(line) if isinstance(line, Stated) else self.listed(line)
         if not isinstance(line, Stated) or line.origin != "rule":
             return made
-        if line.number in self.shown or depth > MOST_DEPTH:
+        if line.number in self.shown:
             made.is_again = True
             return made
-        self.shown.add(line.number)
         made.rule, made.source = self.rule(line)
+        if depth >= MOST_DEPTH:
+            made.origin = self.saying("why_deep")
+            return made
+        self.shown.add(line.number)
         made.below = [self.sentence(other, depth + 1) for other in self.report.below(line, self.words.base)]
         return made
 

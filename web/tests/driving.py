@@ -1,6 +1,7 @@
 """Chromium without a window, driven by selenium: it fills in a page's questions by their texts."""
 from __future__ import annotations
 
+import os
 import pathlib
 import shutil
 import signal
@@ -9,6 +10,7 @@ import subprocess
 import sys
 import time
 import urllib.request
+from collections.abc import Mapping
 from typing import Any
 
 from browsing import EXAMPLES, HERE, MISSING
@@ -40,14 +42,15 @@ def free_port() -> int:
 
 
 class Server:
-    """`web/run` over an example, in a process of its own."""
+    """`web/run` over an example, or a rulebase that lies elsewhere, in a process of its own."""
 
-    def __init__(self, rulebase: str, store: pathlib.Path, port: int = 0, workers: int = 0) -> None:
+    def __init__(self, rulebase: str | pathlib.Path, store: pathlib.Path, port: int = 0, workers: int = 0, env: Mapping[str, str] | None = None) -> None:
         self.port = port or free_port()
         words = [sys.executable, str(HERE.parent / "run"), str(EXAMPLES / rulebase), "--port", str(self.port), "--store", str(store)]
         self.process = subprocess.Popen(
-            words + (["--workers", str(workers)] if workers else []), stdout=subprocess.DEVNULL, stderr=subprocess.DEVNULL
-        )
+            words + (["--workers", str(workers)] if workers else []), stdout=subprocess.DEVNULL, stderr=subprocess.DEVNULL,
+            env={**os.environ, **(env or {})},
+        )  # fmt: skip
         self.address = f"http://127.0.0.1:{self.port}"
         for _ in range(900):
             try:
@@ -113,6 +116,10 @@ class Driven:
         found = self.driver.find_element(By.ID, control)
         found.clear()
         found.send_keys(text)
+
+    def forge(self, name: str, text: str) -> None:
+        """Puts into a hidden control what the page didn't."""
+        self.driver.execute_script("document.querySelector(`main form [name=${arguments[0]}]`).value = arguments[1]", name, text)
 
     def choose(self, control: str) -> None:
         found = self.driver.find_element(By.ID, control)

@@ -9,12 +9,14 @@ import sqlite3
 import subprocess
 import tempfile
 import unittest
+from typing import Any
 
 import usable
 from browsing import EXAMPLES
 from driving import Driven, Server, missing
 from people import ADA, FAMILY, FAMILY_REPLIES, GOALS, PERMIT, PERMIT_REPLIES, renamed
 from sennabasket.program import MEMORY, found, run
+from troubles import troubles
 
 WIDTHS = (320, 768, 1280)
 
@@ -42,7 +44,7 @@ class InABrowser(unittest.TestCase):
         self.addCleanup(folder.cleanup)
         self.store = pathlib.Path(folder.name) / "cases.sqlite"
 
-    def server(self, rulebase: str, **more: int) -> Server:
+    def server(self, rulebase: str | pathlib.Path, **more: Any) -> Server:
         server = Server(rulebase, self.store, **more)
         self.addCleanup(lambda: server.process.poll() is None and server.stop())
         return server
@@ -155,6 +157,34 @@ class InABrowser(unittest.TestCase):
             driven.open(path), check(path)
         driven.open("/result?lang=en")
         self.assertEqual(usable.unreached(driven), [])
+
+    def test_deep_reasons(self) -> None:
+        """Conclusions that rest on one another eighty times: the tree is cut, and no page is wider than its window."""
+        rules = self.store.parent / "deep.txt"
+        numbers = "".join(f"  number the sum {n}\n" for n in range(1, 81))
+        sums = "the sum 1 = the start + 1\n" + "".join(f"the sum {n} = the sum {n - 1} + 1\n" for n in range(2, 81))
+        rules.write_text(f"global\n  number the start\n{numbers}goal the sum 80\n{sums}")
+        driven = self.driven(self.server(rules))
+        driven.start()
+        driven.answer({"What is the start?": "5"})
+        for path in ("/result", "/print"):
+            driven.open(path)
+            self.assertIn("85", driven.text)
+            driven.driver.execute_script("document.querySelectorAll('.why details').forEach(each => each.open = true)")
+            self.assertIn("The sum 20: 25 by a rule; what it rests on is in the file of reasons", driven.text)
+            self.assertEqual(usable.faults(driven), [])
+            for width in WIDTHS:
+                self.assertLessEqual(driven.overflow(width), 0, (path, width))
+                self.assertGreater(int(driven.driver.execute_script("return Math.min(...[...document.querySelectorAll('.why p')].map(each => each.clientWidth))")), 80)
+
+    def test_pages_of_what_went_wrong(self) -> None:
+        """Each is plain, usable and no wider than its window, and the case is kept."""
+        for name, heading, driven in troubles(self.store.parent):
+            self.assertEqual(driven.one("h1").text, heading)
+            for width in WIDTHS:
+                self.assertLessEqual(driven.overflow(width), 0, name)
+                self.assertEqual(usable.faults(driven), [], (name, width))
+        self.assertEqual([len(lines) for lines in kept(self.store)], [2])
 
     def test_the_checks_find_errors(self) -> None:
         driven = self.driven(self.server("permit.txt"))

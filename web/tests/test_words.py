@@ -152,6 +152,7 @@ class Pictures(unittest.TestCase):
                 self.assertTrue(0 <= made.today <= 100)
                 places = [place for _, place in made.years]
                 self.assertTrue(all(two - one > 15 for one, two in zip(places, places[1:])), places)  # 37 of 245 pixels
+                self.assertTrue(all(7.5 < place < 92.5 for place in places), places)
                 self.assertTrue(all(0 <= bar.top and 0 < bar.height <= 60 for bar in made.bars))
 
     def test_a_value_that_never_changes(self) -> None:
