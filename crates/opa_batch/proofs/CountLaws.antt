@@ -5,8 +5,8 @@ use Rattle.std.proofs.lemmas.List.Filters.{length-filter_both}
 use Rattle.csv.specs.Records.{field_at}
 use Rattle.opa_case.specs.Cases.{CaseView, no_case}
 use Rattle.opa_case.specs.declared.change.ChangeCommand.{ChangeCommand}
-use Rattle.opa_dirty.proofs.Between.{dirty_over, dirty_nowhere}
-use Rattle.opa_infer.specs.Sessions.{reached, first_slots}
+use Rattle.opa_mean.proofs.reached.Between.{dirty_over, dirty_nowhere}
+use Rattle.opa_session.specs.Infer.Sessions.{reached, first_slots}
 use Rattle.opa_mean.specs.Changes.{is_dirty, slots}
 use Rattle.opa_mean.specs.Given.{base_of, facts_of}
 use Rattle.opa_mean.specs.Rulebases.{IsOf}

@@ -10,10 +10,10 @@ use Rattle.csv.specs.declared.parser.State.TheVariants as st
 use Rattle.csv.specs.declared.reader.Reader.{Reader}
 use Rattle.csv.specs.declared.reader.Trim.TheVariants as trim
 use Rattle.csv.proofs.ReadFacts.{rows-end, rows-more}
-use Rattle.opa_layout.specs.Lines.{without_mark}
-use Rattle.opa_layout.proofs.ShortLaws.{without_mark-shorter}
-use Rattle.opa_table.specs.Records.{csv_records, table_records}
-use Rattle.opa_table.proofs.RecordLaws.{records-reached, same}
+use Rattle.opa_words.specs.Layout.Lines.{without_mark}
+use Rattle.opa_words.proofs.layout.ShortLaws.{without_mark-shorter}
+use Rattle.opa_parse.specs.Tables.Records.{csv_records, table_records}
+use Rattle.opa_parse.proofs.tables.RecordLaws.{records-reached, same}
 use Rattle.opa_batch.specs.Cutting.{CutsOne, HasLeft, IsAt, below}
 
 abbrev pub Cells : Type 0

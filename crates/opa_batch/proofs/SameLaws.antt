@@ -4,7 +4,7 @@ use Rattle.std.specs.Prelude.{Option, None, Some}
 use Rattle.std.specs.Option.{option_map}
 use Rattle.std.proofs.lemmas.List.{take_all}
 use Rattle.csv.specs.Records.{field_at}
-use Rattle.opa_table.proofs.RecordLaws.{cell_next}
+use Rattle.opa_parse.proofs.tables.RecordLaws.{cell_next}
 use Rattle.opa_batch.proofs.HeadLaws.{here, past}
 
 pub same_more : (xs ys : List (List ℕ)) (place : ℕ) (x y : List ℕ) → Some x ≡ field_at xs place → Some y ≡ field_at ys place → x ≡ y → take place xs ≡ take place ys → take (place + 1) xs ≡ take (place + 1) ys

@@ -8,9 +8,9 @@ use Rattle.opa_tree.specs.declared.rulebase.Rulebase.{Rulebase}
 use Rattle.opa_rulebase.specs.declared.fault.LoadError.{LoadError}
 use Rattle.opa_rulebase.specs.declared.fault.LoadError.TheVariants as load
 use Rattle.opa_rulebase.specs.Loading.{Opens, IsRefusalOf, HasLoadError}
-use Rattle.opa_outside.specs.Outside.{MOST, Outside}
-use Rattle.opa_outside.specs.Reading.{ReadsAll}
-use Rattle.opa_outside.specs.Telling.{IsTold}
+use Rattle.opa_talk.specs.WholeInput.Outside.{MOST, Outside}
+use Rattle.opa_talk.specs.WholeInput.Reading.{ReadsAll}
+use Rattle.opa_talk.specs.WholeInput.Telling.{IsTold}
 use Rattle.opa_batch.specs.Batches.{Gives}
 use Rattle.opa_batch.specs.Serving.{IsOpened, Decides}
 

@@ -8,10 +8,10 @@ use Rattle.opa_io.specs.declared.fault.Status.{Status}
 use Rattle.opa_io.specs.declared.fault.Status.TheVariants as status
 use Rattle.opa_io.proofs.Outsides.{read_whole, read_within}
 use Rattle.opa_rulebase.specs.Loading.{Opens}
-use Rattle.opa_table.specs.Records.{table_records}
+use Rattle.opa_parse.specs.Tables.Records.{table_records}
 use Rattle.opa_tree.specs.declared.rulebase.Rulebase.{Rulebase}
-use Rattle.opa_outside.specs.Outside.{MOST, Outside, IsUnused, ReadAtMost, Calm}
-use Rattle.opa_outside.specs.Telling.{IsTold}
+use Rattle.opa_talk.specs.WholeInput.Outside.{MOST, Outside, IsUnused, ReadAtMost, Calm}
+use Rattle.opa_talk.specs.WholeInput.Telling.{IsTold}
 use Rattle.opa_batch.specs.Batches.{Gives, GivesOf}
 use Rattle.opa_batch.specs.Serving.{IsOpened, Works, Decides, Serves}
 use Rattle.opa_batch.specs.Statuses.{WroteOver, WroteRefusal, WroteFront, Wrote, OpensBase, HasCause, IsAnswered, Completes}

@@ -5,7 +5,7 @@ use Rattle.opa_io.specs.declared.fault.Status.{Status}
 use Rattle.opa_io.specs.declared.fault.Status.TheVariants as status
 use Rattle.opa_model.specs.declared.ids.AttrId.{AttrId}
 use Rattle.opa_case.specs.Shapes.{attribute_or}
-use Rattle.opa_table.specs.Records.{table_records}
+use Rattle.opa_parse.specs.Tables.Records.{table_records}
 use Rattle.opa_tree.specs.declared.rulebase.Rulebase.{Rulebase}
 use Rattle.opa_batch.specs.declared.head.Head.{Head}
 use Rattle.opa_batch.specs.Heads.{AreHeads, IsFirstRefusal}

@@ -4,12 +4,12 @@ use Rattle.std.specs.Prelude.{◌≡◌, ◌≤◌, ◌⊎◌, ◌+◌, ℕ, zer
 use Rattle.std.specs.Io.KnownBytes.{Consumes, IsAtEnd}
 use Rattle.opa_case.specs.Cases.{CaseView, no_case}
 use Rattle.opa_case.specs.declared.change.ChangeCommand.{ChangeCommand}
-use Rattle.opa_infer.specs.Sessions.{reached, first_slots}
-use Rattle.opa_outside.specs.Outside.{Outside}
+use Rattle.opa_session.specs.Infer.Sessions.{reached, first_slots}
+use Rattle.opa_talk.specs.WholeInput.Outside.{Outside}
 use Rattle.opa_script.specs.declared.command.Command.{Command}
 use Rattle.opa_script.specs.Commands.{IsCommand}
 use Rattle.opa_script.specs.Laws.{IsWellFormed}
-use Rattle.opa_table.specs.Records.{table_records}
+use Rattle.opa_parse.specs.Tables.Records.{table_records}
 use Rattle.opa_tree.specs.declared.rulebase.Rulebase.{Rulebase}
 use Rattle.opa_batch.specs.declared.head.Head.{Head}
 use Rattle.opa_batch.specs.Heads.{AreHeads}

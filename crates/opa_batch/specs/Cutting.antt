@@ -4,7 +4,7 @@ use denote.Ref.{Bor}
 use Rattle.csv.specs.Reading.{AreRecords, Ready, default_config, reader_config, reader_state, reader_trim, source_of}
 use Rattle.csv.specs.declared.reader.Reader.{Reader}
 use Rattle.csv.specs.declared.reader.Trim.TheVariants as trim
-use Rattle.opa_table.specs.Records.{table_records}
+use Rattle.opa_parse.specs.Tables.Records.{table_records}
 
 -- the records below the heading
 abbrev pub below : List ℕ → List (List (List ℕ))

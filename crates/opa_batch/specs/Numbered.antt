@@ -2,7 +2,7 @@
 use Rattle.std.specs.Prelude.{◌≡◌, ◌≤◌, ◌+◌, ◌++◌, ◌∷◌, ℕ, List, map, drop, slice_get, Option, None, Some, Result, Ok, Err}
 use Rattle.opa_model.specs.declared.ids.AttrId.{AttrId}
 use Rattle.opa_case.specs.Cases.{CaseView}
-use Rattle.opa_infer.specs.Sessions.{reached}
+use Rattle.opa_session.specs.Infer.Sessions.{reached}
 use Rattle.opa_tree.specs.declared.rulebase.Rulebase.{Rulebase}
 use Rattle.opa_batch.specs.declared.head.Head.{Head}
 use Rattle.opa_batch.specs.Rows.{AreCells, IsRow}

@@ -16,7 +16,7 @@ use Rattle.opa_script.specs.declared.fault.CmdFault.{CmdFault}
 use Rattle.opa_script.specs.declared.fault.CmdFault.TheVariants as fault
 use Rattle.opa_script.specs.Commands.{IsCommand, IsNoCommand}
 use Rattle.opa_script.specs.Laws.{IsWellFormed}
-use Rattle.opa_told.specs.Shown.{told_line}
+use Rattle.opa_reply.specs.Reporting.Shown.{told_line}
 use Rattle.opa_batch.specs.declared.head.Head.{Head}
 use Rattle.opa_batch.specs.declared.head.Sort.{Sort}
 use Rattle.opa_batch.specs.declared.head.Sort.TheVariants as sort

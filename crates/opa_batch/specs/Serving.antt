@@ -7,8 +7,8 @@ use Rattle.opa_io.specs.declared.fault.Status.TheVariants as status
 use Rattle.opa_model.specs.Models.{IsModel}
 use Rattle.opa_tree.specs.declared.rulebase.Rulebase.{Rulebase}
 use Rattle.opa_rulebase.specs.Loading.{Opens}
-use Rattle.opa_outside.specs.Outside.{MOST, Outside, IsUnused, IsSilent, ReadAtMost, ReadExactly}
-use Rattle.opa_outside.specs.Telling.{IsTold}
+use Rattle.opa_talk.specs.WholeInput.Outside.{MOST, Outside, IsUnused, IsSilent, ReadAtMost, ReadExactly}
+use Rattle.opa_talk.specs.WholeInput.Telling.{IsTold}
 use Rattle.opa_batch.specs.Batches.{Gives}
 
 -- this is what the files open under the name, where they are told

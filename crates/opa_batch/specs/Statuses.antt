@@ -6,7 +6,7 @@ use Rattle.opa_io.specs.declared.fault.Status.{Status}
 use Rattle.opa_io.specs.declared.fault.Status.TheVariants as status
 use Rattle.opa_tree.specs.declared.rulebase.Rulebase.{Rulebase}
 use Rattle.opa_rulebase.specs.Loading.{Opens}
-use Rattle.opa_outside.specs.Outside.{MOST, Outside, IsUnused, ReadAtMost, ReadExactly, Calm}
+use Rattle.opa_talk.specs.WholeInput.Outside.{MOST, Outside, IsUnused, ReadAtMost, ReadExactly, Calm}
 use Rattle.opa_batch.specs.Batches.{Gives}
 
 module _ (name : List ℕ) (old new : Outside) where

@@ -1,5 +1,5 @@
 // Many cases.
-ghost use Rattle.opa_outside.specs.Outside.{outside};
+ghost use Rattle.opa_talk.specs.WholeInput.Outside.{outside};
 ghost use Rattle.opa_batch.specs.Counting.{Counts};
 ghost use Rattle.opa_batch.specs.Promises.{Promises};
 

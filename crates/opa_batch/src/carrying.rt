@@ -3,7 +3,7 @@ ghost use Rattle.std.specs.Prelude.{◌≡◌, ◌≢◌, Some, Ok, Err, IfOk, I
 ghost use Rattle.opa_case.specs.Laws.{IsDeclared};
 ghost use Rattle.opa_case.specs.Shapes.{shape_of};
 ghost use Rattle.opa_case.specs.declared.change.Refusal.TheVariants as refusals;
-ghost use Rattle.opa_infer.specs.Sessions.{reached};
+ghost use Rattle.opa_session.specs.Infer.Sessions.{reached};
 ghost use Rattle.opa_mean.specs.Rulebases.{IsOf};
 ghost use Rattle.opa_script.specs.Laws.{IsInRange};
 ghost use Rattle.opa_batch.specs.Counting.{IsAtMost, ChangeReaches, LineReaches, CellReaches};

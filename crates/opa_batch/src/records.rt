@@ -1,8 +1,8 @@
 // The bytes of an input are cut into records, one after another.
 ghost use Rattle.std.specs.Prelude.{◌≡◌, IfOk};
 ghost use Rattle.csv.specs.Records.{fields_of};
-ghost use Rattle.opa_layout.specs.Lines.{without_mark as without_mark_of};
-ghost use Rattle.opa_table.specs.Records.{csv_records, table_records};
+ghost use Rattle.opa_words.specs.Layout.Lines.{without_mark as without_mark_of};
+ghost use Rattle.opa_parse.specs.Tables.Records.{csv_records, table_records};
 ghost use Rattle.opa_batch.specs.Cutting.{CutsOne, HasLeft};
 
 use csv::{ByteRecord, Reader, ReaderBuilder};

@@ -1,14 +1,14 @@
 // An input is read and decided over a rulebase.
 ghost use Rattle.std.specs.Prelude.{◌≡◌};
 ghost use Rattle.opa_model.specs.Models.{IsModel};
-ghost use Rattle.opa_outside.specs.Outside.{outside};
+ghost use Rattle.opa_talk.specs.WholeInput.Outside.{outside};
 ghost use Rattle.opa_batch.specs.Counting.{Counts, CountsOver};
 ghost use Rattle.opa_batch.specs.Serving.{Decides, Serves};
 
 use crate::making::make;
 use opa_io::{Shelf, Sink, Source, Status, Steps};
-use opa_outside::{Stop, read_all, tell};
 use opa_rulebase::{LoadError, load_rulebase};
+use opa_talk::{Stop, read_all, tell};
 use opa_tree::Rulebase;
 use std::alloc::Global;
 use std::sync::ledger::Ledger;

@@ -10,7 +10,7 @@ use Rattle.opa_case.specs.declared.change.ChangeCommand.{ChangeCommand}
 use Rattle.opa_case.specs.declared.change.Refusal.{Refusal}
 use Rattle.opa_case.specs.declared.question.Question.{Question}
 use Rattle.opa_cells.specs.declared.instance.InstanceId.{InstanceId}
-use Rattle.opa_infer.specs.Sessions.{reached}
+use Rattle.opa_session.specs.Infer.Sessions.{reached}
 use Rattle.opa_model.specs.declared.ids.AttrId.{AttrId}
 use Rattle.opa_model.specs.declared.ids.RelId.{RelId}
 use Rattle.opa_model.specs.declared.lists.Lists.{Lists}
@@ -23,10 +23,10 @@ use Rattle.opa_script.specs.declared.fault.CmdFault.TheVariants as fault
 use Rattle.opa_talk.specs.Lines.{EndsLine}
 use Rattle.opa_talk.proofs.LinesLaws.{EndsLine-append}
 use Rattle.opa_text.specs.Points.{point_text}
-use Rattle.opa_told.specs.Asking.{question_told, next_told, asked}
-use Rattle.opa_told.specs.Goals.{goals_told, goal_line}
-use Rattle.opa_told.specs.Shown.{value_told, names_told, told, refused_point}
-use Rattle.opa_told.specs.Stats.{counted, stats_told}
+use Rattle.opa_reply.specs.Reporting.Asking.{question_told, next_told, asked}
+use Rattle.opa_reply.specs.Reporting.Goals.{goals_told, goal_line}
+use Rattle.opa_reply.specs.Reporting.Shown.{value_told, names_told, told, refused_point}
+use Rattle.opa_reply.specs.Reporting.Stats.{counted, stats_told}
 use Rattle.opa_tree.specs.declared.rulebase.Rulebase.{Rulebase}
 use Rattle.opa_cases.specs.declared.kept.OpenCase.{OpenCase}
 use Rattle.opa_cases.specs.declared.orders.Order.{Order}

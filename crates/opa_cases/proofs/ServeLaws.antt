@@ -3,8 +3,8 @@ use Rattle.std.proofs.Common.{◌≡◌, ℕ, Bool, false, List, refl, sym, ap, 
 use Rattle.std.specs.declared.sync.ledger.Ledger.{Ghosts}
 use Rattle.std.specs.Prelude.{Option, None, Some, Result, IfOk, IfErr, MatchOption}
 use Rattle.opa_io.specs.Outside.{Files}
-use Rattle.opa_infer.specs.declared.session.Session.{Session}
-use Rattle.opa_infer.specs.Sessions.{rules_of}
+use Rattle.opa_session.specs.declared.infer.session.Session.{Session}
+use Rattle.opa_session.specs.Infer.Sessions.{rules_of}
 use Rattle.opa_model.specs.declared.lists.Lists.{Lists}
 use Rattle.opa_script.specs.declared.fault.CmdFault.{CmdFault}
 use Rattle.opa_tree.specs.declared.rulebase.Rulebase.{Rulebase}

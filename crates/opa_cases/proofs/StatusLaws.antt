@@ -6,8 +6,8 @@ use Rattle.opa_io.specs.Outside.{Files, AppendsFront}
 use Rattle.opa_io.specs.declared.fault.Status.{Status}
 use Rattle.opa_io.specs.declared.fault.Status.TheVariants as status
 use Rattle.opa_io.proofs.Outsides.{read_whole}
-use Rattle.opa_outside.specs.Outside.{MOST, Outside, IsUnused, IsSilent, ReadAtMost, Calm}
-use Rattle.opa_outside.specs.Telling.{IsTold}
+use Rattle.opa_talk.specs.WholeInput.Outside.{MOST, Outside, IsUnused, IsSilent, ReadAtMost, Calm}
+use Rattle.opa_talk.specs.WholeInput.Telling.{IsTold}
 use Rattle.opa_rulebase.specs.Loading.{Opens}
 use Rattle.opa_talk.specs.Talk.{MayLeave}
 use Rattle.opa_talk.proofs.StatusLaws.{calm_is_done, first_among, unread, whole_among}

@@ -7,7 +7,7 @@ use Rattle.opa_case.specs.Steps.{step}
 use Rattle.opa_case.specs.declared.change.ChangeCommand.{ChangeCommand}
 use Rattle.opa_case.specs.declared.change.Refusal.{Refusal}
 use Rattle.opa_tree.specs.declared.rulebase.Rulebase.{Rulebase}
-use Rattle.opa_infer.specs.Sessions.{reached}
+use Rattle.opa_session.specs.Infer.Sessions.{reached}
 use Rattle.opa_script.specs.declared.command.Command.{Command}
 use Rattle.opa_script.specs.declared.command.Command.TheVariants as command
 use Rattle.opa_script.specs.declared.fault.CmdFault.{CmdFault}

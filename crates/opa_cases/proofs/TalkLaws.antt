@@ -1,7 +1,7 @@
 -- How a caseload ends, from what its parts ensure.
 use Rattle.std.proofs.Common.{◌≡◌, ◌≤◌, inl, inr, ℕ, true, false, List, [], ◌∷◌, Result, Ok, Err, OnOk, IfErr, refl, subst, ap, ◌∙◌}
 use Rattle.std.specs.Prelude.{Option, ◌≢◌}
-use Rattle.opa_outside.specs.Outside.{MOST, Outside}
+use Rattle.opa_talk.specs.WholeInput.Outside.{MOST, Outside}
 use Rattle.std.specs.Io.KnownBytes.{IsAtEnd}
 use Rattle.opa_talk.specs.declared.halt.Halt.{Halt}
 use Rattle.opa_talk.specs.declared.halt.Halt.TheVariants as halt

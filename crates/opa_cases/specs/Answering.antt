@@ -2,7 +2,7 @@
 use Rattle.std.specs.Prelude.{Option}
 use Rattle.std.specs.declared.sync.ledger.Ledger.{Ghosts}
 use Rattle.opa_io.specs.Outside.{Files}
-use Rattle.opa_infer.specs.Sessions.{rules_of}
+use Rattle.opa_session.specs.Infer.Sessions.{rules_of}
 use Rattle.opa_cases.specs.declared.caseload.Caseload.{Caseload}
 use Rattle.opa_cases.specs.Caseload.{Held, held}
 use Rattle.opa_cases.specs.Holding.{opens_of}

@@ -6,8 +6,8 @@ use Rattle.std.specs.declared.sync.ledger.Ledger.{Ghosts}
 use Rattle.opa_case.specs.Cases.{CaseView}
 use Rattle.opa_case.specs.Fits.{Fits}
 use Rattle.opa_case.specs.Shapes.{shape_of}
-use Rattle.opa_infer.specs.declared.session.Session.{Session}
-use Rattle.opa_infer.specs.Sessions.{held_of}
+use Rattle.opa_session.specs.declared.infer.session.Session.{Session}
+use Rattle.opa_session.specs.Infer.Sessions.{held_of}
 use Rattle.opa_tree.specs.declared.rulebase.Rulebase.{Rulebase}
 use Rattle.opa_cases.specs.declared.kept.Current.{Current}
 use Rattle.opa_cases.specs.declared.kept.KeptCase.{KeptCase}

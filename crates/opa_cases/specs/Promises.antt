@@ -1,7 +1,7 @@
 -- What a caseload promises, whatever rulebase, input and outside it is given.
 use Rattle.std.specs.Prelude.{ℕ, ◌≡◌, List}
 use Rattle.opa_io.specs.declared.fault.Status.{Status}
-use Rattle.opa_outside.specs.Outside.{Outside}
+use Rattle.opa_talk.specs.WholeInput.Outside.{Outside}
 use Rattle.opa_talk.specs.Transcript.{CutsAnywhere}
 use Rattle.opa_cases.specs.Caseload.{caseload}
 use Rattle.opa_cases.specs.Laws.{InOrder, EachAlone, EachHeard, SuppositionsLeaveNothing}

@@ -5,15 +5,15 @@ use Rattle.opa_case.specs.Shapes.{shape_of}
 use Rattle.opa_case.specs.Steps.{step}
 use Rattle.opa_case.specs.declared.change.ChangeCommand.{ChangeCommand}
 use Rattle.opa_tree.specs.declared.rulebase.Rulebase.{Rulebase}
-use Rattle.opa_infer.specs.Sessions.{reached}
+use Rattle.opa_session.specs.Infer.Sessions.{reached}
 use Rattle.opa_script.specs.declared.command.Command.{Command}
 use Rattle.opa_script.specs.declared.command.Command.TheVariants as command
 use Rattle.opa_script.specs.declared.fault.CmdFault.{CmdFault}
 use Rattle.opa_script.specs.declared.fault.CmdFault.TheVariants as fault
-use Rattle.opa_told.specs.Asking.{next_told}
-use Rattle.opa_told.specs.Goals.{goals_told}
-use Rattle.opa_told.specs.Shown.{value_told, names_told}
-use Rattle.opa_told.specs.Stats.{stats_told}
+use Rattle.opa_reply.specs.Reporting.Asking.{next_told}
+use Rattle.opa_reply.specs.Reporting.Goals.{goals_told}
+use Rattle.opa_reply.specs.Reporting.Shown.{value_told, names_told}
+use Rattle.opa_reply.specs.Reporting.Stats.{stats_told}
 use Rattle.opa_reply.specs.Refused.{refused_command, refused_change}
 use Rattle.opa_cases.specs.declared.kept.KeptCase.{KeptCase}
 use Rattle.opa_cases.specs.declared.kept.OpenCase.{OpenCase}

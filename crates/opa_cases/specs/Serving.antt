@@ -5,8 +5,8 @@ use Rattle.opa_io.specs.Outside.{Files, Rose}
 use Rattle.opa_io.specs.declared.fault.Status.{Status}
 use Rattle.opa_io.specs.declared.fault.Status.TheVariants as status
 use Rattle.opa_model.specs.Models.{IsModel}
-use Rattle.opa_outside.specs.Outside.{MOST, Outside, IsUnused, IsSilent}
-use Rattle.opa_outside.specs.Telling.{IsTold}
+use Rattle.opa_talk.specs.WholeInput.Outside.{MOST, Outside, IsUnused, IsSilent}
+use Rattle.opa_talk.specs.WholeInput.Telling.{IsTold}
 use Rattle.opa_rulebase.specs.Loading.{Opens}
 use Rattle.opa_talk.specs.declared.halt.Halt.{Halt}
 use Rattle.opa_talk.specs.declared.halt.Halt.TheVariants as halt

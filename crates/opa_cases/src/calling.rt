@@ -1,5 +1,5 @@
 // Many cases in one input.
-ghost use Rattle.opa_outside.specs.Outside.{outside};
+ghost use Rattle.opa_talk.specs.WholeInput.Outside.{outside};
 ghost use Rattle.opa_cases.specs.Promises.{Promises};
 
 use crate::serving::open_and_serve;

@@ -1,6 +1,6 @@
 // What the rest of a line asks for is carried out.
 ghost use Rattle.std.specs.Prelude.{◌≡◌, false, IfOk, OnOk};
-ghost use Rattle.opa_infer.specs.Sessions.{rules_of};
+ghost use Rattle.opa_session.specs.Infer.Sessions.{rules_of};
 ghost use Rattle.opa_cases.specs.Holding.{open_of, PileFits};
 ghost use Rattle.opa_cases.specs.Orders.{IsOrderInRange};
 ghost use Rattle.opa_cases.specs.Scripts.{Carries, Responds};
@@ -10,10 +10,10 @@ use crate::kept::Current;
 use crate::orders::Order;
 use crate::supposing::{suppose, undo};
 use crate::texts::told;
-use opa_infer::Session;
 use opa_io::{NoMemory, Steps};
 use opa_reply::refused_command;
 use opa_script::CmdFault;
+use opa_session::Session;
 use std::alloc::Global;
 use std::sync::ledger::Ledger;
 

@@ -2,12 +2,12 @@
 ghost use Rattle.std.proofs.Props.{props};
 ghost use Rattle.opa_case.specs.Cases.{coded_lists, coded_population};
 ghost use Rattle.opa_cells.specs.Instances.{coded_instance};
-ghost use Rattle.opa_infer.specs.Sessions.{rules_of};
+ghost use Rattle.opa_session.specs.Infer.Sessions.{rules_of};
 ghost use Rattle.opa_cases.specs.Holding.{AllFit, CurrentFits, IsApart};
 
 use crate::kept::{Current, OpenCase};
-use opa_infer::Session;
-use opa_named::Named;
+use crate::name_map::Named;
+use opa_session::Session;
 use std::sync::ledger::Ledger;
 
 /// One session, which goes from one case to another, and the other cases that are open.

@@ -2,19 +2,20 @@
 ghost use Rattle.std.specs.Prelude.{◌≡◌, IfOk};
 ghost use Rattle.opa_case.specs.Laws.{IsDeclared};
 ghost use Rattle.opa_case.specs.Shapes.{shape_of};
-ghost use Rattle.opa_infer.specs.Sessions.{rules_of};
+ghost use Rattle.opa_session.specs.Infer.Sessions.{rules_of};
 ghost use Rattle.opa_script.specs.Laws.{IsInRange};
 ghost use Rattle.opa_cases.specs.Holding.{open_of};
 ghost use Rattle.opa_cases.specs.Scripts.{Changes, Does};
 
 use crate::kept::Current;
 use opa_case::{ChangeCommand, Refusal};
-use opa_infer::Session;
 use opa_io::{NoMemory, Steps};
 use opa_listen::Listener;
-use opa_reply::{refused_change, refused_command};
+use opa_reply::{
+    goals_told, names_told, next_told, refused_change, refused_command, stats_told, value_told,
+};
 use opa_script::{CmdFault, Command};
-use opa_told::{goals_told, names_told, next_told, stats_told, value_told};
+use opa_session::Session;
 use std::alloc::Global;
 use std::sync::ledger::Ledger;
 

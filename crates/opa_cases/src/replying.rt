@@ -7,10 +7,10 @@ ghost use Rattle.opa_cases.specs.Answering.{holding};
 
 use crate::answering::answer;
 use crate::caseload::Caseload;
-use opa_infer::Session;
+use crate::name_map::Named;
 use opa_io::{NoMemory, Shelf, Steps};
 use opa_listen::Listener;
-use opa_named::Named;
+use opa_session::Session;
 use opa_talk::{Halt, Prompt, Replier};
 use opa_tree::Rulebase;
 use std::alloc::Global;

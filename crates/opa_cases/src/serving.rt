@@ -1,7 +1,7 @@
 // A rulebase is loaded, and the lines of the input are carried out over it.
 ghost use Rattle.std.specs.Prelude.{◌≡◌, ◌≢◌, Err, IfErr, OnOk};
 ghost use Rattle.opa_model.specs.Models.{IsModel};
-ghost use Rattle.opa_outside.specs.Outside.{outside};
+ghost use Rattle.opa_talk.specs.WholeInput.Outside.{outside};
 ghost use Rattle.opa_talk.specs.Halt.{IsCause};
 ghost use Rattle.opa_talk.specs.declared.halt.Halt.TheVariants as halt;
 ghost use Rattle.opa_cases.specs.Serving.{Ran, TalksAll, TalksPart, unkept as meant};
@@ -9,9 +9,8 @@ ghost use Rattle.opa_cases.specs.Serving.{Ran, TalksAll, TalksPart, unkept as me
 use crate::caseload::Caseload;
 use opa_io::{Shelf, Sink, Source, Status, Steps};
 use opa_listen::Listener;
-use opa_outside::tell;
 use opa_rulebase::{LoadError, load_rulebase};
-use opa_talk::{Halt, converse, end_of};
+use opa_talk::{Halt, converse, end_of, tell};
 use opa_tree::Rulebase;
 use std::alloc::Global;
 use std::sync::ledger::Ledger;

@@ -1,16 +1,16 @@
 // Suppositions: a case is kept, and comes back.
 ghost use Rattle.std.specs.Prelude.{◌≡◌, ◌++◌, ◌∷◌, [], IfOk, OnOk};
-ghost use Rattle.opa_infer.specs.Sessions.{rules_of, held_of};
+ghost use Rattle.opa_session.specs.Infer.Sessions.{rules_of, held_of};
 ghost use Rattle.opa_cases.specs.Holding.{open_of, FitsRules, PileFits};
 ghost use Rattle.opa_cases.specs.Scripts.{Supposes, Undoes, kept_as, opened_as};
 
 use crate::kept::{Current, KeptCase};
 use crate::texts::told;
-use opa_infer::Session;
 use opa_io::limits::MOST_SUPPOSITIONS;
 use opa_io::{NoMemory, Steps};
 use opa_listen::Listener;
 use opa_mean::Held;
+use opa_session::Session;
 use std::alloc::Global;
 use std::sync::ledger::Ledger;
 

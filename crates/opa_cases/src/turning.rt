@@ -2,7 +2,7 @@
 ghost use Rattle.std.specs.Prelude.{◌≡◌, false, None, IfOk, IfSome, OnOk, is_some};
 ghost use Rattle.std.specs.FinMap as map;
 ghost use Rattle.opa_case.specs.Cases.{no_case};
-ghost use Rattle.opa_infer.specs.Sessions.{rules_of};
+ghost use Rattle.opa_session.specs.Infer.Sessions.{rules_of};
 ghost use Rattle.opa_cases.specs.Caseload.{is_full as is_full_of};
 ghost use Rattle.opa_cases.specs.Holding.{opens_of, open_of, current_by, OpenFits, PileFits, IsTurned};
 ghost use Rattle.opa_cases.specs.Scripts.{fresh, opened};

@@ -19,7 +19,7 @@ use Rattle.opa_mean.specs.Looks.{Look}
 use Rattle.opa_mean.specs.Mean.{concluded, fitted, is_money}
 use Rattle.opa_mean.specs.Meaning.{value, first_value}
 use Rattle.opa_code.specs.Coding.{coded, is_for}
-use Rattle.opa_across.specs.Lines.{values_at}
+use Rattle.opa_code.specs.OverLines.Lines.{values_at}
 use Rattle.opa_code.specs.Steps.{Leaves}
 use Rattle.opa_code.specs.declared.rule_code.RuleCode.{RuleCode}
 use Rattle.opa_code.proofs.Compiled.{run_code}

@@ -15,12 +15,12 @@ use Rattle.opa_mean.specs.Looks.{Look}
 use Rattle.opa_mean.specs.Meaning.{Meaning, each, item, quant_of, amount, at_place, first_value}
 use Rattle.opa_mean.specs.Places.{place}
 use Rattle.opa_mean.proofs.Values.{items_more}
-use Rattle.opa_across.specs.Additions.{Gathered, IsAdded, HasRoom, gathers}
-use Rattle.opa_across.specs.Lines.{values_at}
-use Rattle.opa_across.specs.Tallies.{gather_of}
-use Rattle.opa_across.specs.declared.gathering.Gathering.{Gathering}
-use Rattle.opa_across.specs.declared.items.Items.{Items}
-use Rattle.opa_across.proofs.Adding.{few_have_room, item_one}
+use Rattle.opa_code.specs.OverLines.Additions.{Gathered, IsAdded, HasRoom, gathers}
+use Rattle.opa_code.specs.OverLines.Lines.{values_at}
+use Rattle.opa_code.specs.OverLines.Tallies.{gather_of}
+use Rattle.opa_code.specs.declared.over_lines.gathering.Gathering.{Gathering}
+use Rattle.opa_code.specs.declared.over_lines.items.Items.{Items}
+use Rattle.opa_code.proofs.over_lines.Adding.{few_have_room, item_one}
 use Rattle.opa_code.specs.Running.{Run, put}
 use Rattle.opa_code.specs.Steps.{Leaves, IsListed, IsFirst, IsGathered, IsItem, Collected, HasPlace, items_at, attribute_at, is_count}
 use Rattle.opa_code.specs.declared.node.Node.{Node}

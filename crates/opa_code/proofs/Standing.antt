@@ -16,7 +16,7 @@ use Rattle.opa_mean.specs.Looks.{Look}
 use Rattle.opa_mean.specs.Meaning.{Meaning, each, certain_of, known_of, choose, window, rolling}
 use Rattle.opa_mean.specs.Operations.{op_of}
 use Rattle.opa_mean.proofs.Values.{window_more}
-use Rattle.opa_across.specs.Lines.{Stand, meaning_of, values_at}
+use Rattle.opa_code.specs.OverLines.Lines.{Stand, meaning_of, values_at}
 use Rattle.opa_code.specs.Running.{put, node_meaning, operand_count, sole, chosen, IsStep}
 use Rattle.opa_code.specs.declared.node.Node.{Node}
 use Rattle.opa_code.specs.declared.node.Node.TheVariants as node

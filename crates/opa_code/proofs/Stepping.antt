@@ -6,7 +6,7 @@ use Rattle.opa_line.specs.Lines.{StandsFor}
 use Rattle.opa_cells.specs.declared.instance.InstanceId.{InstanceId}
 use Rattle.opa_mean.specs.Looks.{Look}
 use Rattle.opa_mean.specs.Meaning.{Meaning}
-use Rattle.opa_across.specs.Lines.{Stand}
+use Rattle.opa_code.specs.OverLines.Lines.{Stand}
 use Rattle.opa_code.specs.Running.{Run, IsStep, put, over_meaning}
 use Rattle.opa_code.specs.Steps.{Keeps, Leaves, operand_at, over_at, IsQuantified}
 use Rattle.opa_code.specs.declared.node.Node.{Node}

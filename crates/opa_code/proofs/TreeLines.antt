@@ -16,7 +16,7 @@ use Rattle.opa_mean.specs.Rulebases.{IsOf}
 use Rattle.opa_mean.proofs.HeldFresh.{held_is_fresh}
 use Rattle.opa_code.specs.Codes.{code}
 use Rattle.opa_code.specs.Fresh.{IsLeft, fresh_value}
-use Rattle.opa_across.specs.Lines.{values_at}
+use Rattle.opa_code.specs.OverLines.Lines.{values_at}
 use Rattle.opa_code.specs.Runnable.{CanRun}
 use Rattle.opa_code.specs.Running.{Run}
 use Rattle.opa_code.specs.Steps.{Leaves}

@@ -7,3 +7,4 @@ pub mod Runnable
 pub mod Running
 pub mod Samples
 pub mod Steps
+pub mod OverLines

@@ -11,11 +11,11 @@ use Rattle.opa_cells.specs.Instances.{named}
 use Rattle.opa_cells.specs.declared.instance.InstanceId.{InstanceId}
 use Rattle.opa_mean.specs.Looks.{Look}
 use Rattle.opa_mean.specs.Meaning.{Meaning, each, first_value, item, over}
-use Rattle.opa_across.specs.Additions.{Gathered, IsAdded}
-use Rattle.opa_across.specs.Lines.{Stand}
-use Rattle.opa_across.specs.Tallies.{gather_of}
-use Rattle.opa_across.specs.declared.gathering.Gathering.{Gathering}
-use Rattle.opa_across.specs.declared.items.Items.{Items}
+use Rattle.opa_code.specs.OverLines.Additions.{Gathered, IsAdded}
+use Rattle.opa_code.specs.OverLines.Lines.{Stand}
+use Rattle.opa_code.specs.OverLines.Tallies.{gather_of}
+use Rattle.opa_code.specs.declared.over_lines.gathering.Gathering.{Gathering}
+use Rattle.opa_code.specs.declared.over_lines.items.Items.{Items}
 use Rattle.opa_code.specs.Running.{Run, over_meaning}
 use Rattle.opa_code.specs.declared.node.Node.{Node}
 use Rattle.opa_code.specs.declared.node.Node.TheVariants as node

@@ -6,11 +6,11 @@ ghost use Rattle.opa_line.specs.Lines.{StandsFor};
 ghost use Rattle.opa_mean.specs.Meaning as meant;
 ghost use Rattle.opa_value.specs.Truth.{not_of};
 ghost use Rattle.opa_mean.specs.Places.{place};
-ghost use Rattle.opa_across.specs.Lines.{Stand, meaning_of};
+ghost use Rattle.opa_code.specs.OverLines.Lines.{Stand, meaning_of};
 ghost use Rattle.opa_code.specs.Running.{IsStep, node_meaning, operand_count as count_of, put, sole, chosen};
 
 use crate::node::Node;
-use opa_across::{
+use crate::over_lines::{
     Gathering, certain_line, choice_line, gathered, known_line, not_line, op_line, rolling_line,
     same_line, window_line,
 };

@@ -4,11 +4,11 @@ ghost use Rattle.opa_date.specs.declared.TheConstants.{DAYS};
 ghost use Rattle.opa_line.specs.Lines.{StandsFor};
 ghost use Rattle.opa_value.specs.Fit.{fit_of};
 ghost use Rattle.opa_mean.specs.Meaning.{first_value};
-ghost use Rattle.opa_across.specs.Lines.{values_at};
+ghost use Rattle.opa_code.specs.OverLines.Lines.{values_at};
 
 use crate::Code;
+use crate::over_lines::{first_line, fitted_line};
 use crate::run::run;
-use opa_across::{first_line, fitted_line};
 use opa_case::InstanceId;
 use opa_io::{List, NoMemory};
 use opa_line::Line;

@@ -3,9 +3,9 @@ ghost use Rattle.std.specs.Prelude.{◌≡◌, ◌<◌, ◌∷◌, length, drop,
 ghost use Rattle.opa_cells.specs.Instances.{global, named};
 ghost use Rattle.opa_mean.specs.Meaning.{at_place};
 ghost use Rattle.opa_mean.specs.Places.{place};
-ghost use Rattle.opa_across.specs.Additions.{HasRoom, IsAdded};
+ghost use Rattle.opa_code.specs.OverLines.Additions.{HasRoom, IsAdded};
 
-use opa_across::Items;
+use crate::over_lines::Items;
 use opa_case::InstanceId;
 use opa_io::{List, NoMemory, Txt};
 use opa_mean::{Look, place_in};

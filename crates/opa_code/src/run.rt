@@ -3,15 +3,15 @@ ghost use Rattle.std.specs.Prelude.{◌≡◌, ◌≤◌, ◌∷◌, ◌++◌, [
 ghost use Rattle.opa_date.specs.declared.TheConstants.{DAYS};
 ghost use Rattle.opa_line.specs.Lines.{StandsFor};
 ghost use Rattle.opa_mean.specs.Meaning as meant;
-ghost use Rattle.opa_across.specs.Additions.{HasRoom};
-ghost use Rattle.opa_across.specs.Lines.{Stand, meaning_of, values_at};
+ghost use Rattle.opa_code.specs.OverLines.Additions.{HasRoom};
+ghost use Rattle.opa_code.specs.OverLines.Lines.{Stand, meaning_of, values_at};
 ghost use Rattle.opa_code.specs.Running.{IsStep, node_meaning, operand_count as count_of, put, sole, chosen};
 ghost use Rattle.opa_code.specs.Steps.{IsFirst, IsGathered, IsItem, IsListed, IsOver, IsQuantified, Keeps, Leaves, attribute_at, attribute_in, is_count, operand_at, over_at};
 
 use crate::carry::{add, behind, carry_out};
 use crate::members::{add_attribute, put_first, with_room};
 use crate::node::Node;
-use opa_across::{Gathering, Items, amount, gathering_of, item_line};
+use crate::over_lines::{Gathering, Items, amount, gathering_of, item_line};
 use opa_case::InstanceId;
 use opa_io::{NoMemory, Txt, front};
 use opa_line::Line;

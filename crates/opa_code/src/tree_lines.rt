@@ -11,8 +11,8 @@ ghost use Rattle.opa_code.specs.Runnable.{can_run as runs};
 
 use crate::gather::gather;
 use crate::node::Node;
+use crate::over_lines::first_line;
 use crate::run::run;
-use opa_across::first_line;
 use opa_case::InstanceId;
 use opa_io::limits::MOST_DAYS;
 use opa_io::{List, NoMemory};

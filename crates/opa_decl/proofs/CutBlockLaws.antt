@@ -4,9 +4,9 @@ use Rattle.std.specs.Prelude.{filter}
 use Rattle.std.specs.List.{All}
 use Rattle.std.proofs.lemmas.List.{map-append}
 use Rattle.std.proofs.lemmas.List.Elements.{All-tail, All-head, All-nil, All-cons, All-append}
-use Rattle.opa_layout.specs.declared.block.Block.{Block}
-use Rattle.opa_layout.specs.declared.block.BlockLine.{BlockLine}
-use Rattle.opa_layout.specs.Blocks.{lines_of}
+use Rattle.opa_words.specs.declared.layout.block.Block.{Block}
+use Rattle.opa_words.specs.declared.layout.block.BlockLine.{BlockLine}
+use Rattle.opa_words.specs.Layout.Blocks.{lines_of}
 use Rattle.opa_decl.specs.declared.cut.CutBlock.{CutBlock}
 use Rattle.opa_decl.specs.Heads.{is_declaration}
 use Rattle.opa_decl.specs.Cutting.{block_of, IsShort}

@@ -6,8 +6,8 @@ use Rattle.std.specs.Str.{chars}
 use Rattle.std.proofs.lemmas.List.Elements.{All-head, All-tail}
 use Rattle.opa_words.specs.declared.kinds.Token.{Token}
 use Rattle.opa_words.proofs.OneCut.{one_cut_holds, cut_or_stuck_holds}
-use Rattle.opa_layout.specs.declared.block.Block.{Block}
-use Rattle.opa_layout.specs.declared.block.BlockLine.{BlockLine}
+use Rattle.opa_words.specs.declared.layout.block.Block.{Block}
+use Rattle.opa_words.specs.declared.layout.block.BlockLine.{BlockLine}
 use Rattle.opa_tree.specs.declared.faults.RbFault.{RbFault}
 use Rattle.opa_tree.specs.FirstFaults.{IsFirst}
 use Rattle.opa_tree.proofs.Members.{none_in}

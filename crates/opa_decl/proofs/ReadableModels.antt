@@ -12,7 +12,7 @@ use Rattle.opa_model.specs.declared.things.Verb.{Verb}
 use Rattle.opa_model.specs.Lookups.{attribute_phrases, relation_phrases}
 use Rattle.opa_verbs.specs.declared.sentence.Form.TheVariants.{Negative}
 use Rattle.opa_verbs.specs.Forms.{spoken, beside}
-use Rattle.opa_layout.specs.declared.block.Block.{Block}
+use Rattle.opa_words.specs.declared.layout.block.Block.{Block}
 use Rattle.opa_decl.specs.declared.cut.CutBlock.{CutBlock}
 use Rattle.opa_decl.specs.declared.items.Item.{Item}
 use Rattle.opa_decl.specs.declared.items.Item.TheVariants as item

@@ -5,8 +5,8 @@ use Rattle.std.specs.Str.{chars, IsUtf8}
 use Rattle.opa_words.specs.declared.kinds.Token.{Token}
 use Rattle.opa_words.specs.Cuts.{Cuts, Stuck}
 use Rattle.opa_words.specs.Places.{IsWithin, IsOfKind}
-use Rattle.opa_layout.specs.declared.block.Block.{Block}
-use Rattle.opa_layout.specs.declared.block.BlockLine.{BlockLine}
+use Rattle.opa_words.specs.declared.layout.block.Block.{Block}
+use Rattle.opa_words.specs.declared.layout.block.BlockLine.{BlockLine}
 use Rattle.opa_decl.specs.declared.cut.CutBlock.{CutBlock}
 use Rattle.opa_decl.specs.declared.cut.CutLine.{CutLine}
 use Rattle.opa_decl.specs.Heads.{is_declaration}

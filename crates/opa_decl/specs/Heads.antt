@@ -3,8 +3,8 @@ use Rattle.std.specs.Prelude.{ℕ, List, [], ◌∷◌, Bool, false, not, ◌||�
 use Rattle.std.specs.Str.{chars}
 use Rattle.opa_words.specs.Characters.{continues_word}
 use Rattle.opa_words.specs.Phrases.{after_front}
-use Rattle.opa_layout.specs.declared.block.Block.{Block}
-use Rattle.opa_layout.specs.declared.block.BlockLine.{BlockLine}
+use Rattle.opa_words.specs.declared.layout.block.Block.{Block}
+use Rattle.opa_words.specs.declared.layout.block.BlockLine.{BlockLine}
 use Rattle.opa_decl.specs.declared.head.Head.{Head}
 use Rattle.opa_decl.specs.declared.head.Head.TheVariants as head
 

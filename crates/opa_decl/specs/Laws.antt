@@ -1,6 +1,6 @@
 -- What holds of all readings of blocks.
 use Rattle.std.specs.Prelude.{◌≡◌, List}
-use Rattle.opa_layout.specs.declared.block.Block.{Block}
+use Rattle.opa_words.specs.declared.layout.block.Block.{Block}
 use Rattle.opa_model.specs.declared.lists.Lists.{Lists}
 use Rattle.opa_tree.specs.declared.faults.RbFault.{RbFault}
 use Rattle.opa_decl.specs.declared.cut.CutBlock.{CutBlock}

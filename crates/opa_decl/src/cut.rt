@@ -1,14 +1,13 @@
 // The lines of declaration blocks, cut into tokens.
 ghost use Rattle.std.specs.Prelude.{◌≡◌, ◌<◌, ◌^◌, length, map, filter, IfOk};
 ghost use Rattle.std.specs.List.{All};
-ghost use Rattle.opa_layout.specs.Blocks.{lines_of};
+ghost use Rattle.opa_words.specs.Layout.Blocks.{lines_of};
 ghost use Rattle.opa_decl.specs.Heads.{is_declaration};
 ghost use Rattle.opa_decl.specs.Cutting.{HasTokens, HaveTokens, AreCut, line_of, block_of, IsShort};
 
 use crate::head::head_in;
 use opa_io::{List, NoMemory, Txt, front};
-use opa_layout::{Block, BlockLine};
-use opa_words::{Token, WordFault, tokens};
+use opa_words::{Block, BlockLine, Token, WordFault, tokens};
 use std::alloc::Global;
 
 /// A line with its tokens: none where some character begins no token.

@@ -1,7 +1,7 @@
 // The model that blocks declare, or their first fault.
 ghost use Rattle.std.specs.Prelude.{◌≡◌, [], None, Some, IfOk, IfErr};
 ghost use Rattle.std.specs.List.{All};
-ghost use Rattle.opa_layout.specs.Blocks.{lines_of};
+ghost use Rattle.opa_words.specs.Layout.Blocks.{lines_of};
 ghost use Rattle.opa_model.specs.Models.{IsModel};
 ghost use Rattle.opa_tree.specs.declared.faults.RbError.TheVariants.{Refused};
 ghost use Rattle.opa_tree.specs.declared.faults.RbFault.{RbFault as FaultView};
@@ -14,9 +14,9 @@ use crate::cut::{CutBlock, declaration_blocks};
 use crate::judging::{Judged, judge};
 use crate::reading::{Reading, read};
 use opa_io::NoMemory;
-use opa_layout::Block;
 use opa_model::{Lists, Model};
 use opa_tree::{RbError, RbFault, first_of};
+use opa_words::Block;
 use std::alloc::Global;
 
 /// The numbers of items have 32 bits. Blocks of fewer than 2^32 lines have fewer items.

@@ -4,7 +4,7 @@ ghost use Rattle.std.specs.Str.{chars};
 ghost use Rattle.opa_words.specs.Characters.{begins_word, continues_word};
 ghost use Rattle.opa_decl.specs.Heads.{goes_on, begins_with, head_of as head_of_text, head_in};
 
-use opa_layout::BlockLine;
+use opa_words::BlockLine;
 use unicode::properties::{GeneralCategory, GeneralCategoryGroup, is_alphabetic};
 
 /// What a block declares by its first word: `include` and `table` a file.

@@ -12,7 +12,7 @@ use Rattle.opa_script.specs.declared.command.Command.{Command}
 use Rattle.opa_script.specs.declared.command.Command.TheVariants as command
 use Rattle.opa_script.specs.declared.fault.CmdFault.{CmdFault}
 use Rattle.opa_script.specs.Laws.{OneCommand, RefusedOrRead}
-use Rattle.opa_decided.specs.Laws.{OneCommandFault}
+use Rattle.opa_laws.specs.Decided.Laws.{OneCommandFault}
 use Rattle.opa_talk.specs.Transcript.{IsTranscript, Prints}
 use Rattle.opa_tree.specs.declared.rulebase.Rulebase.{Rulebase}
 use Rattle.opa_cases.specs.declared.kept.KeptCase.{KeptCase}

@@ -11,7 +11,7 @@ use Rattle.opa_script.specs.Commands.{IsCommand, IsNoCommand}
 use Rattle.opa_script.specs.Laws.{IsWellFormed, OneCommand, RefusedOrRead}
 use Rattle.opa_script.specs.Lines.{is_idle, HasTokens}
 use Rattle.opa_script.proofs.LawsHold.{idle_apart, same_tokens}
-use Rattle.opa_decided.specs.Laws.{OneCommandFault}
+use Rattle.opa_laws.specs.Decided.Laws.{OneCommandFault}
 use Rattle.opa_cases.specs.declared.orders.Asked.{Asked}
 use Rattle.opa_cases.specs.declared.orders.Asked.TheVariants as asked
 use Rattle.opa_cases.specs.declared.orders.Order.{Order}

@@ -13,8 +13,8 @@ use Rattle.opa_script.specs.declared.fault.CmdFault.{CmdFault}
 use Rattle.opa_script.specs.Laws.{OneCommand, RefusedOrRead}
 use Rattle.opa_script.proofs.LawsHold.{same_tokens}
 use Rattle.opa_script.proofs.NamedOnce.{not_both}
-use Rattle.opa_decided.specs.Laws.{OneCommandFault}
-use Rattle.opa_table.specs.Records.{table_records}
+use Rattle.opa_laws.specs.Decided.Laws.{OneCommandFault}
+use Rattle.opa_parse.specs.Tables.Records.{table_records}
 use Rattle.opa_text.specs.declared.pointed.Point.{Point}
 use Rattle.opa_text.specs.Pointed.{SpellsPoint}
 use Rattle.opa_text.proofs.PointLaws.{one_point}

@@ -8,15 +8,15 @@ use Rattle.opa_io.specs.declared.fault.Status.{Status}
 use Rattle.opa_io.specs.declared.fault.Status.TheVariants as status
 use Rattle.opa_io.proofs.Outsides.{read_whole}
 use Rattle.opa_model.specs.Models.{IsModel}
-use Rattle.opa_outside.specs.Outside.{Outside}
-use Rattle.opa_outside.specs.Telling.{IsTold}
+use Rattle.opa_talk.specs.WholeInput.Outside.{Outside}
+use Rattle.opa_talk.specs.WholeInput.Telling.{IsTold}
 use Rattle.opa_rulebase.specs.Loading.{Opens}
 use Rattle.opa_script.specs.Laws.{OneCommand, RefusedOrRead}
 use Rattle.opa_talk.specs.Lines.{input_lines}
 use Rattle.opa_talk.specs.Transcript.{IsTranscript}
 use Rattle.opa_tree.specs.declared.rulebase.Rulebase.{Rulebase}
-use Rattle.opa_decided.specs.Laws.{OneCommandFault}
-use Rattle.opa_decided.specs.Opening.{OneOpening}
+use Rattle.opa_laws.specs.Decided.Laws.{OneCommandFault}
+use Rattle.opa_laws.specs.Decided.Opening.{OneOpening}
 use Rattle.opa_batch.specs.Batches.{Gives}
 use Rattle.opa_batch.specs.Serving as batch
 use Rattle.opa_cases.specs.Caseload.{Held, caseload, at_first}

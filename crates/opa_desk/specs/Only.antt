@@ -5,7 +5,7 @@ use Rattle.opa_io.specs.declared.fault.Status.{Status}
 use Rattle.opa_io.specs.declared.fault.Status.TheVariants as status
 use Rattle.opa_batch.specs.Batches.{Gives}
 use Rattle.opa_cases.specs.Caseload.{Held, caseload, at_first}
-use Rattle.opa_outside.specs.Outside.{Outside}
+use Rattle.opa_talk.specs.WholeInput.Outside.{Outside}
 use Rattle.opa_rulebase.specs.Loading.{Opens}
 use Rattle.opa_talk.specs.Lines.{input_lines}
 use Rattle.opa_talk.specs.Transcript.{IsTranscript}

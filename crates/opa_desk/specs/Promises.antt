@@ -4,8 +4,8 @@ use Rattle.std.specs.String.{string_bytes}
 use Rattle.std.specs.declared.alloc.Global.{Global}
 use Rattle.opa_io.specs.declared.fault.Status.{Status}
 use Rattle.opa_io.specs.declared.fault.Status.TheVariants as status
-use Rattle.opa_outside.specs.Outside.{Outside, IsUnused}
-use Rattle.opa_outside.specs.Telling.{IsTold}
+use Rattle.opa_talk.specs.WholeInput.Outside.{Outside, IsUnused}
+use Rattle.opa_talk.specs.WholeInput.Telling.{IsTold}
 use Rattle.opa_batch.specs.Counting.{Counts}
 use Rattle.opa_batch.specs.Promises.{Promises as PromisesOfBatch}
 use Rattle.opa_cases.specs.Promises.{Promises as PromisesOfCases}

@@ -1,14 +1,14 @@
 // What the words of the command line say is done.
-ghost use Rattle.opa_outside.specs.Outside.{outside};
+ghost use Rattle.opa_talk.specs.WholeInput.Outside.{outside};
 ghost use Rattle.opa_desk.specs.Promises.{CountsAsked, Only, Promises};
 
 use crate::reading::{Mode, read_words};
 use opa_batch::batch;
 use opa_cases::serve_cases;
-use opa_decided::{one_command_fault, one_opening};
 use opa_io::{Shelf, Sink, Source, Status, Steps};
-use opa_outside::tell;
+use opa_laws::{one_command_fault, one_opening};
 use opa_script::one_command;
+use opa_talk::tell;
 use std::alloc::Global;
 use std::sync::ledger::Ledger;
 

@@ -26,3 +26,6 @@ pub mod Slots
 pub mod Spans
 pub mod Tables
 pub mod Uses
+pub mod Kinds
+pub mod Reached
+pub mod Goals

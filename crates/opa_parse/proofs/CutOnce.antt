@@ -8,7 +8,7 @@ use Rattle.opa_words.specs.Kinds.{IsLongest, BeginsNone}
 use Rattle.opa_words.specs.Cuts as c
 use Rattle.opa_words.specs.Cuts.{Cuts, Stuck}
 use Rattle.opa_words.proofs.OneCut.{one_cut_holds, cut_or_stuck_holds, one_longest_holds}
-use Rattle.opa_layout.specs.declared.block.BlockLine.{BlockLine}
+use Rattle.opa_words.specs.declared.layout.block.BlockLine.{BlockLine}
 use Rattle.opa_sentence.specs.declared.names.Names.{Names}
 use Rattle.opa_sentence.specs.declared.reading.Reading.{Reading}
 use Rattle.opa_sentence.specs.Lexemes.{Lexeme, lexemes}

@@ -5,7 +5,7 @@ use Rattle.opa_model.specs.declared.lists.Lists.{Lists}
 use Rattle.opa_words.specs.declared.kinds.Token.{Token}
 use Rattle.opa_words.specs.Cuts.{Cuts}
 use Rattle.opa_words.proofs.OneCut.{one_cut_holds}
-use Rattle.opa_layout.specs.declared.block.BlockLine.{BlockLine}
+use Rattle.opa_words.specs.declared.layout.block.BlockLine.{BlockLine}
 use Rattle.opa_sentence.specs.declared.names.Names.{Names}
 use Rattle.opa_sentence.specs.declared.names.Relation.{Relation}
 use Rattle.opa_sentence.specs.declared.reading.Reading.{Reading}

@@ -5,7 +5,7 @@ use Rattle.std.specs.Str.{bytes_eq}
 use Rattle.std.proofs.lemmas.List.{append-nil}
 use Rattle.opa_model.specs.declared.lists.Lists.{Lists}
 use Rattle.opa_model.specs.Phrases.{is_declared, Declares}
-use Rattle.opa_layout.specs.declared.block.Block.{Block}
+use Rattle.opa_words.specs.declared.layout.block.Block.{Block}
 use Rattle.opa_tree.specs.declared.faults.RbFault.{RbFault}
 use Rattle.opa_tree.specs.declared.faults.RbKind.TheVariants as kind
 use Rattle.opa_tree.specs.declared.rules.Inferred.{Inferred}

@@ -1,7 +1,7 @@
 -- Laws of what is read.
 use Rattle.std.specs.Prelude.{◌≡◌, ℕ, List}
 use Rattle.opa_model.specs.declared.lists.Lists.{Lists}
-use Rattle.opa_layout.specs.declared.block.BlockLine.{BlockLine}
+use Rattle.opa_words.specs.declared.layout.block.BlockLine.{BlockLine}
 use Rattle.opa_sentence.specs.declared.names.Names.{Names}
 use Rattle.opa_parse.specs.declared.block.Membership.{Membership}
 use Rattle.opa_parse.specs.declared.block.Statement.{Statement}

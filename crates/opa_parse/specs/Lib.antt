@@ -17,3 +17,4 @@ pub mod Memberships
 pub mod MemberRuns
 pub mod Handed
 pub mod Laws
+pub mod Tables

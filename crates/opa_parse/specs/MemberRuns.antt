@@ -1,7 +1,7 @@
 -- What was read of membership blocks so far.
 use Rattle.std.specs.Prelude.{◌≡◌, ℕ, ◌+◌, min, List, [], ◌∷◌, ◌++◌, None}
 use Rattle.opa_model.specs.declared.lists.Lists.{Lists}
-use Rattle.opa_layout.specs.declared.block.Block.{Block}
+use Rattle.opa_words.specs.declared.layout.block.Block.{Block}
 use Rattle.opa_tree.specs.FirstFaults.{first_fault}
 use Rattle.opa_io.specs.declared.limits.TheConstants.{MOST_NODES}
 use Rattle.opa_sentence.specs.declared.names.Names.{Names}

@@ -3,7 +3,7 @@ use Rattle.std.specs.Prelude.{◌≡◌, ℕ, List, [], ◌∷◌, ◌++◌, Opt
 use Rattle.opa_model.specs.declared.ids.RelId.{RelId}
 use Rattle.opa_model.specs.declared.lists.Lists.{Lists}
 use Rattle.opa_model.specs.Lookups.{relation_phrases}
-use Rattle.opa_layout.specs.declared.block.Block.{Block}
+use Rattle.opa_words.specs.declared.layout.block.Block.{Block}
 use Rattle.opa_tree.specs.declared.expr.Expr.{Expr}
 use Rattle.opa_tree.specs.declared.faults.RbFault.{RbFault}
 use Rattle.opa_tree.specs.declared.rules.Inferred.{Inferred}

@@ -2,8 +2,8 @@
 use Rattle.std.specs.Prelude.{◌≡◌, ◌≢◌, ℕ, Bool, List, [], ◌∷◌, ◌++◌, map, Option, Some, None}
 use Rattle.opa_model.specs.declared.ids.AttrId.{AttrId}
 use Rattle.opa_model.specs.declared.lists.Lists.{Lists}
-use Rattle.opa_layout.specs.declared.block.Block.{Block}
-use Rattle.opa_layout.specs.declared.block.BlockLine.{BlockLine}
+use Rattle.opa_words.specs.declared.layout.block.Block.{Block}
+use Rattle.opa_words.specs.declared.layout.block.BlockLine.{BlockLine}
 use Rattle.opa_tree.specs.declared.expr.Expr.{Expr}
 use Rattle.opa_tree.specs.declared.faults.RbFault.{RbFault}
 use Rattle.opa_tree.specs.declared.rules.Inferred.{Inferred}

@@ -18,10 +18,9 @@ use crate::reader::read;
 use crate::words::ending_of;
 use crate::{Ending, Front, Items, Membership, Opening, Said, Sort, Statement};
 use opa_io::{NoMemory, front};
-use opa_layout::BlockLine;
 use opa_model::{AttrId, Model, RelId};
 use opa_sentence::{Cursor, Names, Relation};
-use opa_words::Token;
+use opa_words::{BlockLine, Token};
 use std::alloc::Global;
 
 /// What the lines say, read as one of a sort, or none.

@@ -13,9 +13,8 @@ ghost use Rattle.opa_parse.specs.Fronts.{Stands, AreShort};
 use crate::words::{back, body, ending_of, head_of, is_none_left};
 use crate::{Line, Lines};
 use opa_io::NoMemory;
-use opa_layout::BlockLine;
 use opa_sentence::{Cursor, Names};
-use opa_words::{Token, WordFault, tokens};
+use opa_words::{BlockLine, Token, WordFault, tokens};
 use std::alloc::Global;
 
 /// The tokens of a text, or none where a character begins none.

@@ -16,6 +16,7 @@ mod reader;
 mod rules;
 mod sayings;
 mod table;
+pub mod tables;
 mod texts;
 mod words;
 
@@ -31,5 +32,9 @@ pub use reader::read;
 pub use rules::{Taken, inferred_nodes, read_rules, take_blocks};
 pub use sayings::{and_then, line_marks};
 pub use table::Step;
+pub use tables::{
+    Case, Cased, Found, Heading, Heads, Last, Table, TableFile, Test, Words, one_table,
+    read_all_rules, read_table, take_table, take_tables,
+};
 pub use texts::Texts;
 pub use words::{back, ending_of};

@@ -20,10 +20,10 @@ use crate::texts::Texts;
 use crate::{BlockSort, MemberBlock, Membership};
 use opa_io::limits::{MOST_NODES, MOST_PHRASE};
 use opa_io::{List, NoMemory, Txt, front};
-use opa_layout::Block;
 use opa_model::{Model, RelId};
 use opa_sentence::Names;
 use opa_tree::{Expr, Inferences, Inferred, RbError, RbFault, RbKind, first_of};
+use opa_words::Block;
 use std::alloc::Global;
 
 /// What was read of membership blocks so far: their first fault, and else the inferred relations; the texts that are taken;

@@ -13,11 +13,10 @@ use crate::cut::{cut, front_of};
 use crate::words::{body, ending_of, is_none_left, relation_of};
 use crate::{BlockSort, Ending, Opening};
 use opa_io::{NoMemory, Txt, front};
-use opa_layout::BlockLine;
 use opa_model::{AttrId, Model};
 use opa_sentence::{Class, Cursor, Names, Relation};
 use opa_tree::OpKind;
-use opa_words::{Token, is_phrase, phrase_text, token_text};
+use opa_words::{BlockLine, Token, is_phrase, phrase_text, token_text};
 use std::alloc::Global;
 
 fn sort_of_word(word: &str) -> BlockSort

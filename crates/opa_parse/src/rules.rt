@@ -19,10 +19,10 @@ use crate::openings::sort_of;
 use crate::{BlockSort, RuleBlock, Said, Statement};
 use opa_io::limits::{MOST_NODES, MOST_RULES};
 use opa_io::{List, NoMemory, front};
-use opa_layout::{Block, BlockLine};
 use opa_model::{AttrId, Model};
 use opa_sentence::{Member, Names};
 use opa_tree::{Expr, Inferences, RbError, RbFault, Rule, Rules, first_of};
+use opa_words::{Block, BlockLine};
 use std::alloc::Global;
 
 /// What was read of rules so far: their first fault, and else the rules; how many rules and nodes there are, or one more

@@ -7,7 +7,7 @@ use Rattle.opa_case.specs.Shapes.{shape_of}
 use Rattle.opa_case.specs.Steps.{step}
 use Rattle.opa_case.specs.declared.change.ChangeCommand.{ChangeCommand}
 use Rattle.opa_case.specs.declared.change.Refusal.{Refusal}
-use Rattle.opa_infer.specs.Sessions.{reached, Tells}
+use Rattle.opa_session.specs.Infer.Sessions.{reached, Tells}
 use Rattle.opa_listen.specs.Hearing.{Hearer, hearing}
 use Rattle.opa_script.specs.declared.command.Command.TheVariants as command
 use Rattle.opa_tree.specs.declared.rulebase.Rulebase.{Rulebase}

@@ -3,7 +3,7 @@ use Rattle.std.proofs.Common.{◌≡◌, ◌∙◌, ◌+◌, inl, inr, ℕ, List
 use Rattle.std.specs.Prelude.{Option, None, Some}
 use Rattle.opa_io.specs.Outside.{Files}
 use Rattle.opa_case.specs.Cases.{CaseView}
-use Rattle.opa_infer.specs.Sessions.{reached, Tells}
+use Rattle.opa_session.specs.Infer.Sessions.{reached, Tells}
 use Rattle.opa_listen.specs.Hearing.{Hearer}
 use Rattle.opa_script.specs.declared.command.Command.TheVariants as command
 use Rattle.opa_tree.specs.declared.rulebase.Rulebase.{Rulebase}

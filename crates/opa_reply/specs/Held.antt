@@ -6,8 +6,8 @@ use Rattle.opa_io.specs.Outside.{Files}
 use Rattle.opa_case.specs.Cases.{CaseView, no_case}
 use Rattle.opa_listen.specs.Hearing.{Hearer}
 use Rattle.opa_tree.specs.declared.rulebase.Rulebase.{Rulebase}
-use Rattle.opa_infer.specs.declared.session.Session.{Session}
-use Rattle.opa_infer.specs.Sessions.{rules_of, held_of, reached_of}
+use Rattle.opa_session.specs.declared.infer.session.Session.{Session}
+use Rattle.opa_session.specs.Infer.Sessions.{rules_of, held_of, reached_of}
 
 pub record Held : Type 0 where
   pub rules : Rulebase

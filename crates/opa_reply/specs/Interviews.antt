@@ -12,7 +12,7 @@ use Rattle.opa_script.specs.Laws.{IsWellFormed}
 use Rattle.opa_script.specs.Lines.{is_idle}
 use Rattle.opa_script.specs.Replies.{slashed, IsReply, IsNoReply}
 use Rattle.opa_need.specs.Goals.{next_of}
-use Rattle.opa_told.specs.Asking.{prompt_told, is_over}
+use Rattle.opa_reply.specs.Reporting.Asking.{prompt_told, is_over}
 use Rattle.opa_reply.specs.Held.{Held}
 use Rattle.opa_reply.specs.Lines.{LONGEST, bytes_of, text_of}
 use Rattle.opa_reply.specs.Replies.{Answers, LacksAt, StopsAt}

@@ -5,3 +5,4 @@ pub mod Lines
 pub mod Refused
 pub mod Loads
 pub mod Replies
+pub mod Reporting

@@ -10,7 +10,7 @@ use Rattle.opa_case.specs.declared.change.ChangeCommand.{ChangeCommand}
 use Rattle.opa_listen.specs.declared.change.Change.{Change}
 use Rattle.opa_model.specs.declared.lists.Lists.{Lists}
 use Rattle.opa_listen.specs.Hearing.{hearing}
-use Rattle.opa_infer.specs.Sessions.{reached, AreChanges}
+use Rattle.opa_session.specs.Infer.Sessions.{reached, AreChanges}
 use Rattle.opa_script.specs.declared.command.Command.{Command}
 use Rattle.opa_script.specs.declared.command.Command.TheVariants as command
 use Rattle.opa_script.specs.declared.fault.CmdFault.{CmdFault}
@@ -18,11 +18,11 @@ use Rattle.opa_script.specs.declared.fault.CmdFault.TheVariants as fault
 use Rattle.opa_script.specs.Commands.{IsCommand, IsNoCommand}
 use Rattle.opa_script.specs.Laws.{IsWellFormed}
 use Rattle.opa_saved.specs.Saved.{saved_text}
-use Rattle.opa_told.specs.Asking.{next_told, screen_told}
-use Rattle.opa_told.specs.Goals.{goals_told}
-use Rattle.opa_told.specs.Reports.{IsReportTold}
-use Rattle.opa_told.specs.Shown.{value_told, names_told}
-use Rattle.opa_told.specs.Stats.{stats_told}
+use Rattle.opa_reply.specs.Reporting.Asking.{next_told, screen_told}
+use Rattle.opa_reply.specs.Reporting.Goals.{goals_told}
+use Rattle.opa_reply.specs.Reporting.Reports.{IsReportTold}
+use Rattle.opa_reply.specs.Reporting.Shown.{value_told, names_told}
+use Rattle.opa_reply.specs.Reporting.Stats.{stats_told}
 use Rattle.opa_tree.specs.declared.rulebase.Rulebase.{Rulebase}
 use Rattle.opa_reply.specs.Lines.{text_of, is_too_long}
 use Rattle.opa_reply.specs.Held.{Held, held, with_hearers, with_files, with_derived}

@@ -1,6 +1,6 @@
 // A command is carried out.
 ghost use Rattle.std.specs.Prelude.{◌≡◌, ◌≤◌, ◌<◌, ◌^◌, length, map, IfOk, IfErr, OnErr};
-ghost use Rattle.opa_infer.specs.Sessions.{rules_of};
+ghost use Rattle.opa_session.specs.Infer.Sessions.{rules_of};
 ghost use Rattle.opa_listen.specs.Hearing.{hearer};
 ghost use Rattle.opa_script.specs.Laws.{IsInRange};
 ghost use Rattle.opa_talk.specs.Halt.{IsReplyCause};
@@ -12,14 +12,14 @@ use crate::dismissing::dismissed;
 use crate::files::save;
 use crate::loading::load_file;
 use crate::refused::refused_command;
-use opa_infer::Session;
+use crate::reporting::{
+    goals_told, names_told, next_told, report_told, screen_told, stats_told, value_told,
+};
 use opa_io::{Shelf, Steps};
 use opa_listen::Listener;
 use opa_script::{CmdFault, Command};
+use opa_session::Session;
 use opa_talk::Halt;
-use opa_told::{
-    goals_told, names_told, next_told, report_told, screen_told, stats_told, value_told,
-};
 use std::alloc::Global;
 use std::sync::ledger::Ledger;
 

@@ -3,7 +3,7 @@ ghost use Rattle.std.specs.Prelude.{◌≡◌, ◌<◌, ◌^◌, ℕ, Option, le
 ghost use Rattle.opa_io.specs.Outside.{Files};
 ghost use Rattle.opa_case.specs.Laws.{IsDeclared};
 ghost use Rattle.opa_case.specs.Shapes.{shape_of};
-ghost use Rattle.opa_infer.specs.Sessions.{rules_of};
+ghost use Rattle.opa_session.specs.Infer.Sessions.{rules_of};
 ghost use Rattle.opa_listen.specs.Hearing.{hearer};
 ghost use Rattle.opa_reply.specs.Held.{beside};
 ghost use Rattle.opa_reply.specs.Replies.{Changes, HaltsAt};
@@ -11,9 +11,9 @@ ghost use Rattle.opa_script.specs.declared.command.Command.TheVariants as comman
 
 use crate::refused::refused_change;
 use opa_case::{ChangeCommand, Refusal};
-use opa_infer::Session;
 use opa_io::{NoMemory, Steps};
 use opa_listen::Listener;
+use opa_session::Session;
 use std::alloc::Global;
 use std::sync::ledger::Ledger;
 

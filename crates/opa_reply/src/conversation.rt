@@ -1,6 +1,6 @@
 // A session as what answers the lines of a run.
 ghost use Rattle.std.specs.Prelude.{◌≡◌, ◌≤◌, ◌+◌, List, Option, IfOk};
-ghost use Rattle.opa_infer.specs.Sessions.{first_slots};
+ghost use Rattle.opa_session.specs.Infer.Sessions.{first_slots};
 ghost use Rattle.opa_io.specs.Outside.{Files};
 ghost use Rattle.opa_listen.specs.Hearing.{Hearer};
 ghost use Rattle.opa_reply.specs.Held.{Held as Holding, beside, at_first};
@@ -8,10 +8,10 @@ ghost use Rattle.opa_reply.specs.Replies.{conversation, Lacks, Stops};
 
 use crate::carrying::respond;
 use crate::replying::asked;
-use opa_infer::Session;
 use opa_io::{NoMemory, Shelf, Steps};
 use opa_listen::Listener;
 use opa_mean::Held;
+use opa_session::Session;
 use opa_talk::{Halt, Prompt, Replier};
 use opa_tree::Rulebase;
 use std::alloc::Global;

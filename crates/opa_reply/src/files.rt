@@ -6,10 +6,10 @@ ghost use Rattle.opa_script.specs.declared.command.Command.TheVariants as comman
 ghost use Rattle.opa_reply.specs.Held.{beside};
 ghost use Rattle.opa_reply.specs.Replies.{CarriesOut, HaltsAt};
 
-use opa_infer::Session;
 use opa_io::{Shelf, Txt};
 use opa_mean::Held;
 use opa_saved::saved_text;
+use opa_session::Session;
 use opa_talk::Halt;
 use std::alloc::Global;
 use std::sync::ledger::Ledger;

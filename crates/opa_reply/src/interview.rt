@@ -1,6 +1,6 @@
 // A session as what asks, and answers the lines of an interview.
 ghost use Rattle.std.specs.Prelude.{◌≡◌, ◌≤◌, ◌+◌, List, Option, IfOk, IfErr, IfSome, Some};
-ghost use Rattle.opa_infer.specs.Sessions.{rules_of, held_of, first_slots};
+ghost use Rattle.opa_session.specs.Infer.Sessions.{rules_of, held_of, first_slots};
 ghost use Rattle.opa_io.specs.Outside.{Files};
 ghost use Rattle.opa_listen.specs.Hearing.{Hearer};
 ghost use Rattle.opa_need.specs.Goals.{next_of};
@@ -11,17 +11,16 @@ ghost use Rattle.opa_reply.specs.Interviews.{interview, LacksAsked, StopsAsked, 
 
 use crate::carrying::respond;
 use crate::lines::{is_long_reply, text_of};
+use crate::reporting::prompt_told;
 use opa_case::Question;
-use opa_goals::next_is_declared;
-use opa_infer::Session;
 use opa_io::{NoMemory, Shelf, Steps};
 use opa_listen::Listener;
-use opa_mean::Held;
+use opa_mean::{Held, next_is_declared};
 use opa_model::Model;
 use opa_need::next;
 use opa_script::{CmdFault, Command, is_well_formed, read_reply, replies_are_in_range};
+use opa_session::Session;
 use opa_talk::{Halt, Prompt, Replier};
-use opa_told::prompt_told;
 use opa_tree::Rulebase;
 use std::alloc::Global;
 use std::sync::ledger::Ledger;

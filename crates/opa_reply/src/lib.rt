@@ -11,8 +11,13 @@ mod lines;
 mod loading;
 mod refused;
 mod replying;
+pub mod reporting;
 
 pub use conversation::Conversation;
 pub use interview::Interview;
 pub use lines::{bytes_of, text_of};
 pub use refused::{refused_change, refused_command};
+pub use reporting::{
+    Prompt, goals_told, names_told, next_told, one_report_told, prompt_told, report_told,
+    screen_told, stats_told, value_told,
+};

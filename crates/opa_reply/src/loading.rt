@@ -2,7 +2,7 @@
 ghost use Rattle.std.specs.Prelude.{◌≡◌, ◌≢◌, ◌≤◌, ◌<◌, ◌^◌, Option, length, map, IfOk, IfSome, OnErr, IfErr};
 ghost use Rattle.opa_case.specs.Fits.{Fits};
 ghost use Rattle.opa_case.specs.Shapes.{shape_of};
-ghost use Rattle.opa_infer.specs.Sessions.{rules_of, held_of, reached_of};
+ghost use Rattle.opa_session.specs.Infer.Sessions.{rules_of, held_of, reached_of};
 ghost use Rattle.opa_io.specs.Outside.{Files};
 ghost use Rattle.opa_listen.specs.Hearing.{hearer};
 ghost use Rattle.opa_talk.specs.Halt.{IsReplyCause};
@@ -15,12 +15,12 @@ ghost use Rattle.opa_script.specs.declared.command.Command.TheVariants as comman
 
 use crate::refused::refused;
 use opa_case::Case;
-use opa_infer::Session;
 use opa_io::limits::MOST_FILE;
 use opa_io::{NoMemory, Shelf, Steps, TakeFault, Txt};
 use opa_listen::Listener;
 use opa_mean::Held;
 use opa_saved::{LoadFault, Origin, load};
+use opa_session::Session;
 use opa_talk::Halt;
 use opa_tree::Rulebase;
 use std::alloc::Global;

@@ -8,11 +8,11 @@ use Rattle.opa_date.specs.declared.TheConstants.{DAYS}
 use Rattle.opa_line.specs.Lines.{StandsFor}
 use Rattle.opa_case.specs.Shapes.{Shape}
 use Rattle.opa_cells.specs.Keys.{cell_cmp}
-use Rattle.opa_days.specs.declared.spans.Span.{Span}
-use Rattle.opa_days.specs.Sets.{on}
-use Rattle.opa_days.specs.Spans.{Covers}
-use Rattle.opa_days.specs.Spans as spans
-use Rattle.opa_days.proofs.Setting.{on_is}
+use Rattle.opa_report.specs.declared.day_sets.spans.Span.{Span}
+use Rattle.opa_report.specs.DaySets.Sets.{on}
+use Rattle.opa_report.specs.DaySets.Spans.{Covers}
+use Rattle.opa_report.specs.DaySets.Spans as spans
+use Rattle.opa_report.proofs.day_sets.Setting.{on_is}
 use Rattle.opa_model.specs.declared.ids.AttrId.{AttrId}
 use Rattle.opa_cells.specs.declared.instance.InstanceId.{InstanceId}
 use Rattle.opa_tree.specs.declared.rules.Rule.{Rule}

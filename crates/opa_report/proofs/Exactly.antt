@@ -6,7 +6,7 @@ use Rattle.opa_date.specs.declared.TheConstants.{DAYS}
 use Rattle.opa_value.specs.declared.value.Value.{Value}
 use Rattle.opa_line.specs.Lines.{at, value_from, Follows, IsLine, canon}
 use Rattle.opa_line.proofs.LineLaws.{canon_is_the_line}
-use Rattle.opa_days.specs.Spans.{upto}
+use Rattle.opa_report.specs.DaySets.Spans.{upto}
 use Rattle.opa_tree.proofs.Members.{none_in, contains_head, contains_cases}
 use Rattle.opa_report.specs.declared.mark.Mark.{Mark}
 use Rattle.opa_report.specs.declared.mark.Mark.TheVariants.{Absent, Present}

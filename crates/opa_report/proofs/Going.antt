@@ -10,8 +10,8 @@ use Rattle.opa_value.specs.Truth.{is_true, is_false}
 use Rattle.opa_line.specs.Lines.{StandsFor, value_or}
 use Rattle.opa_case.specs.Shapes.{Shape}
 use Rattle.opa_cells.specs.declared.instance.InstanceId.{InstanceId}
-use Rattle.opa_days.specs.Sets.{on}
-use Rattle.opa_days.proofs.Setting.{on_is}
+use Rattle.opa_report.specs.DaySets.Sets.{on}
+use Rattle.opa_report.proofs.day_sets.Setting.{on_is}
 use Rattle.opa_tree.specs.declared.expr.Row.{Row}
 use Rattle.opa_window.specs.Days.{day_value}
 use Rattle.opa_mean.specs.Looks.{Look}

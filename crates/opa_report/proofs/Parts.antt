@@ -11,7 +11,7 @@ use Rattle.opa_model.specs.declared.ids.RelId.{RelId}
 use Rattle.opa_case.specs.Shapes.{Shape}
 use Rattle.opa_cells.specs.declared.instance.InstanceId.{InstanceId}
 use Rattle.opa_cells.specs.Instances.{named}
-use Rattle.opa_days.specs.Sets.{on}
+use Rattle.opa_report.specs.DaySets.Sets.{on}
 use Rattle.opa_tree.specs.declared.kinds.Quant.{Quant}
 use Rattle.opa_tree.specs.declared.kinds.Quant.TheVariants as quant
 use Rattle.opa_tree.specs.declared.expr.Expr.{Expr}

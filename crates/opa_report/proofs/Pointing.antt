@@ -10,8 +10,8 @@ use Rattle.opa_line.specs.Lines.{StandsFor}
 use Rattle.opa_case.specs.Shapes.{Shape}
 use Rattle.opa_model.specs.declared.ids.AttrId.{AttrId}
 use Rattle.opa_cells.specs.declared.instance.InstanceId.{InstanceId}
-use Rattle.opa_days.specs.Sets.{on}
-use Rattle.opa_days.proofs.Setting.{on_is}
+use Rattle.opa_report.specs.DaySets.Sets.{on}
+use Rattle.opa_report.proofs.day_sets.Setting.{on_is}
 use Rattle.opa_window.specs.Days.{day_value}
 use Rattle.opa_mean.specs.Looks.{Look}
 use Rattle.opa_mean.specs.Mean.{Base, Facts, mean}

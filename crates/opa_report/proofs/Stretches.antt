@@ -8,7 +8,7 @@ use Rattle.opa_line.specs.Lines.{IsLine, StandsFor, canon}
 use Rattle.opa_line.proofs.LineLaws.{canon_is_the_line}
 use Rattle.opa_model.specs.declared.ids.AttrId.{AttrId}
 use Rattle.opa_cells.specs.declared.instance.InstanceId.{InstanceId}
-use Rattle.opa_days.specs.Spans.{upto}
+use Rattle.opa_report.specs.DaySets.Spans.{upto}
 use Rattle.opa_mean.proofs.Exact.{value_exact}
 use Rattle.opa_mean.specs.Sameness.{same_value}
 use Rattle.opa_mean.proofs.SameBoth.{value_itself}

@@ -11,3 +11,5 @@ pub mod Runs
 pub mod Spreading
 pub mod Supporting
 pub mod Walking
+pub mod DaySets
+pub mod Text

@@ -7,7 +7,7 @@ use Rattle.opa_value.specs.Truth.{is_true, is_false}
 use Rattle.opa_case.specs.Shapes.{Shape}
 use Rattle.opa_cells.specs.declared.instance.InstanceId.{InstanceId}
 use Rattle.opa_line.specs.Lines.{StandsFor}
-use Rattle.opa_days.specs.Sets.{on}
+use Rattle.opa_report.specs.DaySets.Sets.{on}
 use Rattle.opa_tree.specs.declared.expr.Expr.{Expr}
 use Rattle.opa_tree.specs.declared.expr.Row.{Row}
 use Rattle.opa_tree.specs.declared.kinds.Quant.{Quant}

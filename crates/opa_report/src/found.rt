@@ -3,14 +3,14 @@ ghost use Rattle.std.specs.Prelude.{◌≡◌, ◌∷◌, [], ◌||◌, IfOk, On
 ghost use Rattle.std.specs.FinMap.{get};
 ghost use Rattle.opa_date.specs.declared.TheConstants.{DAYS};
 ghost use Rattle.opa_line.specs.Lines.{StandsFor};
-ghost use Rattle.opa_days.specs.Sets.{on};
+ghost use Rattle.opa_report.specs.DaySets.Sets.{on};
 ghost use Rattle.opa_mean.specs.Uses.{Point, Listed};
 ghost use Rattle.opa_report.specs.Adding.{Adds};
 ghost use Rattle.opa_report.specs.Finding.{on_some};
 
+use crate::day_sets::{either, has_some};
 use opa_case::InstanceId;
 use opa_cells::Cells;
-use opa_days::{either, has_some};
 use opa_io::NoMemory;
 use opa_line::Line;
 use opa_model::{AttrId, RelId};

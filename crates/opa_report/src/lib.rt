@@ -3,6 +3,7 @@
 
 mod choices;
 mod dates;
+pub mod day_sets;
 mod found;
 mod held;
 mod laws;
@@ -16,11 +17,14 @@ mod reporting;
 mod runs;
 mod sight;
 mod spread;
+pub mod text;
 mod walk;
 mod whole;
 
+pub use day_sets::{Span, both, covered, either, has_some, looked_back, nothing, without};
 pub use laws::{at_most_one, report_supports, runs_are_exact};
 pub use lines::{Report, ReportLine};
 pub use mark::Mark;
 pub use sight::Sight;
+pub use text::{origin_text, report_text};
 pub use whole::report;

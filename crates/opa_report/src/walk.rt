@@ -3,7 +3,7 @@ ghost use Rattle.std.specs.Prelude.{◌≡◌, ◌∷◌, [], ◌<◌, IfOk, OnO
 ghost use Rattle.std.specs.FinMap.{get};
 ghost use Rattle.opa_date.specs.declared.TheConstants.{DAYS};
 ghost use Rattle.opa_line.specs.Lines.{StandsFor};
-ghost use Rattle.opa_days.specs.Sets.{on};
+ghost use Rattle.opa_report.specs.DaySets.Sets.{on};
 ghost use Rattle.opa_mean.specs.Bases.{RanksFall};
 ghost use Rattle.opa_mean.specs.Completion.{AreFacts};
 ghost use Rattle.opa_mean.specs.Given.{base_of};
@@ -14,11 +14,11 @@ ghost use Rattle.opa_report.specs.Finding.{AreDaysOf, HasOnly};
 ghost use Rattle.opa_report.specs.Walking.{AreSlots, Expands, IsCone, Sees};
 
 use crate::Sight;
+use crate::day_sets::{Span, both, covered};
 use crate::found::{Found, add_days};
 use crate::spread::spread;
 use opa_case::InstanceId;
 use opa_cells::Cells;
-use opa_days::{Span, both, covered};
 use opa_io::{List, NoMemory};
 use opa_line::Line;
 use opa_model::AttrId;

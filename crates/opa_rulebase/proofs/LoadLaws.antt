@@ -4,23 +4,23 @@ use Rattle.std.specs.Prelude.{if◌then◌else◌}
 use Rattle.std.proofs.Common.{◌≡◌, ℕ, ◌+◌, ◌≤◌, ◌<◌, ◌^◌, ◌++◌, append_assoc, append-nil, Bool, true, false, List, [], ◌∷◌, length, map, All, Option, Some, None, Result, Ok, Err, IfOk, IfErr, IfSome, slice_index_or, refl, sym, ap, ◌∙◌, subst, arith}
 use Rattle.opa_io.specs.Outside.{Files}
 use Rattle.opa_model.specs.declared.lists.Lists.{Lists}
-use Rattle.opa_layout.specs.declared.block.Block.{Block}
+use Rattle.opa_words.specs.declared.layout.block.Block.{Block}
 use Rattle.opa_tree.specs.declared.faults.RbError.{RbError}
 use Rattle.opa_tree.specs.declared.faults.RbError.TheVariants as errors
 use Rattle.opa_tree.specs.declared.faults.RbFault.{RbFault}
 use Rattle.opa_tree.specs.declared.rulebase.Rulebase.{Rulebase}
 use Rattle.opa_tree.specs.declared.rules.Inferred.{Inferred}
 use Rattle.opa_tree.specs.declared.rules.Rule.{Rule}
-use Rattle.opa_files.specs.declared.fault.TakeError.{TakeError}
-use Rattle.opa_files.specs.declared.fault.TakeError.TheVariants as take
-use Rattle.opa_files.specs.declared.source.SourceFile.{SourceFile}
-use Rattle.opa_files.specs.Files.{AreFiles, HasTakeError}
+use Rattle.opa_rulebase.specs.declared.files.fault.TakeError.{TakeError}
+use Rattle.opa_rulebase.specs.declared.files.fault.TakeError.TheVariants as take
+use Rattle.opa_rulebase.specs.declared.files.source.SourceFile.{SourceFile}
+use Rattle.opa_rulebase.specs.Files.Files.{AreFiles, HasTakeError}
 use Rattle.opa_rulebase.specs.declared.fault.LoadError.{LoadError}
 use Rattle.opa_rulebase.specs.declared.fault.LoadError.TheVariants as load
 use Rattle.opa_rulebase.specs.declared.fault.Unaccepted.{Unaccepted}
 use Rattle.opa_rulebase.specs.declared.fault.Unaccepted.TheVariants as unaccepted
-use Rattle.opa_table.specs.declared.whole.TableFile.{TableFile}
-use Rattle.opa_table.specs.Whole.{AreAllRules}
+use Rattle.opa_parse.specs.declared.tables.whole.TableFile.{TableFile}
+use Rattle.opa_parse.specs.Tables.Whole.{AreAllRules}
 use Rattle.opa_rulebase.specs.Loading.{AreInferred, IsAccepted, IsRefused, HasRefusal, IsCircleRefusal, IsPlain, IsUntaken, IsUnacceptedAs, IsRefusedAs, IsRefusalOf, HasLoadError, IsFaultOf, Opens, refusal_in, table_in, with_listed, listed_table, table_files}
 
 -- ---- phases

@@ -1,2 +1,4 @@
 pub mod Printed
 pub mod Loading
+pub mod Check
+pub mod Files

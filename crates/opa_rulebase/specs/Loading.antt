@@ -4,24 +4,24 @@ use Rattle.opa_io.specs.Outside.{Files, Rose}
 use Rattle.opa_model.specs.declared.ids.AttrId.{AttrId}
 use Rattle.opa_model.specs.declared.lists.Lists.{Lists}
 use Rattle.opa_model.specs.Lookups.{attribute_phrases}
-use Rattle.opa_layout.specs.declared.block.Block.{Block}
+use Rattle.opa_words.specs.declared.layout.block.Block.{Block}
 use Rattle.opa_tree.specs.declared.faults.RbError.{RbError}
 use Rattle.opa_tree.specs.declared.faults.RbError.TheVariants as errors
 use Rattle.opa_tree.specs.declared.faults.RbFault.{RbFault}
 use Rattle.opa_tree.specs.declared.rulebase.Rulebase.{Rulebase}
 use Rattle.opa_tree.specs.declared.rules.Inferred.{Inferred}
 use Rattle.opa_tree.specs.declared.rules.Rule.{Rule}
-use Rattle.opa_files.specs.declared.fault.TakeError.{TakeError}
-use Rattle.opa_files.specs.declared.fault.TakeError.TheVariants as take
-use Rattle.opa_files.specs.declared.fault.Unread.{Unread}
-use Rattle.opa_files.specs.declared.source.SourceFile.{SourceFile}
-use Rattle.opa_files.specs.Files.{AreFiles}
-use Rattle.opa_files.specs.Layouts.{AreLaid, faults_from, Begins}
+use Rattle.opa_rulebase.specs.declared.files.fault.TakeError.{TakeError}
+use Rattle.opa_rulebase.specs.declared.files.fault.TakeError.TheVariants as take
+use Rattle.opa_rulebase.specs.declared.files.fault.Unread.{Unread}
+use Rattle.opa_rulebase.specs.declared.files.source.SourceFile.{SourceFile}
+use Rattle.opa_rulebase.specs.Files.Files.{AreFiles}
+use Rattle.opa_rulebase.specs.Files.Layouts.{AreLaid, faults_from, Begins}
 use Rattle.opa_decl.specs.Declarations.{Declares, IsFirstFault}
 use Rattle.opa_parse.specs.Memberships.{AreInferences, AreRefused as IsMemberFault}
-use Rattle.opa_table.specs.declared.whole.TableFile.{TableFile}
-use Rattle.opa_table.specs.Whole.{AreAllRules, AreAllRefused}
-use Rattle.opa_check.specs.Refused.{IsRefused as IsCheckFault}
+use Rattle.opa_parse.specs.declared.tables.whole.TableFile.{TableFile}
+use Rattle.opa_parse.specs.Tables.Whole.{AreAllRules, AreAllRefused}
+use Rattle.opa_rulebase.specs.Check.Refused.{IsRefused as IsCheckFault}
 use Rattle.opa_rulebase.specs.declared.fault.LoadError.{LoadError}
 use Rattle.opa_rulebase.specs.declared.fault.LoadError.TheVariants as load
 use Rattle.opa_rulebase.specs.declared.fault.Unaccepted.{Unaccepted}

@@ -4,29 +4,28 @@ ghost use Rattle.opa_model.specs.declared.ids.AttrId.{AttrId as Id};
 ghost use Rattle.opa_tree.specs.Accepted.{HaveForm, AreShallow, AreFiled};
 ghost use Rattle.opa_tree.specs.declared.faults.RbError.TheVariants.{Refused as RefusedAs};
 ghost use Rattle.opa_tree.specs.declared.faults.RbFault.{RbFault as FaultView};
-ghost use Rattle.opa_files.specs.declared.source.SourceFile.{SourceFile as FileView};
-ghost use Rattle.opa_layout.specs.Blocks.{lines_of};
-ghost use Rattle.opa_files.specs.Layouts.{IsShort};
+ghost use Rattle.opa_rulebase.specs.declared.files.source.SourceFile.{SourceFile as FileView};
+ghost use Rattle.opa_words.specs.Layout.Blocks.{lines_of};
+ghost use Rattle.opa_rulebase.specs.Files.Layouts.{IsShort};
 ghost use Rattle.opa_verbs.specs.Phrasing.{IsReadable};
 ghost use Rattle.opa_parse.specs.Fronts.{AreShort};
 ghost use Rattle.opa_parse.specs.Handed.{AreFormed, AreDeclared};
-ghost use Rattle.opa_check.specs.Refused.{IsRefused as IsCheckFault};
+ghost use Rattle.opa_rulebase.specs.Check.Refused.{IsRefused as IsCheckFault};
 ghost use Rattle.opa_rulebase.specs.declared.fault.Refusal.{Refusal as RefusalView};
 ghost use Rattle.opa_rulebase.specs.declared.fault.Unaccepted.TheVariants.{Refused};
 ghost use Rattle.opa_rulebase.specs.Loading.{AreBlocks, IsDeclared, AreInferred, IsAccepted, HasRefusal, phrase_at, phrases_of, IsCircleRefusal, IsPlain};
 
+use crate::check::check;
 use crate::fault::{Refusal, Unaccepted};
+use crate::files::{SourceFile, lay_out};
 use crate::ruled::ruled_of;
 use crate::tables::tables_of;
-use opa_check::check;
 use opa_decl::read_declarations;
-use opa_files::{SourceFile, lay_out};
 use opa_io::{List, NoMemory, Txt, front};
-use opa_layout::Block;
 use opa_model::{AttrId, Model};
-use opa_parse::read_inferences;
-use opa_table::read_all_rules;
+use opa_parse::{read_all_rules, read_inferences};
 use opa_tree::{Inferences, RbError, RbFault, Rulebase, Rules};
+use opa_words::Block;
 use std::alloc::Global;
 
 /// The names of files.

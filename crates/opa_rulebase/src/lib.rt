@@ -2,14 +2,18 @@
 #![tactic(auto)]
 
 mod accepting;
+pub mod check;
 mod fault;
+pub mod files;
 mod loading;
 mod printed;
 mod ruled;
 mod tables;
 
 pub use accepting::accept;
+pub use check::{accepted_are_not_refused, check, circles_are_round, ranks_exist};
 pub use fault::{LoadError, Refusal, Unaccepted};
+pub use files::{FileLine, SourceFile, TakeError, Unread, file_lines, lay_out, take_files};
 pub use loading::load_rulebase;
 pub use printed::refusal_text;
 pub use ruled::ruled_of;

@@ -1,16 +1,16 @@
 // A rulebase is loaded from a shelf.
 ghost use Rattle.std.specs.Prelude.{◌≡◌, ◌≤◌, length, Ok, All, IfOk, IfErr, IfSome};
 ghost use Rattle.opa_verbs.specs.Phrasing.{IsReadable};
-ghost use Rattle.opa_files.specs.declared.source.SourceFile.{SourceFile as FileView};
-ghost use Rattle.opa_kinds.specs.Memberships.{MembershipsCount};
+ghost use Rattle.opa_rulebase.specs.declared.files.source.SourceFile.{SourceFile as FileView};
+ghost use Rattle.opa_mean.specs.Kinds.Memberships.{MembershipsCount};
 ghost use Rattle.opa_rulebase.specs.Loading.{Opens, HasLoadError, IsUntaken, IsUnacceptedAs, IsRefusedAs, IsAccepted, name_at};
 
 use crate::accepting::accept;
 use crate::fault::{LoadError, Refusal, Unaccepted};
+use crate::files::{SourceFile, TakeError, take_files};
 use crate::printed::refusal_text;
-use opa_files::{SourceFile, TakeError, take_files};
 use opa_io::Shelf;
-use opa_kinds::memberships_count;
+use opa_mean::memberships_count;
 use opa_tree::Rulebase;
 use std::alloc::Global;
 

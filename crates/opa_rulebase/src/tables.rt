@@ -1,11 +1,11 @@
 // The tables among the files of a rulebase.
 ghost use Rattle.std.specs.Prelude.{ℕ, ◌≡◌, ◌<◌, ◌^◌, length, All, IfOk};
-ghost use Rattle.opa_table.specs.declared.whole.TableFile.{TableFile as TableView};
+ghost use Rattle.opa_parse.specs.declared.tables.whole.TableFile.{TableFile as TableView};
 ghost use Rattle.opa_rulebase.specs.Loading.{table_files, table_in, with_listed};
 
-use opa_files::SourceFile;
+use crate::files::SourceFile;
 use opa_io::{List, NoMemory, front};
-use opa_table::TableFile;
+use opa_parse::TableFile;
 use std::alloc::Global;
 
 /// The file that has this place, if it is a table.

@@ -5,13 +5,13 @@ use Rattle.opa_io.specs.Outside.{Files, Rose, AppendsFront}
 use Rattle.opa_io.specs.declared.fault.Status.{Status}
 use Rattle.opa_io.specs.declared.fault.Status.TheVariants as status
 use Rattle.opa_io.proofs.Appended.{Appends-none}
-use Rattle.opa_outside.specs.Telling.{IsTold}
+use Rattle.opa_talk.specs.WholeInput.Telling.{IsTold}
 use Rattle.opa_tree.specs.declared.faults.RbFault.{RbFault}
 use Rattle.opa_tree.specs.declared.rulebase.Rulebase.{Rulebase}
 use Rattle.opa_rulebase.specs.declared.fault.LoadError.{LoadError}
 use Rattle.opa_rulebase.specs.declared.fault.LoadError.TheVariants as load
 use Rattle.opa_rulebase.specs.Loading.{Opens, IsRefusalOf, HasLoadError}
-use Rattle.opa_describe.specs.Description.{described}
+use Rattle.opa_rules.specs.Describing.Description.{described}
 use Rattle.opa_rules.specs.Promises.{Outside, answer, Describes, WroteDescription, WroteRefusal}
 
 module _ (name : List ℕ) (old new : Outside) where

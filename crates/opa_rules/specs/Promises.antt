@@ -6,10 +6,10 @@ use Rattle.std.specs.Io.KnownBytes.{Appends}
 use Rattle.opa_io.specs.declared.fault.Status.{Status}
 use Rattle.opa_io.specs.declared.fault.Status.TheVariants as status
 use Rattle.opa_io.specs.Outside.{Files, Rose, AppendsFront}
-use Rattle.opa_outside.specs.Telling.{IsTold}
+use Rattle.opa_talk.specs.WholeInput.Telling.{IsTold}
 use Rattle.opa_tree.specs.declared.rulebase.Rulebase.{Rulebase}
 use Rattle.opa_rulebase.specs.Loading.{Opens}
-use Rattle.opa_describe.specs.Description.{described}
+use Rattle.opa_rules.specs.Describing.Description.{described}
 use Rattle.opa_rules.specs.declared.reading.Mode.{Mode}
 use Rattle.opa_rules.specs.declared.reading.Mode.TheVariants as mode
 use Rattle.opa_rules.specs.Asked.{asked_of, usage}

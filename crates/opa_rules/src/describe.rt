@@ -2,10 +2,10 @@
 ghost use Rattle.std.specs.Prelude.{◌≡◌};
 ghost use Rattle.opa_rules.specs.Promises.{outside, Describes};
 
-use opa_describe::description;
+use crate::describing::description;
 use opa_io::{Shelf, Sink, Status};
-use opa_outside::tell;
 use opa_rulebase::{LoadError, load_rulebase};
+use opa_talk::tell;
 use std::alloc::Global;
 
 /// Writes what the rulebase of this name declares, or why it is refused.

@@ -4,7 +4,7 @@ ghost use Rattle.opa_rules.specs.Promises.{outside, Promises};
 use crate::describe::describe;
 use crate::reading::{Mode, read_words};
 use opa_io::{Shelf, Sink, Status};
-use opa_outside::tell;
+use opa_talk::tell;
 use std::alloc::Global;
 
 /// Does what the words of the command line say, and answers how it ended.

@@ -2,8 +2,10 @@
 #![tactic(auto)]
 
 mod describe;
+pub mod describing;
 mod doing;
 mod reading;
 
+pub use describing::{description, one_description};
 pub use doing::rules;
 pub use reading::{Asked, Mode};

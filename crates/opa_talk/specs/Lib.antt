@@ -4,3 +4,4 @@ pub mod Lines
 pub mod Points
 pub mod Talk
 pub mod Transcript
+pub mod WholeInput

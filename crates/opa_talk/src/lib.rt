@@ -7,6 +7,7 @@ mod line;
 mod replier;
 mod status;
 mod talk;
+pub mod whole_input;
 
 pub use feed::{converse, cut_anywhere};
 pub use halt::Halt;
@@ -14,3 +15,4 @@ pub use line::without_mark;
 pub use replier::{Prompt, Replier};
 pub use status::end_of;
 pub use talk::cut;
+pub use whole_input::{Stop, read_all, tell};

@@ -5,3 +5,4 @@ pub mod Readers
 pub mod Laws
 pub mod Samples
 pub mod Pointed
+pub mod Screen

@@ -10,6 +10,7 @@ mod pointed;
 mod points;
 mod questions;
 mod reading;
+pub mod screen;
 mod values;
 mod whole;
 
@@ -21,5 +22,6 @@ pub use names::{first_name, names_of, names_text};
 pub use pointed::{Point, before_date, first_point, point_of};
 pub use points::point_text;
 pub use questions::question_text;
+pub use screen::{screen_of, screen_text};
 pub use values::{date_text, value_text};
 pub use whole::{read_line, read_names};

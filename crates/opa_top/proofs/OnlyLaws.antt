@@ -10,8 +10,8 @@ use Rattle.opa_talk.specs.Lines.{input_lines}
 use Rattle.opa_tree.specs.declared.rulebase.Rulebase.{Rulebase}
 use Rattle.opa_reply.specs.Held.{Held}
 use Rattle.opa_rulebase.specs.Loading.{Opens}
-use Rattle.opa_decided.specs.Laws.{OneTranscript}
-use Rattle.opa_decided.specs.Opening.{OneOpening}
+use Rattle.opa_laws.specs.Decided.Laws.{OneTranscript}
+use Rattle.opa_laws.specs.Decided.Opening.{OneOpening}
 use Rattle.opa_top.specs.Checking.{Checks, HasAnswered, IsOnlyCheck, IsOpened, IsTold, verdict, verdict_status}
 use Rattle.opa_top.specs.Running.{Manner, Outside, beginning, Leaves, SaysAll, Talks, Runs}
 use Rattle.opa_top.specs.Statuses.{WroteWhatever, IsOnly}

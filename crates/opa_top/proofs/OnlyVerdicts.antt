@@ -5,11 +5,11 @@ use Rattle.std.specs.Io.KnownBytes.{Appends}
 use Rattle.opa_io.specs.Outside.{Files, IsFile, IsTooLong}
 use Rattle.opa_io.specs.declared.fault.Status.{Status}
 use Rattle.opa_io.specs.declared.fault.Status.TheVariants as status
-use Rattle.opa_proof.specs.Laws.{OneTelling}
-use Rattle.opa_proof.specs.Telling.{Tells}
-use Rattle.opa_proof.specs.declared.verdict.Verdict.{Verdict}
+use Rattle.opa_verify.specs.Verdict.Laws.{OneTelling}
+use Rattle.opa_verify.specs.Verdict.Telling.{Tells}
+use Rattle.opa_verify.specs.declared.verdict.verdict.Verdict.{Verdict}
 use Rattle.opa_rulebase.specs.Loading.{Opens}
-use Rattle.opa_decided.specs.Opening.{OneOpening}
+use Rattle.opa_laws.specs.Decided.Opening.{OneOpening}
 use Rattle.opa_tree.specs.declared.rulebase.Rulebase.{Rulebase}
 use Rattle.opa_top.specs.Checking.{HasAnswered, IsOpened}
 use Rattle.opa_top.specs.Verifying.{Ended, IsNoFile, IsOnlyVerdict, JudgesFile, OnlyTold, REPORT_MOST, Verifies, no_report, status_of}

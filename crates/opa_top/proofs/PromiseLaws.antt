@@ -1,8 +1,8 @@
 -- What is promised of lines that were answered.
 use Rattle.std.proofs.Common.{ℕ, List}
 use Rattle.opa_io.specs.declared.fault.Status.{Status}
-use Rattle.opa_decided.specs.Laws.{OneTranscript}
-use Rattle.opa_decided.specs.Opening.{OneOpening}
+use Rattle.opa_laws.specs.Decided.Laws.{OneTranscript}
+use Rattle.opa_laws.specs.Decided.Opening.{OneOpening}
 use Rattle.opa_top.specs.Answering.{Answers}
 use Rattle.opa_top.specs.Running.{Manner, Outside, Runs}
 use Rattle.opa_top.proofs.OnlyLaws.{run_only}

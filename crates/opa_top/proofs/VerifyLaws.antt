@@ -5,8 +5,8 @@ use Rattle.opa_io.specs.declared.fault.Status.{Status}
 use Rattle.opa_io.specs.declared.fault.Status.TheVariants as status
 use Rattle.opa_io.proofs.Appended.{Appends-none}
 use Rattle.opa_io.proofs.Outsides.{rose_before}
-use Rattle.opa_proof.specs.Telling.{Tells}
-use Rattle.opa_proof.specs.declared.verdict.Verdict.{Verdict}
+use Rattle.opa_verify.specs.Verdict.Telling.{Tells}
+use Rattle.opa_verify.specs.declared.verdict.verdict.Verdict.{Verdict}
 use Rattle.opa_tree.specs.declared.rulebase.Rulebase.{Rulebase}
 use Rattle.opa_top.specs.Checking.{IsTold}
 use Rattle.opa_top.specs.Verifying.{IsNoFile, JudgesFile, REPORT_MOST, no_report, status_of}

@@ -6,3 +6,4 @@ pub mod Running
 pub mod Statuses
 pub mod Promises
 pub mod Meaning
+pub mod Usage

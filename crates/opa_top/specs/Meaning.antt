@@ -1,11 +1,11 @@
 -- What is shown means what it says, for every rulebase and every case: laws of the words that transcripts are made of.
 use Rattle.opa_mean.specs.Rulebases.{Determination, Supported, Asked, Relevant, Finished}
 use Rattle.opa_mean.specs.SlotLaws.{LineIsOne}
-use Rattle.opa_dirty.specs.Dirty.{SettledStays}
-use Rattle.opa_goals.specs.Laws.{StatesAreExact}
+use Rattle.opa_mean.specs.Reached.Dirty.{SettledStays}
+use Rattle.opa_mean.specs.Goals.Laws.{StatesAreExact}
 use Rattle.opa_reply.specs.Interviews.{Tells, interview}
 use Rattle.opa_reply.specs.Replies.{Asks, conversation}
-use Rattle.opa_verified.specs.Laws.{OpenedIsModel, HeldIsPrintable, ReportsAreVerified}
+use Rattle.opa_laws.specs.Verified.Laws.{OpenedIsModel, HeldIsPrintable, ReportsAreVerified}
 
 pub record Meaning : Type 0 where
   -- What files open declares a model, and each case that is held over it in a run or an interview fits it, so that all that follows

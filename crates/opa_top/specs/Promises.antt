@@ -6,9 +6,9 @@ use Rattle.std.specs.Io.KnownBytes.{IsAtEnd}
 use Rattle.opa_io.specs.declared.fault.Status.{Status}
 use Rattle.opa_io.specs.declared.fault.Status.TheVariants as status
 use Rattle.opa_talk.specs.Transcript.{CutsAnywhere}
-use Rattle.opa_usage.specs.declared.reading.Mode.{Mode}
-use Rattle.opa_usage.specs.declared.reading.Mode.TheVariants as mode
-use Rattle.opa_usage.specs.Asked.{asked_of, report_of}
+use Rattle.opa_top.specs.declared.usage.reading.Mode.{Mode}
+use Rattle.opa_top.specs.declared.usage.reading.Mode.TheVariants as mode
+use Rattle.opa_top.specs.Usage.Asked.{asked_of, report_of}
 use Rattle.opa_top.specs.Checking.{Checks, IsOnlyCheck}
 use Rattle.opa_top.specs.Generating.{IsGenerated}
 use Rattle.opa_top.specs.Meaning.{Meaning}

@@ -10,7 +10,7 @@ use Rattle.opa_talk.specs.Ended.{Counts, Ends}
 use Rattle.opa_talk.specs.Lines.{input_lines, IsWhole}
 use Rattle.opa_talk.specs.Transcript.{Rule, IsGoing, IsOver, IsTranscript}
 use Rattle.opa_talk.specs.Talk.{HaltedAmong, Converses, Halts, MayLeave}
-use Rattle.opa_infer.specs.Sessions.{first_slots}
+use Rattle.opa_session.specs.Infer.Sessions.{first_slots}
 use Rattle.opa_model.specs.Models.{IsModel}
 use Rattle.opa_tree.specs.declared.rulebase.Rulebase.{Rulebase}
 use Rattle.opa_reply.specs.Held.{Held, at_first}

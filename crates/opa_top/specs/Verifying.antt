@@ -5,9 +5,9 @@ use Rattle.std.specs.Io.KnownBytes.{Appends}
 use Rattle.opa_io.specs.Outside.{Files, IsFile, IsTooLong, Rose}
 use Rattle.opa_io.specs.declared.fault.Status.{Status}
 use Rattle.opa_io.specs.declared.fault.Status.TheVariants as status
-use Rattle.opa_proof.specs.Telling.{Tells}
-use Rattle.opa_proof.specs.declared.verdict.Verdict.{Verdict}
-use Rattle.opa_proof.specs.declared.verdict.Verdict.TheVariants as verdict
+use Rattle.opa_verify.specs.Verdict.Telling.{Tells}
+use Rattle.opa_verify.specs.declared.verdict.verdict.Verdict.{Verdict}
+use Rattle.opa_verify.specs.declared.verdict.verdict.Verdict.TheVariants as verdict
 use Rattle.opa_tree.specs.declared.rulebase.Rulebase.{Rulebase}
 use Rattle.opa_rulebase.specs.Loading.{Opens}
 use Rattle.opa_top.specs.Checking.{HasAnswered, IsOpened, IsTold}

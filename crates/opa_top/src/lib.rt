@@ -8,6 +8,8 @@ mod generating;
 mod meaning;
 mod talk;
 mod top;
+pub mod usage;
 mod verifying;
 
 pub use top::run;
+pub use usage::{Asked, Mode, WordsFault, read_words};

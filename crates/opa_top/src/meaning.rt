@@ -1,10 +1,11 @@
 // What is shown means what it says.
 ghost use Rattle.opa_top.specs.Meaning.{Meaning};
 
-use opa_dirty::settled_stays;
-use opa_goals::states_are_exact;
-use opa_mean::{asked, determination, finished, line_is_one, relevant, supported};
-use opa_verified::{held_is_printable, opened_is_printable, reports_are_verified};
+use opa_laws::{held_is_printable, opened_is_printable, reports_are_verified};
+use opa_mean::{
+    asked, determination, finished, line_is_one, relevant, settled_stays, states_are_exact,
+    supported,
+};
 
 /// The laws of the words that transcripts are made of.
 pub(crate) fn shown_is_meant()

@@ -2,8 +2,8 @@
 ghost use Rattle.std.specs.Prelude.{◌≡◌, ◌<◌, ◌^◌, ℕ, List, None, Some, length, map};
 ghost use Rattle.opa_listen.specs.Hearing.{hearer};
 ghost use Rattle.std.specs.Option.{option_map};
-ghost use Rattle.opa_usage.specs.Asked.{asked_of, report_of};
-ghost use Rattle.opa_usage.specs.declared.reading.Mode.TheVariants as modes;
+ghost use Rattle.opa_top.specs.Usage.Asked.{asked_of, report_of};
+ghost use Rattle.opa_top.specs.declared.usage.reading.Mode.TheVariants as modes;
 ghost use Rattle.opa_top.specs.Checking.{Checks};
 ghost use Rattle.opa_top.specs.Generating.{IsGenerated};
 ghost use Rattle.opa_top.specs.Promises.{Asks, Promises, words_of};
@@ -16,12 +16,12 @@ use crate::check::{check, tell};
 use crate::generating::generated;
 use crate::meaning::shown_is_meant;
 use crate::talk::open_and_talk;
+use crate::usage::{Mode, WordsFault, read_words};
 use crate::verifying::verify;
-use opa_decided::{one_opening, one_transcript};
 use opa_io::{Shelf, Sink, Source, Status, Steps};
+use opa_laws::{one_opening, one_transcript};
 use opa_listen::Listener;
-use opa_proof::one_verdict;
-use opa_usage::{Mode, WordsFault, read_words};
+use opa_verify::one_verdict;
 use std::alloc::Global;
 use std::sync::ledger::Ledger;
 

@@ -5,9 +5,9 @@ ghost use Rattle.opa_top.specs.Verifying.{JudgesFile, Verifies, status_of as mea
 use crate::check::tell;
 use opa_io::limits::MOST_REPORT;
 use opa_io::{Shelf, Sink, Status, TakeFault};
-use opa_proof::{Verdict, tell as judge};
 use opa_rulebase::{LoadError, load_rulebase};
 use opa_tree::Rulebase;
+use opa_verify::{Verdict, tell as judge};
 use std::alloc::Global;
 
 /// Yes is Done, and each other verdict is Refused.

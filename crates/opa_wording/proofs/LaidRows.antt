@@ -14,12 +14,12 @@ use Rattle.opa_words.specs.Reserved.{is_reserved}
 use Rattle.std.proofs.lemmas.List.Elements.{All-from_recursion}
 use Rattle.std.specs.List.{AllByRecursion}
 use Rattle.opa_io.proofs.Bools.{and_first, and_second}
-use Rattle.opa_layout.specs.declared.block.BlockLine.{BlockLine}
-use Rattle.opa_layout.specs.declared.fault.LayoutFault.{LayoutFault}
-use Rattle.opa_layout.specs.Lines.{Row, numbered, rows_from, without_mark}
-use Rattle.opa_layout.specs.Indents.{is_blank, past_blanks, is_void, is_passed, levels, level, is_odd, has_odd_space}
-use Rattle.opa_layout.specs.Blocks.{line_of, kept, block_lines}
-use Rattle.opa_layout.specs.Faults.{is_over, is_astray, next_most, faults_from, layout_faults}
+use Rattle.opa_words.specs.declared.layout.block.BlockLine.{BlockLine}
+use Rattle.opa_words.specs.declared.layout.fault.LayoutFault.{LayoutFault}
+use Rattle.opa_words.specs.Layout.Lines.{Row, numbered, rows_from, without_mark}
+use Rattle.opa_words.specs.Layout.Indents.{is_blank, past_blanks, is_void, is_passed, levels, level, is_odd, has_odd_space}
+use Rattle.opa_words.specs.Layout.Blocks.{line_of, kept, block_lines}
+use Rattle.opa_words.specs.Layout.Faults.{is_over, is_astray, next_most, faults_from, layout_faults}
 use Rattle.opa_words.specs.Pieces.{Piece, IsPiece, word}
 use Rattle.opa_words.specs.Written.{Written, AreWritten, text_of}
 use Rattle.opa_words.proofs.Separate.{all_append}

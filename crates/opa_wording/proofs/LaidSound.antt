@@ -15,8 +15,8 @@ use Rattle.opa_tree.specs.declared.rules.Rule.{Rule}
 use Rattle.opa_words.specs.declared.kinds.TokenKind.{TokenKind}
 use Rattle.opa_words.specs.declared.kinds.TokenKind.TheVariants as kind
 use Rattle.opa_words.specs.Reserved.{is_word_kind}
-use Rattle.opa_layout.specs.Blocks.{block_lines}
-use Rattle.opa_layout.specs.Faults.{layout_faults}
+use Rattle.opa_words.specs.Layout.Blocks.{block_lines}
+use Rattle.opa_words.specs.Layout.Faults.{layout_faults}
 use Rattle.opa_words.specs.Pieces.{Piece, IsPiece, word, symbol}
 use Rattle.opa_words.specs.Written.{Written, AreWritten, spaced}
 use Rattle.opa_wording.specs.Grammatical.{IsGrammatical, AreGrammatical}

@@ -8,7 +8,7 @@ use Rattle.opa_tree.specs.Trees.{depth}
 use Rattle.opa_words.specs.declared.kinds.Token.{Token}
 use Rattle.opa_words.specs.Cuts.{Cuts}
 use Rattle.opa_words.specs.Reserved.{is_ending}
-use Rattle.opa_layout.specs.declared.block.BlockLine.{BlockLine}
+use Rattle.opa_words.specs.declared.layout.block.BlockLine.{BlockLine}
 use Rattle.opa_words.specs.Pieces.{Piece, pieces, word}
 use Rattle.opa_words.specs.Written.{Written, AreWritten, pieces_of, text_of, spaced}
 use Rattle.opa_words.proofs.LawsHold.{written_is_cut_holds}

@@ -18,10 +18,10 @@ use Rattle.opa_words.specs.Cuts.{Cuts}
 use Rattle.opa_words.specs.Places.{token_text}
 use Rattle.opa_words.specs.Reserved.{is_reserved, reserved}
 use Rattle.opa_words.proofs.OneCut.{one_cut_holds}
-use Rattle.opa_layout.specs.declared.block.Block.{Block}
-use Rattle.opa_layout.specs.declared.block.BlockLine.{BlockLine}
-use Rattle.opa_layout.specs.Blocks.{AreBlocks, AreDeeper, IsHeaded, block_lines, lines_of}
-use Rattle.opa_layout.proofs.OneLayout.{one_layout_holds}
+use Rattle.opa_words.specs.declared.layout.block.Block.{Block}
+use Rattle.opa_words.specs.declared.layout.block.BlockLine.{BlockLine}
+use Rattle.opa_words.specs.Layout.Blocks.{AreBlocks, AreDeeper, IsHeaded, block_lines, lines_of}
+use Rattle.opa_words.proofs.layout.OneLayout.{one_layout_holds}
 use Rattle.opa_words.specs.Pieces.{word}
 use Rattle.opa_words.specs.Written.{Written, AreWritten, text_of}
 use Rattle.opa_io.specs.declared.limits.TheConstants.{MOST_DEPTH, MOST_NODES}

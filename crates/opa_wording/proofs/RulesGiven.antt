@@ -13,8 +13,8 @@ use Rattle.opa_tree.specs.declared.kinds.Quant.TheVariants as quant
 use Rattle.opa_tree.specs.declared.expr.Expr.{Expr}
 use Rattle.opa_tree.specs.declared.expr.Row.{Row}
 use Rattle.opa_tree.specs.declared.rules.Inferred.{Inferred}
-use Rattle.opa_layout.specs.declared.block.Block.{Block}
-use Rattle.opa_layout.specs.declared.block.BlockLine.{BlockLine}
+use Rattle.opa_words.specs.declared.layout.block.Block.{Block}
+use Rattle.opa_words.specs.declared.layout.block.BlockLine.{BlockLine}
 use Rattle.opa_words.specs.Reserved.{is_ending}
 use Rattle.opa_sentence.specs.declared.names.Names.{Names}
 use Rattle.opa_sentence.specs.declared.names.Operand.{Operand}

@@ -25,26 +25,26 @@ use Rattle.opa_parse.specs.Naming.{names_in}
 use Rattle.opa_parse.specs.Sayings.{with_case, table_of, table_measure, tabled}
 use Rattle.opa_parse.proofs.Handing as hand
 use Rattle.opa_parse.proofs.Handing.{Of as MadeOf, all_of, each_append, rules_each}
-use Rattle.opa_table.specs.declared.cells.Case.{Case}
-use Rattle.opa_table.specs.declared.cells.Found.{Found}
-use Rattle.opa_table.specs.declared.cells.Found.TheVariants as found
-use Rattle.opa_table.specs.declared.cells.Heading.{Heading}
-use Rattle.opa_table.specs.declared.cells.Heading.TheVariants as heading
-use Rattle.opa_table.specs.declared.cells.Heads.{Heads}
-use Rattle.opa_table.specs.declared.cells.Last.{Last}
-use Rattle.opa_table.specs.declared.cells.Table.{Table}
-use Rattle.opa_table.specs.declared.cells.Test.{Test}
-use Rattle.opa_table.specs.declared.cells.Test.TheVariants as test
-use Rattle.opa_table.specs.declared.whole.TableFile.{TableFile}
-use Rattle.opa_table.specs.Cells as c
-use Rattle.opa_table.specs.Cells.{IsCell, SpellsHead, IsHeadCell, SpellsTest, IsConditionCell, IsValueCell, sign_of}
-use Rattle.opa_table.specs.Tables as t
-use Rattle.opa_table.specs.Tables.{Each, IsLast, AreCases, IsBelow, IsFound}
-use Rattle.opa_table.specs.Columns as col
-use Rattle.opa_table.specs.Columns.{compared, comparisons, condition, or_unnamed, value_at, no_cases_below, with_cases, column_by, column, column_block, blocks_from, blocks_of}
-use Rattle.opa_table.specs.Reading.{AreTableBlocks}
-use Rattle.opa_table.specs.Whole.{AreTabled}
-use Rattle.opa_table.proofs.WholeLaws.{declared_hold}
+use Rattle.opa_parse.specs.declared.tables.cells.Case.{Case}
+use Rattle.opa_parse.specs.declared.tables.cells.Found.{Found}
+use Rattle.opa_parse.specs.declared.tables.cells.Found.TheVariants as found
+use Rattle.opa_parse.specs.declared.tables.cells.Heading.{Heading}
+use Rattle.opa_parse.specs.declared.tables.cells.Heading.TheVariants as heading
+use Rattle.opa_parse.specs.declared.tables.cells.Heads.{Heads}
+use Rattle.opa_parse.specs.declared.tables.cells.Last.{Last}
+use Rattle.opa_parse.specs.declared.tables.cells.Table.{Table}
+use Rattle.opa_parse.specs.declared.tables.cells.Test.{Test}
+use Rattle.opa_parse.specs.declared.tables.cells.Test.TheVariants as test
+use Rattle.opa_parse.specs.declared.tables.whole.TableFile.{TableFile}
+use Rattle.opa_parse.specs.Tables.Cells as c
+use Rattle.opa_parse.specs.Tables.Cells.{IsCell, SpellsHead, IsHeadCell, SpellsTest, IsConditionCell, IsValueCell, sign_of}
+use Rattle.opa_parse.specs.Tables.Tables as t
+use Rattle.opa_parse.specs.Tables.Tables.{Each, IsLast, AreCases, IsBelow, IsFound}
+use Rattle.opa_parse.specs.Tables.Columns as col
+use Rattle.opa_parse.specs.Tables.Columns.{compared, comparisons, condition, or_unnamed, value_at, no_cases_below, with_cases, column_by, column, column_block, blocks_from, blocks_of}
+use Rattle.opa_parse.specs.Tables.Reading.{AreTableBlocks}
+use Rattle.opa_parse.specs.Tables.Whole.{AreTabled}
+use Rattle.opa_parse.proofs.tables.WholeLaws.{declared_hold}
 use Rattle.opa_wording.specs.Given.{IsTree, IsRule}
 use Rattle.opa_wording.specs.Grammatical.{is_round}
 use Rattle.opa_wording.specs.ReadBack.{IsBare, AllRulesAreGiven}

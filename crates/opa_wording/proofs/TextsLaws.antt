@@ -11,8 +11,8 @@ use Rattle.opa_model.specs.declared.things.Relation.{Relation}
 use Rattle.opa_model.specs.declared.things.Sentence.{Sentence}
 use Rattle.opa_model.specs.declared.things.Verb.{Verb}
 use Rattle.opa_model.specs.Lookups.{attribute_phrases, relation_phrases, verb_at}
-use Rattle.opa_layout.specs.declared.block.Block.{Block}
-use Rattle.opa_layout.specs.declared.block.BlockLine.{BlockLine}
+use Rattle.opa_words.specs.declared.layout.block.Block.{Block}
+use Rattle.opa_words.specs.declared.layout.block.BlockLine.{BlockLine}
 use Rattle.opa_words.proofs.Ascii.{ascii_utf8}
 use Rattle.opa_tree.specs.declared.rules.Inferred.{Inferred}
 use Rattle.opa_verbs.specs.declared.sentence.Form.TheVariants.{Negative}

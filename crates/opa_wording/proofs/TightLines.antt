@@ -23,7 +23,7 @@ use Rattle.opa_words.specs.declared.kinds.TokenKind.TheVariants as kind
 use Rattle.opa_words.specs.Characters.{begins_word, continues_word}
 use Rattle.opa_words.specs.Kinds.{IsToken, is_word, is_symbol, doubled, quoted}
 use Rattle.opa_words.proofs.Letters.{starts, token_starts, date_parts}
-use Rattle.opa_layout.specs.Indents.{is_blank}
+use Rattle.opa_words.specs.Layout.Indents.{is_blank}
 use Rattle.opa_words.specs.Written.{Written, AreWritten, text_of, gap}
 use Rattle.opa_words.proofs.Separate.{all_wider, numeric, number_numeric, dated, date_dated}
 use Rattle.opa_sentence.specs.declared.names.Names.{Names}

@@ -8,7 +8,7 @@ use Rattle.opa_tree.specs.declared.expr.Row.{Row}
 use Rattle.opa_tree.specs.declared.expr.Expr.TheOpen.{Expr-F, All, Any, Table}
 use Rattle.opa_tree.specs.declared.expr.Expr.TheViews.{out-Expr}
 use Rattle.opa_tree.specs.declared.rules.Rule.{Rule}
-use Rattle.opa_layout.specs.declared.block.BlockLine.{BlockLine}
+use Rattle.opa_words.specs.declared.layout.block.BlockLine.{BlockLine}
 use Rattle.opa_words.specs.Pieces.{word, symbol}
 use Rattle.opa_words.specs.Written.{Written, spaced, text_of}
 use Rattle.opa_wording.specs.Wordings.{wording, phrase, phrase_of_attribute}

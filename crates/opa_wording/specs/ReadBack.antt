@@ -14,10 +14,10 @@ use Rattle.opa_words.specs.declared.kinds.Token.{Token}
 use Rattle.opa_words.specs.Cuts.{Cuts}
 use Rattle.opa_words.specs.Pieces.{Piece}
 use Rattle.opa_words.specs.Written.{Written, AreWritten, joined, text_of}
-use Rattle.opa_layout.specs.declared.block.Block.{Block}
-use Rattle.opa_layout.specs.Indents.{is_blank}
-use Rattle.opa_layout.specs.Blocks.{AreBlocks, block_lines, lines_of}
-use Rattle.opa_layout.specs.Faults.{layout_faults}
+use Rattle.opa_words.specs.declared.layout.block.Block.{Block}
+use Rattle.opa_words.specs.Layout.Indents.{is_blank}
+use Rattle.opa_words.specs.Layout.Blocks.{AreBlocks, block_lines, lines_of}
+use Rattle.opa_words.specs.Layout.Faults.{layout_faults}
 use Rattle.opa_sentence.specs.declared.names.Names.{Names}
 use Rattle.opa_sentence.specs.declared.reading.Reading.{Reading}
 use Rattle.opa_sentence.specs.Grammar.{LINE, Spells}
@@ -29,8 +29,8 @@ use Rattle.opa_parse.specs.Memberships.{AreInferences}
 use Rattle.opa_parse.specs.Naming.{names_in}
 use Rattle.opa_parse.specs.Phrasing.{IsReadable}
 use Rattle.opa_parse.specs.Rules.{AreRules, AreRefused}
-use Rattle.opa_table.specs.declared.whole.TableFile.{TableFile}
-use Rattle.opa_table.specs.Whole.{AreAllRules}
+use Rattle.opa_parse.specs.declared.tables.whole.TableFile.{TableFile}
+use Rattle.opa_parse.specs.Tables.Whole.{AreAllRules}
 use Rattle.opa_wording.specs.Given.{IsRule}
 use Rattle.opa_wording.specs.Grammatical.{IsGrammatical}
 use Rattle.opa_wording.specs.Laid.{Laid, tree_words, rule_lines, block_from}

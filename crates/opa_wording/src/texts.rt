@@ -8,9 +8,9 @@ ghost use Rattle.opa_wording.specs.Told.{AreTexts, OthersAreTexts};
 ghost use Rattle.opa_wording.specs.ReadBack.{AreTextual};
 
 use opa_io::{Txt, front};
-use opa_layout::{Block, BlockLine};
 use opa_model::{AttrId, Attribute, Model, RelId, Sentence};
 use opa_tree::{Inferences, Inferred};
+use opa_words::{Block, BlockLine};
 
 /// A text is UTF-8.
 fn is_text(text: &str)

@@ -13,3 +13,4 @@ pub mod Written
 pub mod PieceLaws
 pub mod Fronts
 pub mod Names
+pub mod Layout

@@ -8,6 +8,7 @@ mod fault;
 mod fronts;
 mod kinds;
 mod laws;
+pub mod layout;
 mod names;
 mod phrases;
 mod piece_laws;
@@ -22,6 +23,10 @@ pub use fault::WordFault;
 pub use fronts::front_text;
 pub use kinds::{Token, TokenKind};
 pub use laws::{one_cut, quoted_tells_apart, quoted_texts_are_read};
+pub use layout::{
+    Block, BlockLine, Indent, LayoutFault, Line, blocks, first_line, indent_of, one_layout,
+    text_of, without_mark,
+};
 pub use names::printed_name;
 pub use phrases::Phrases;
 pub use piece_laws::{ascii_is_token, one_cutting, quoted_is_token, written_is_cut};

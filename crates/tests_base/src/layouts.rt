@@ -1,5 +1,5 @@
 // Levels and blocks of a text.
-use opa_layout::{LayoutFault, blocks};
+use opa_words::{LayoutFault, blocks};
 use std::alloc::Global;
 use std::test::Fail;
 

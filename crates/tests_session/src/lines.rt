@@ -1,10 +1,10 @@
 // Lines that are read as commands, and as replies to questions.
+use crate::samples::{load_text, texts};
 use opa_case::{ChangeCommand, InstanceId, Question};
 use opa_model::{AttrId, Model, RelId};
 use opa_script::{CmdFault, Command, read_command, read_reply};
 use std::alloc::Global;
 use std::test::Fail;
-use tests_samples::{load_text, texts};
 
 fn fault_word(fault: CmdFault) -> &'static str {
     match fault {

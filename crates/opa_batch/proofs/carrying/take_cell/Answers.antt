@@ -1,5 +1,5 @@
 use Rattle.std.proofs.Common.{List, ℕ, refl, subst, ◌∙◌}
-use Rattle.opa_infer.specs.Sessions.{reached}
+use Rattle.opa_session.specs.Infer.Sessions.{reached}
 use Rattle.opa_batch.specs.Rows.{IsCarriedOut}
 use Rattle.opa_batch.specs.Counting.{IsAtMost, CellReaches, LineReaches}
 use Rattle.opa_batch.specs.Numbered.{left_by}

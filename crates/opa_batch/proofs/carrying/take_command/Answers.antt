@@ -1,6 +1,6 @@
 use Rattle.std.proofs.Common.{Option, ◌∙◌, inl, refl, sym, subst}
 use Rattle.opa_case.specs.declared.change.ChangeCommand.{ChangeCommand}
-use Rattle.opa_infer.specs.Sessions.{reached}
+use Rattle.opa_session.specs.Infer.Sessions.{reached}
 use Rattle.opa_batch.specs.Counting.{IsAtMost, ChangeReaches}
 use Rattle.opa_batch.specs.Rows.{change_in as change_of}
 use Rattle.opa_batch.proofs.CountLaws.{nowhere}

@@ -1,5 +1,5 @@
 use Rattle.std.proofs.Common.{inl, refl}
-use Rattle.opa_infer.specs.Sessions.{reached}
+use Rattle.opa_session.specs.Infer.Sessions.{reached}
 use Rattle.opa_batch.specs.Counting.{LineReaches}
 use Rattle.opa_batch.proofs.CellLaws.{refused}
 use Rattle.opa_batch.proofs.CountLaws.{line_reaches, nowhere}

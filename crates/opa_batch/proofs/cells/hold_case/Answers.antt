@@ -1,5 +1,5 @@
 use Rattle.opa_case.specs.Cases.{no_case}
-use Rattle.opa_infer.specs.Sessions.{rules_of, held_of}
+use Rattle.opa_session.specs.Infer.Sessions.{rules_of, held_of}
 use Rattle.opa_mean.specs.Rulebases.{IsOf}
 use Rattle.opa_batch.proofs.CountLaws.{over_nothing}
 use Rattle.opa_batch.proofs.cells.hold_case.Goals as goal

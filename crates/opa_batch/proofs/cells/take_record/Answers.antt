@@ -1,6 +1,6 @@
 use Rattle.csv.specs.Records.{fields_of}
 use Rattle.opa_case.specs.Cases.{no_case}
-use Rattle.opa_infer.specs.Sessions.{rules_of, held_of, reached}
+use Rattle.opa_session.specs.Infer.Sessions.{rules_of, held_of, reached}
 use Rattle.opa_batch.proofs.CountLaws.{not_determined, record_counts}
 use Rattle.opa_batch.proofs.cells.take_record.Goals as goal
 

@@ -1,7 +1,7 @@
 use Rattle.std.proofs.Common.{refl}
 use Rattle.std.specs.Prelude.{◌+◌, Some}
 use Rattle.csv.specs.Records.{fields_of}
-use Rattle.opa_infer.specs.Sessions.{rules_of, held_of}
+use Rattle.opa_session.specs.Infer.Sessions.{rules_of, held_of}
 use Rattle.opa_batch.specs.Numbered.{left_by}
 use Rattle.opa_batch.specs.Rows.{row_of}
 use Rattle.opa_batch.proofs.CountLaws.{record_is_due}

@@ -1,7 +1,7 @@
 use Rattle.std.proofs.Common.{arith, subst}
 use Rattle.std.specs.Prelude.{◌+◌, Some}
 use Rattle.csv.specs.Records.{Row, fields_of}
-use Rattle.opa_infer.specs.Sessions.{rules_of}
+use Rattle.opa_session.specs.Infer.Sessions.{rules_of}
 use Rattle.opa_batch.specs.Counting.{CountsAtMost, RecordReaches, due}
 use Rattle.opa_batch.specs.Gathered.{AddsRow}
 use Rattle.opa_batch.proofs.CountLaws.{not_determined}

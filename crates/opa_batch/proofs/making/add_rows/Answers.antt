@@ -2,7 +2,7 @@ use Rattle.std.proofs.Common.{◌≤◌, ◌+◌, length, refl, sym, ◌∙◌, 
 use Rattle.std.specs.Prelude.{Some}
 use Rattle.csv.specs.Records.{fields_of}
 use Rattle.opa_tree.specs.declared.rulebase.Rulebase.{Rulebase}
-use Rattle.opa_infer.specs.Sessions.{first_slots, rules_of}
+use Rattle.opa_session.specs.Infer.Sessions.{first_slots, rules_of}
 use Rattle.opa_batch.specs.Counting.{CountsAtMost, RecordReaches, due}
 use Rattle.opa_batch.specs.Cutting.{below}
 use Rattle.opa_batch.specs.Gathered.{AddsRow}

@@ -2,7 +2,7 @@ use Rattle.std.proofs.Common.{◌≡◌, ◌<◌, length}
 use Rattle.std.specs.Prelude.{Some}
 use Rattle.csv.specs.Records.{fields_of}
 use Rattle.opa_case.specs.Cases.{no_case}
-use Rattle.opa_infer.specs.Sessions.{rules_of, held_of}
+use Rattle.opa_session.specs.Infer.Sessions.{rules_of, held_of}
 use Rattle.opa_batch.specs.Cutting.{IsAt, below}
 use Rattle.opa_batch.specs.Gathered.{AddsRowsTo}
 use Rattle.opa_batch.specs.Known.{AreKept}

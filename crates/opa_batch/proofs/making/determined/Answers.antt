@@ -1,7 +1,7 @@
 use Rattle.std.proofs.lemmas.Result.{on_ok_weaker}
 use Rattle.std.specs.Prelude.{Some}
 use Rattle.csv.specs.Records.{fields_of}
-use Rattle.opa_infer.specs.Sessions.{rules_of}
+use Rattle.opa_session.specs.Infer.Sessions.{rules_of}
 use Rattle.opa_batch.specs.Cutting.{below}
 use Rattle.opa_batch.proofs.CountLaws.{started, determined_counts}
 use Rattle.opa_batch.proofs.CutLaws.{some_below}

@@ -1,6 +1,6 @@
 use Rattle.std.proofs.Common.{List, ℕ, refl, sym, subst}
 use Rattle.csv.specs.Records.{fields_of}
-use Rattle.opa_table.specs.Records.{table_records}
+use Rattle.opa_parse.specs.Tables.Records.{table_records}
 use Rattle.opa_batch.specs.Batches.{GivesOf}
 use Rattle.opa_batch.specs.Counting.{MayCount}
 use Rattle.opa_batch.proofs.CountLaws.{uncounted}

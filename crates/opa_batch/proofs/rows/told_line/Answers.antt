@@ -1,4 +1,4 @@
-use Rattle.opa_told.proofs.Goals.{unheld_stands}
+use Rattle.opa_reply.proofs.reporting.Goals.{unheld_stands}
 use Rattle.opa_batch.proofs.rows.told_line.Goals as goal
 
 pub text_of_line-requires-clause-stands : goal.text_of_line-requires-clause-stands

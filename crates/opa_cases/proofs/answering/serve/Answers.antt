@@ -1,5 +1,5 @@
 use Rattle.std.proofs.Common.{sym, ap, ◌∙◌, subst}
-use Rattle.opa_infer.specs.Sessions.{rules_of}
+use Rattle.opa_session.specs.Infer.Sessions.{rules_of}
 use Rattle.opa_tree.specs.declared.rulebase.Rulebase.{Rulebase}
 use Rattle.opa_cases.specs.Answering.{holding}
 use Rattle.opa_cases.specs.Caseload.{behind_name}

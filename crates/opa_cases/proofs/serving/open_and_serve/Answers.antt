@@ -1,6 +1,6 @@
 use Rattle.std.proofs.Common.{refl, subst}
 use Rattle.opa_io.proofs.Appended.{Appends-none}
-use Rattle.opa_outside.specs.Outside.{outside}
+use Rattle.opa_talk.specs.WholeInput.Outside.{outside}
 use Rattle.opa_rulebase.specs.Loading.{HasLoadError}
 use Rattle.opa_cases.specs.Serving.{Ran}
 use Rattle.opa_cases.proofs.OpenedLaws.{refusal_opened}

@@ -1,6 +1,6 @@
 use Rattle.std.proofs.Common.{refl}
 use Rattle.std.proofs.lemmas.Result.{err_from_is_err_and}
-use Rattle.opa_outside.specs.Outside.{outside}
+use Rattle.opa_talk.specs.WholeInput.Outside.{outside}
 use Rattle.opa_cases.proofs.TalkLaws.{not_kept, talks_all, talks_part, talks_not, unkept_all, unkept_cause, unkept_part}
 use Rattle.opa_cases.proofs.serving.talk.Goals as goal
 

@@ -1,4 +1,4 @@
-use Rattle.opa_infer.specs.Sessions.{rules_of}
+use Rattle.opa_session.specs.Infer.Sessions.{rules_of}
 use Rattle.opa_cases.proofs.FitLaws.{pile_more}
 use Rattle.opa_cases.proofs.supposing.suppose.Goals as goal
 

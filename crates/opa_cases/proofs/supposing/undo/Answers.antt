@@ -1,5 +1,5 @@
 use Rattle.std.proofs.Common.{sym, subst}
-use Rattle.opa_infer.specs.Sessions.{rules_of}
+use Rattle.opa_session.specs.Infer.Sessions.{rules_of}
 use Rattle.opa_cases.specs.Holding.{PileFits}
 use Rattle.opa_cases.proofs.FitLaws.{taken_back, pile_front}
 use Rattle.opa_cases.proofs.supposing.undo.Goals as goal

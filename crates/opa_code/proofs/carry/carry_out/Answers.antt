@@ -2,7 +2,7 @@ use Rattle.std.proofs.Common.{◌≡◌, ◌∙◌, ◌-◌, length, map, drop, 
 use Rattle.std.proofs.lemmas.Result.{on_ok_weaker}
 use Rattle.opa_date.specs.declared.TheConstants.{DAYS}
 use Rattle.opa_line.specs.Lines.{StandsFor}
-use Rattle.opa_across.specs.Lines.{Stand, meaning_of}
+use Rattle.opa_code.specs.OverLines.Lines.{Stand, meaning_of}
 use Rattle.opa_code.specs.Running.{node_meaning, operand_count, put}
 use Rattle.opa_code.proofs.Standing.{put_stands}
 use Rattle.opa_code.proofs.carry.carry_out.Goals as goal

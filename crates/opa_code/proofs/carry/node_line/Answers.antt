@@ -4,7 +4,7 @@ use Rattle.opa_line.specs.Lines.{StandsFor}
 use Rattle.opa_line.proofs.Zipping.{ok_weaker}
 use Rattle.opa_value.specs.Truth.{all_of, any_of, strict}
 use Rattle.opa_mean.specs.Operations.{op_of}
-use Rattle.opa_across.specs.Lines.{meaning_of}
+use Rattle.opa_code.specs.OverLines.Lines.{meaning_of}
 use Rattle.opa_code.specs.Running.{node_meaning}
 use Rattle.opa_code.proofs.Standing.{stands_same, each_lines}
 use Rattle.opa_code.proofs.carry.node_line.Goals as goal

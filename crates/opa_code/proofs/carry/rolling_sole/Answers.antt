@@ -1,7 +1,7 @@
 use Rattle.std.proofs.Common.{map}
 use Rattle.opa_line.proofs.Zipping.{ok_weaker}
 use Rattle.opa_window.specs.Days.{day_value}
-use Rattle.opa_across.specs.Lines.{meaning_of}
+use Rattle.opa_code.specs.OverLines.Lines.{meaning_of}
 use Rattle.opa_code.specs.Running.{sole}
 use Rattle.opa_code.proofs.Standing.{day_is, rolling_same, stands_same}
 use Rattle.opa_code.proofs.carry.rolling_sole.Goals as goal

@@ -2,7 +2,7 @@ use Rattle.std.proofs.Common.{◌∙◌, ap, sym, subst}
 use Rattle.std.specs.Option.{option_copied}
 use Rattle.std.proofs.lemmas.Result.{on_ok_weaker}
 use Rattle.opa_mean.specs.Meaning.{at_place}
-use Rattle.opa_across.specs.Additions.{IsAdded}
+use Rattle.opa_code.specs.OverLines.Additions.{IsAdded}
 use Rattle.opa_code.proofs.members.add_attribute.Goals as goal
 
 pub returns-in-None : goal.returns-in-None

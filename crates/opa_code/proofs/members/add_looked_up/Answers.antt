@@ -4,7 +4,7 @@ use Rattle.std.proofs.lemmas.Result.{on_ok_weaker}
 use Rattle.opa_value.specs.declared.value.Value.TheVariants.{Unknown}
 use Rattle.opa_window.specs.Days.{day_value}
 use Rattle.opa_mean.specs.Given.{line_value}
-use Rattle.opa_across.proofs.Adding.{added_same}
+use Rattle.opa_code.proofs.over_lines.Adding.{added_same}
 use Rattle.opa_code.proofs.members.add_looked_up.Goals as goal
 
 pub returns-in-None : goal.returns-in-None

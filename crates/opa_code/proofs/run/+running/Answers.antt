@@ -7,8 +7,8 @@ use Rattle.opa_line.specs.Lines.{StandsFor}
 use Rattle.opa_line.proofs.Zipping.{ok_weaker}
 use Rattle.opa_cells.specs.Instances.{global, named}
 use Rattle.opa_mean.specs.Meaning.{item}
-use Rattle.opa_across.specs.Additions.{HasRoom, IsAdded}
-use Rattle.opa_across.specs.Lines.{values_at}
+use Rattle.opa_code.specs.OverLines.Additions.{HasRoom, IsAdded}
+use Rattle.opa_code.specs.OverLines.Lines.{values_at}
 use Rattle.opa_code.specs.Steps.{Collected}
 use Rattle.opa_code.proofs.Listing.{count_listed, first_listed, gathered_listed, none_first, some_first, lines_item, attribute_item, none_collected, collected_room, collected_more, collected_all, few_taken, place_again, place_begun}
 use Rattle.opa_code.proofs.Stepping.{over_kept, run_left}

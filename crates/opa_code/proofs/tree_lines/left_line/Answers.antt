@@ -3,7 +3,7 @@ use Rattle.opa_date.specs.declared.TheConstants.{DAYS}
 use Rattle.opa_line.specs.Lines.{StandsFor}
 use Rattle.opa_line.proofs.Zipping.{ok_weaker}
 use Rattle.opa_mean.specs.Meaning.{first_value}
-use Rattle.opa_across.specs.Lines.{values_at}
+use Rattle.opa_code.specs.OverLines.Lines.{values_at}
 use Rattle.opa_code.proofs.TreeLines.{first_left}
 use Rattle.opa_code.proofs.tree_lines.left_line.Goals as goal
 

@@ -1,7 +1,7 @@
 use Rattle.std.proofs.Common.{◌≡◌, ◌++◌, map, length}
 use Rattle.std.specs.Prelude.{filter}
 use Rattle.std.specs.List.{All}
-use Rattle.opa_layout.specs.Blocks.{lines_of}
+use Rattle.opa_words.specs.Layout.Blocks.{lines_of}
 use Rattle.opa_decl.specs.Heads.{is_declaration}
 use Rattle.opa_decl.specs.Cutting.{HaveTokens, block_of, IsShort}
 use Rattle.opa_decl.proofs.cut.declaration_blocks.Given as goal

@@ -1,6 +1,6 @@
 use Rattle.std.proofs.Common.{◌≡◌, ℕ, List, ap, sym, subst, ◌∙◌}
 use Rattle.std.specs.Option.{option_map}
-use Rattle.opa_outside.specs.Outside.{Outside, outside}
+use Rattle.opa_talk.specs.WholeInput.Outside.{Outside, outside}
 use Rattle.opa_batch.specs.Counting.{Counts}
 use Rattle.opa_desk.specs.declared.reading.Mode.TheVariants as mode
 use Rattle.opa_desk.proofs.Asking.{same_name}

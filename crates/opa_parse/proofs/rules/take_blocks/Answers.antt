@@ -1,7 +1,7 @@
 use Rattle.std.proofs.Common.{◌≡◌, [], subst, rules}
 use Rattle.std.proofs.lemmas.List.Elements.{All-head, All-rest}
 use Rattle.std.specs.Prelude.{All}
-use Rattle.opa_layout.specs.declared.block.Block.{Block}
+use Rattle.opa_words.specs.declared.layout.block.Block.{Block}
 use Rattle.opa_parse.specs.Fronts.{AreShort}
 use Rattle.opa_parse.proofs.RuleLaws.{run_begins, run_goes, run_ends}
 use Rattle.opa_parse.proofs.rules.take_blocks.Goals as goal

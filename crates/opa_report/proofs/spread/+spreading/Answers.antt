@@ -7,8 +7,8 @@ use Rattle.opa_cells.specs.Instances.{named}
 use Rattle.opa_date.specs.declared.TheConstants.{DAYS}
 use Rattle.opa_value.specs.Truth.{is_true}
 use Rattle.opa_line.specs.Lines.{StandsFor}
-use Rattle.opa_days.specs.Sets.{on}
-use Rattle.opa_days.proofs.Setting.{on_is}
+use Rattle.opa_report.specs.DaySets.Sets.{on}
+use Rattle.opa_report.proofs.day_sets.Setting.{on_is}
 use Rattle.opa_mean.proofs.Values.{three_are}
 use Rattle.opa_mean.specs.Meaning.{value}
 use Rattle.opa_mean.specs.Uses.{Point, Listed, at_place_uses, first_or_all, over_uses, window_uses, uses}

@@ -2,9 +2,9 @@ use Rattle.std.proofs.Common.{◌<◌, length, All, ap, sym, subst, ◌∙◌}
 use Rattle.std.proofs.lemmas.List.{length-map}
 use Rattle.opa_tree.specs.Accepted.{AreFiled}
 use Rattle.opa_verbs.specs.Phrasing.{IsReadable}
-use Rattle.opa_files.specs.declared.source.SourceFile.{SourceFile}
-use Rattle.opa_table.specs.declared.whole.TableFile.{TableFile}
-use Rattle.opa_table.specs.Whole.{AreAllRules, AreAllRefused}
+use Rattle.opa_rulebase.specs.declared.files.source.SourceFile.{SourceFile}
+use Rattle.opa_parse.specs.declared.tables.whole.TableFile.{TableFile}
+use Rattle.opa_parse.specs.Tables.Whole.{AreAllRules, AreAllRefused}
 use Rattle.opa_rulebase.specs.Loading.{IsRefused}
 use Rattle.opa_rulebase.proofs.LoadLaws.{plain_refusal, accepted_by, refused_by, model_has}
 use Rattle.opa_rulebase.proofs.accepting.accept_inferred.Goals as goal

@@ -1,5 +1,5 @@
 use Rattle.std.proofs.Common.{◌≡◌, ◌++◌, map, length}
-use Rattle.opa_files.specs.declared.source.SourceFile.{SourceFile}
+use Rattle.opa_rulebase.specs.declared.files.source.SourceFile.{SourceFile}
 use Rattle.opa_rulebase.proofs.accepting.names.Given as goal
 
 abbrev pub invariant-loop-file : goal.invariant-loop-file

@@ -1,5 +1,5 @@
 use Rattle.std.proofs.Common.{◌<◌, All, length, ap, ◌∙◌, sym, subst, arith}
-use Rattle.opa_table.specs.declared.whole.TableFile.{TableFile}
+use Rattle.opa_parse.specs.declared.tables.whole.TableFile.{TableFile}
 use Rattle.opa_rulebase.specs.Loading.{table_files, with_listed}
 use Rattle.opa_rulebase.proofs.LoadLaws.{tables_more, tables_placed, tables_end}
 use Rattle.opa_rulebase.proofs.tables.tables_of.Goals as goal

@@ -1,6 +1,6 @@
 use Rattle.std.proofs.Common.{All, subst}
 use Rattle.std.specs.Str.{IsUtf8}
-use Rattle.opa_layout.specs.declared.block.BlockLine.{BlockLine}
+use Rattle.opa_words.specs.declared.layout.block.BlockLine.{BlockLine}
 use Rattle.opa_wording.proofs.TextsLaws.{more_blocks}
 use Rattle.opa_wording.proofs.texts.blocks_are_texts.Goals as goal
 

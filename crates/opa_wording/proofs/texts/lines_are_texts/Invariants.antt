@@ -1,6 +1,6 @@
 use Rattle.std.proofs.Common.{All, length}
 use Rattle.std.specs.Str.{IsUtf8}
-use Rattle.opa_layout.specs.declared.block.BlockLine.{BlockLine}
+use Rattle.opa_words.specs.declared.layout.block.BlockLine.{BlockLine}
 use Rattle.opa_wording.proofs.texts.lines_are_texts.Given as goal
 
 abbrev pub invariant-loop-line : goal.invariant-loop-line

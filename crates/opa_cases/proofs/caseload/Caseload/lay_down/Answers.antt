@@ -1,5 +1,5 @@
 use Rattle.std.proofs.Common.{sym, subst, ◌∙◌}
-use Rattle.opa_infer.specs.Sessions.{rules_of}
+use Rattle.opa_session.specs.Infer.Sessions.{rules_of}
 use Rattle.opa_cases.specs.Holding.{FitsRules}
 use Rattle.opa_cases.specs.Scripts.{opened_as}
 use Rattle.opa_cases.proofs.FitLaws.{apart_none, fits_none, fit_after}

@@ -1,5 +1,5 @@
 use Rattle.std.proofs.Common.{refl, subst, sym, None}
-use Rattle.opa_infer.specs.Sessions.{rules_of}
+use Rattle.opa_session.specs.Infer.Sessions.{rules_of}
 use Rattle.opa_cases.specs.Holding.{AllFit}
 use Rattle.opa_cases.proofs.FitLaws.{apart_none, fits_none}
 use Rattle.opa_cases.proofs.OpenLaws.{fit_empty}

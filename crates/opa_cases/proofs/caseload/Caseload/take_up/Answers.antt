@@ -1,6 +1,6 @@
 use Rattle.std.proofs.Common.{sym, subst}
 use Rattle.opa_tree.specs.declared.rulebase.Rulebase.{Rulebase}
-use Rattle.opa_infer.specs.Sessions.{rules_of}
+use Rattle.opa_session.specs.Infer.Sessions.{rules_of}
 use Rattle.opa_cases.specs.Holding.{AllFit}
 use Rattle.opa_cases.proofs.FitLaws.{apart_none, fits_none, fit_taken}
 use Rattle.opa_cases.proofs.caseload.Caseload.take_up.Goals as goal

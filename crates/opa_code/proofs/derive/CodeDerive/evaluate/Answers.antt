@@ -7,7 +7,7 @@ use Rattle.opa_value.specs.Fit.{fit_of}
 use Rattle.opa_case.specs.Shapes.{shape_of}
 use Rattle.opa_mean.specs.Meaning.{first_value}
 use Rattle.opa_code.specs.Coding.{coded, is_for}
-use Rattle.opa_across.specs.Lines.{values_at}
+use Rattle.opa_code.specs.OverLines.Lines.{values_at}
 use Rattle.opa_code.specs.Rulebases.{rulebase_of}
 use Rattle.opa_code.specs.Steps.{Leaves}
 use Rattle.opa_code.proofs.Concluding.{code_none, code_found, none_derived, code_derived}

@@ -1,6 +1,0 @@
-use Rattle.std.proofs.Common.{take}
-use Rattle.opa_across.specs.Tallies.{AreConstant}
-use Rattle.opa_across.proofs.steady.constant_tally.Given as goal
-
-abbrev pub invariant-loop-line : goal.invariant-loop-line
-invariant-loop-line l = AreConstant l.most (take l.line-index l.lines) l.tally

@@ -1,0 +1,5 @@
+// A finite map from names.
+
+mod map;
+
+pub use map::Named;

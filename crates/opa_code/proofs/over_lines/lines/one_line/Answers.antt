@@ -1,0 +1,10 @@
+use Rattle.std.proofs.Common.{rules, of_calls, ◌∷◌, []}
+use Rattle.opa_date.specs.declared.TheConstants.{DAYS}
+use Rattle.opa_value.specs.declared.value.Value.TheVariants.{Unknown}
+use Rattle.opa_line.proofs.Zipping.{ok_weaker, mapped_stands}
+use Rattle.opa_value.specs.Truth.{strict}
+use Rattle.opa_mean.specs.Operations.{op_of}
+use Rattle.opa_code.proofs.over_lines.lines.one_line.Goals as goal
+
+pub returns : goal.returns
+returns c = ok_weaker c.map.result _ _ (λ l h. mapped_stands _ _ (λ v. strict (op_of c.args.kind) (v ∷ [])) Unknown DAYS c.args.x.now l (λ p z says. search (rules, of_calls, says)) h) c.map.ensures

@@ -1,0 +1,22 @@
+// What is made of lines at each day: nothing is looked at day by day.
+
+mod choice;
+mod gathering;
+mod items;
+mod lines;
+mod marks;
+mod operations;
+mod peaks;
+mod steady;
+mod sums;
+mod tally;
+mod windows;
+
+pub use gathering::Gathering;
+pub use items::{Items, gathering_of};
+pub use lines::{
+    certain_line, choice_line, first_line, fitted_line, gathered, item_line, known_line, not_line,
+    op_line, quantified, same_line,
+};
+pub use sums::amount;
+pub use windows::{rolling_line, window_line};

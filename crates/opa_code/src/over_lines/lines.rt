@@ -1,0 +1,244 @@
+// Lines whose value at each day is made of the values of other lines at that day.
+ghost use Rattle.std.specs.Prelude.{◌≡◌, ◌∷◌, [], IfOk};
+ghost use Rattle.opa_date.specs.declared.TheConstants.{DAYS};
+ghost use Rattle.opa_line.specs.Lines.{StandsFor};
+ghost use Rattle.opa_line.specs.Pointwise.{EachDay};
+ghost use Rattle.opa_value.specs.Fit.{fit_of};
+ghost use Rattle.opa_value.specs.Truth.{not_of, strict};
+ghost use Rattle.opa_value.specs.declared.value.Value.TheVariants as values;
+ghost use Rattle.opa_window.specs.Days.{day_value};
+ghost use Rattle.opa_mean.specs.Meaning as meant;
+ghost use Rattle.opa_mean.specs.Operations.{op_of};
+ghost use Rattle.opa_code.specs.OverLines.Lines.{values_at};
+ghost use Rattle.opa_code.specs.OverLines.Tallies.{IsOne, IsTally, gather_of, is_most as most_of};
+
+use crate::over_lines::choice::Choice;
+use crate::over_lines::gathering::Gathering;
+use crate::over_lines::operations::{strict_one, strict_two};
+use crate::over_lines::steady::{constant_tally, told_first};
+use crate::over_lines::sums::amount;
+use crate::over_lines::tally::Tally;
+use opa_io::NoMemory;
+use opa_line::Line;
+use opa_tree::{OpKind, Quant};
+use opa_value::{Number, Value, fit};
+use std::alloc::Global;
+
+/// An equal line.
+pub fn same_line(alloc: Global, x: &Line<Value>) -> Result<Line<Value>, NoMemory>
+    ensures { IfOk result (StandsFor DAYS (day_value x.now)) }
+{
+    x.map(alloc, |v: &Value| v.copy(alloc))
+}
+
+/// Concluded values: a currency is rounded.
+pub fn fitted_line(alloc: Global, money: bool, x: &Line<Value>) -> Result<Line<Value>, NoMemory>
+    ensures { IfOk result (StandsFor DAYS (λ d. fit_of money (day_value x.now d))) }
+{
+    x.map(alloc, move |v: &Value| fitted(alloc, money, v))
+}
+
+fn fitted(alloc: Global, money: bool, value: &Value) -> Result<Value, NoMemory>
+    ensures { IfOk result (λ v. v ≡ fit_of money value.now) }
+{
+    Ok(fit(money, value.copy(alloc)?))
+}
+
+pub fn not_line(alloc: Global, x: &Line<Value>) -> Result<Line<Value>, NoMemory>
+    ensures { IfOk result (StandsFor DAYS (λ d. not_of (day_value x.now d))) }
+{
+    x.map(alloc, |v: &Value| Ok(Value::not(v)))
+}
+
+pub fn certain_line(alloc: Global, x: &Line<Value>) -> Result<Line<Value>, NoMemory>
+    ensures { IfOk result (StandsFor DAYS (λ d. meant.certain_of (day_value x.now d))) }
+{
+    x.map(alloc, |v: &Value| Ok(certain(v)))
+}
+
+fn certain(value: &Value) -> Value
+    ensures { result ≡ meant.certain_of value.now }
+{
+    match value {
+        Value::Unknown => Value::Unknown,
+        Value::Uncertain => Value::Bool(false),
+        _ => Value::Bool(true),
+    }
+}
+
+pub fn known_line(alloc: Global, x: &Line<Value>) -> Result<Line<Value>, NoMemory>
+    ensures { IfOk result (StandsFor DAYS (λ d. meant.known_of (day_value x.now d))) }
+{
+    x.map(alloc, |v: &Value| Ok(known(v)))
+}
+
+fn known(value: &Value) -> Value
+    ensures { result ≡ meant.known_of value.now }
+{
+    match value {
+        Value::Unknown => Value::Bool(false),
+        _ => Value::Bool(true),
+    }
+}
+
+/// A strict operation.
+pub fn op_line(alloc: Global, kind: OpKind, lines: &[Line<Value>]) -> Result<Line<Value>, NoMemory>
+    ensures { IfOk result (StandsFor DAYS (λ d. strict (op_of kind) (values_at lines.now d))) }
+{
+    match lines {
+        [x] => one_line(alloc, kind, x),
+        [x, y] => two_line(alloc, kind, x, y),
+        [] => gathered(alloc, Gathering::Open, lines),
+        [_, _, _, ..] => gathered(alloc, Gathering::Open, lines),
+    }
+}
+
+fn one_line(alloc: Global, kind: OpKind, x: &Line<Value>) -> Result<Line<Value>, NoMemory>
+    ensures { IfOk result (StandsFor DAYS (λ d. strict (op_of kind) (day_value x.now d ∷ []))) }
+{
+    x.map(alloc, move |v: &Value| Ok(strict_one(kind, v)))
+}
+
+fn two_line(
+    alloc: Global,
+    kind: OpKind,
+    x: &Line<Value>,
+    y: &Line<Value>,
+) -> Result<Line<Value>, NoMemory>
+    ensures { IfOk result (StandsFor DAYS (λ d. strict (op_of kind) (day_value x.now d ∷ day_value y.now d ∷ []))) }
+{
+    x.zip(alloc, y, move |v: &Value, w: &Value| {
+        strict_two(alloc, kind, v, w)
+    })
+}
+
+/// Where the condition is true the value, where it is false the rest, and else what the condition is.
+pub fn choice_line(
+    alloc: Global,
+    cond: &Line<Value>,
+    value: &Line<Value>,
+    rest: &Line<Value>,
+) -> Result<Line<Value>, NoMemory>
+    ensures { IfOk result (StandsFor DAYS (λ d. meant.choose (day_value cond.now d) (day_value value.now d)
+        (day_value rest.now d))) }
+{
+    let choices = cond.zip(alloc, value, |c: &Value, v: &Value| Choice::of(alloc, c, v))?;
+    choices.zip(alloc, rest, |c: &Choice, v: &Value| c.or(alloc, v))
+}
+
+/// What is gathered from lines at each day.
+pub fn gathered(
+    alloc: Global,
+    gathering: Gathering,
+    lines: &[Line<Value>],
+) -> Result<Line<Value>, NoMemory>
+    ensures { IfOk result (StandsFor DAYS (λ d. gather_of gathering (values_at lines.now d))) }
+{
+    match constant_tally(is_most(gathering), lines) {
+        Some(tally) => {
+            let value = told_first(alloc, gathering, &tally, lines)?;
+            Line::constant(alloc, value)
+        }
+        None => gathered_by_day(alloc, gathering, lines),
+    }
+}
+
+fn gathered_by_day(
+    alloc: Global,
+    gathering: Gathering,
+    lines: &[Line<Value>],
+) -> Result<Line<Value>, NoMemory>
+    ensures { IfOk result (StandsFor DAYS (λ d. gather_of gathering (values_at lines.now d))) }
+{
+    let first = first_line(alloc, lines)?;
+    let tallies = tallied(alloc, is_most(gathering), lines)?;
+    tallies.zip(alloc, &first, move |t: &Tally, v: &Value| {
+        t.told(alloc, gathering, v)
+    })
+}
+
+/// The first line, uncertain on every day where there is none.
+pub fn first_line(alloc: Global, lines: &[Line<Value>]) -> Result<Line<Value>, NoMemory>
+    ensures { IfOk result (StandsFor DAYS (λ d. meant.first_value (values_at lines.now d))) }
+{
+    match lines {
+        [] => Line::constant(alloc, Value::Uncertain),
+        [first, ..] => same_line(alloc, first),
+    }
+}
+
+/// The tallies of lines at each day. The lines are halved, so that each change point is met once for each halving.
+#[cycle(halves)]
+pub(crate) fn tallied(
+    alloc: Global,
+    most: bool,
+    lines: &[Line<Value>],
+) -> Result<Line<Tally>, NoMemory>
+    ensures { IfOk result (EachDay (λ d t. IsTally most (values_at lines.now d) t) DAYS) }
+{
+    match lines {
+        [] => Line::constant(alloc, Tally::none()),
+        [line] => one_tally(alloc, line),
+        _ => {
+            let (left, right) = lines.split_at(lines.len() / 2);
+            let first = tallied(alloc, most, left)?;
+            let second = tallied(alloc, most, right)?;
+            first.zip(alloc, &second, move |s: &Tally, t: &Tally| {
+                Ok(Tally::both(most, s, t))
+            })
+        }
+    }
+}
+
+fn one_tally(alloc: Global, line: &Line<Value>) -> Result<Line<Tally>, NoMemory>
+    ensures { IfOk result (EachDay (λ d t. IsOne (day_value line.now d) t) DAYS) }
+{
+    line.map(alloc, |v: &Value| Ok(Tally::one(v)))
+}
+
+/// What a quantifier makes of the lines of a listed instance's operands.
+pub fn item_line(
+    alloc: Global,
+    quant: Quant,
+    lines: &[Line<Value>],
+) -> Result<Line<Value>, NoMemory>
+    ensures { IfOk result (StandsFor DAYS (λ d. meant.item quant (values_at lines.now d))) }
+{
+    match (quant, lines) {
+        (Quant::SumIf, [number, test]) => {
+            let zero = Line::constant(alloc, amount(0))?;
+            choice_line(alloc, test, number, &zero)
+        }
+        (_, [line]) => same_line(alloc, line),
+        _ => Line::constant(alloc, Value::Uncertain),
+    }
+}
+
+/// What a quantifier makes of the items.
+pub fn quantified(
+    alloc: Global,
+    quant: Quant,
+    items: &[Line<Value>],
+) -> Result<Line<Value>, NoMemory>
+    ensures { IfOk result (StandsFor DAYS (λ d. meant.quant_of quant (values_at items.now d))) }
+{
+    match quant {
+        Quant::ForAll => gathered(alloc, Gathering::All, items),
+        Quant::Exists => gathered(alloc, Gathering::Any, items),
+        Quant::For => first_line(alloc, items),
+        Quant::Count => Line::constant(alloc, amount(items.len() as u64)),
+        Quant::CountIf => gathered(alloc, Gathering::CountIf, items),
+        Quant::Sum | Quant::SumIf => gathered(alloc, Gathering::Sum, items),
+        Quant::Maximum => gathered(alloc, Gathering::Best(true), items),
+        Quant::Minimum => gathered(alloc, Gathering::Best(false), items),
+    }
+}
+
+pub(crate) fn is_most(gathering: Gathering) -> bool
+    ensures { result ≡ most_of gathering }
+{
+    match gathering {
+        Gathering::Best(most) => most,
+        _ => true,
+    }
+}

@@ -1,0 +1,61 @@
+// Lines with the same value at every day.
+ghost use Rattle.std.specs.Prelude.{◌≡◌, ◌∷◌, [], ℕ, IfOk, IfSome};
+ghost use Rattle.opa_window.specs.Days.{day_value};
+ghost use Rattle.opa_mean.specs.Meaning as meant;
+ghost use Rattle.opa_code.specs.OverLines.Lines.{values_at};
+ghost use Rattle.opa_code.specs.OverLines.Tallies as tallies;
+
+use crate::over_lines::gathering::Gathering;
+use crate::over_lines::tally::Tally;
+use opa_io::NoMemory;
+use opa_line::Line;
+use opa_value::Value;
+use std::alloc::Global;
+
+/// The value of a line that doesn't change.
+pub fn constant_of(line: &Line<Value>) -> Option<&Value>
+    ensures { IfSome result (λ v. (d : ℕ) → day_value line.now d ≡ v.now) }
+{
+    match line.segments() {
+        [pair] => Some(&pair.1),
+        _ => None,
+    }
+}
+
+/// The tally with one value more.
+pub fn counted(most: bool, tally: &Tally, value: &Value) -> Tally
+    requires { tallies.AreSmall tally.now.sums }
+    ensures { tallies.IsCounted most value.now tally.now result }
+{
+    let one = Tally::one(value);
+    Tally::both(most, tally, &one)
+}
+
+/// What a tally tells, where the first item is as it is at the first day.
+pub fn told_first(
+    alloc: Global,
+    gathering: Gathering,
+    tally: &Tally,
+    lines: &[Line<Value>],
+) -> Result<Value, NoMemory>
+    ensures { IfOk result (λ v. v ≡ tallies.told gathering tally.now (meant.first_value (values_at lines.now 0))) }
+{
+    match lines {
+        [] => tally.told(alloc, gathering, &Value::Uncertain),
+        [line, ..] => tally.told(alloc, gathering, line.at(0)),
+    }
+}
+
+/// The tally of lines of which each has the same value at every day.
+pub fn constant_tally(most: bool, lines: &[Line<Value>]) -> Option<Tally>
+    ensures { IfSome result (tallies.AreConstant most lines.now) }
+{
+    let mut tally = Tally::none();
+    for line in lines {
+        let Some(value) = constant_of(line) else {
+            return None;
+        };
+        tally = counted(most, &tally, value);
+    }
+    Some(tally)
+}

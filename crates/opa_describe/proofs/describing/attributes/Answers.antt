@@ -1,9 +1,0 @@
-use Rattle.opa_describe.specs.Description.{attribute_data}
-use Rattle.opa_describe.proofs.UptoLaws.{none_yet, one_more}
-use Rattle.opa_describe.proofs.describing.attributes.Goals as goal
-
-pub loop-n-init : goal.loop-n-init
-loop-n-init c = none_yet (attribute_data c.args.base.now) _ c.new-items.ensures.items
-
-pub loop-n-preserved : goal.loop-n-preserved
-loop-n-preserved c = one_more (attribute_data c.args.base.now) c.loop-n.n _ _ _ c.in_ok-push.ensures.items c.loop-n.invariant c.in_ok-attribute_json.ensures

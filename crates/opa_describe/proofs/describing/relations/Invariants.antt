@@ -1,8 +1,0 @@
-use Rattle.std.proofs.Common.{◌≡◌, map}
-use Rattle.serde_json.specs.View.{view}
-use Rattle.opa_describe.specs.Description.{relation_data}
-use Rattle.opa_describe.specs.Parts.{upto}
-use Rattle.opa_describe.proofs.describing.relations.Given as goal
-
-abbrev pub invariant-loop-n : goal.invariant-loop-n
-invariant-loop-n l = map view l.items.items ≡ upto (relation_data l.model) l.n

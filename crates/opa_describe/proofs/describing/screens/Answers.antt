@@ -1,9 +1,0 @@
-use Rattle.opa_describe.specs.Parts.{screen_data}
-use Rattle.opa_describe.proofs.UptoLaws.{none_yet, one_more}
-use Rattle.opa_describe.proofs.describing.screens.Goals as goal
-
-pub loop-n-init : goal.loop-n-init
-loop-n-init c = none_yet (screen_data c.args.model.now) _ c.new-items.ensures.items
-
-pub loop-n-preserved : goal.loop-n-preserved
-loop-n-preserved c = one_more (screen_data c.args.model.now) c.loop-n.n _ _ _ c.in_ok-push.ensures.items c.loop-n.invariant c.in_ok-screen_json.ensures

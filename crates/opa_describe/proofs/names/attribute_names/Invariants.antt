@@ -1,7 +1,0 @@
-use Rattle.std.specs.Prelude.{◌≡◌, take, map}
-use Rattle.serde_json.specs.View.{view}
-use Rattle.opa_describe.specs.Parts.{attribute_name}
-use Rattle.opa_describe.proofs.names.attribute_names.Given as goal
-
-abbrev pub invariant-loop-attr : goal.invariant-loop-attr
-invariant-loop-attr l = map view l.names.items ≡ map (attribute_name l.model) (take l.attr-index l.attrs)

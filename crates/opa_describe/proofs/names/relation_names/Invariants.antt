@@ -1,7 +1,0 @@
-use Rattle.std.specs.Prelude.{◌≡◌, take, map}
-use Rattle.serde_json.specs.View.{view}
-use Rattle.opa_describe.specs.Parts.{relation_name}
-use Rattle.opa_describe.proofs.names.relation_names.Given as goal
-
-abbrev pub invariant-loop-rel : goal.invariant-loop-rel
-invariant-loop-rel l = map view l.names.items ≡ map (relation_name l.model) (take l.rel-index l.rels)

@@ -1,7 +1,0 @@
-// What holds of all descriptions.
-ghost use Rattle.opa_describe.specs.Alike.{OneDescription};
-
-/// Two rulebases with one description declare the same.
-pub fn one_description()
-    ensures { OneDescription }
-{}

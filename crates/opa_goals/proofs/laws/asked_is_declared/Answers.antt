@@ -1,5 +1,0 @@
-use Rattle.opa_goals.proofs.NeedsKnown.{relevant_declared}
-use Rattle.opa_goals.proofs.laws.asked_is_declared.Goals as goal
-
-pub returns : goal.returns
-returns c = λ r held is a. relevant_declared r held is a

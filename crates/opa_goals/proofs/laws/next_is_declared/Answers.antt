@@ -1,5 +1,0 @@
-use Rattle.opa_goals.proofs.NeedsKnown.{next_is_declared}
-use Rattle.opa_goals.proofs.laws.next_is_declared.Goals as goal
-
-pub returns : goal.returns
-returns c = λ r held is q. next_is_declared r held is q

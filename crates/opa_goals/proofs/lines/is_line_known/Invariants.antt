@@ -1,7 +1,0 @@
-use Rattle.std.proofs.Common.{◌≡◌, drop}
-use Rattle.opa_goals.specs.Stretches.{is_line_known}
-use Rattle.opa_goals.proofs.lines.is_line_known.Given as goal
-
--- the pairs before are known
-abbrev pub invariant-loop-pair : goal.invariant-loop-pair
-invariant-loop-pair l = is_line_known l.line ≡ is_line_known (drop l.pair-index l.pair-items)

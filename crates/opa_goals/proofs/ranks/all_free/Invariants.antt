@@ -1,5 +1,0 @@
-use Rattle.std.proofs.Common.{◌≡◌, true, replicate}
-use Rattle.opa_goals.proofs.ranks.all_free.Given as goal
-
-abbrev pub invariant-loop : goal.invariant-loop
-invariant-loop l = l.free.items ≡ replicate l.counter true

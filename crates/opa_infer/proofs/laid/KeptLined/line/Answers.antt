@@ -1,6 +1,0 @@
-use Rattle.opa_store.specs.Stores.{kept_of}
-use Rattle.opa_infer.proofs.Found.{found_in}
-use Rattle.opa_infer.proofs.laid.KeptLined.line.Goals as goal
-
-pub told_line-requires-clause-found : goal.told_line-requires-clause-found
-told_line-requires-clause-found g c = found_in c.args.self.now.base.now c.args.self.now.case.now (kept_of c.args.self.now.store.now) c.args.self.now.current c.args.attr c.args.inst.now _ c.get.ensures

@@ -1,9 +1,0 @@
-use Rattle.opa_dirty.specs.Settling.{laid_over}
-use Rattle.opa_store.specs.Stores.{kept_of, staged_of}
-use Rattle.opa_infer.proofs.Found.{found_in}
-use Rattle.opa_infer.proofs.laid.LaidLined.line.Goals as goal
-
-pub told_line-requires-clause-found : goal.told_line-requires-clause-found
-told_line-requires-clause-found g c =
-    let n = g.N.Next.next c.args.self.now.next.now in
-    found_in c.args.self.now.base.now n (laid_over n (kept_of c.args.self.now.store.now) (staged_of c.args.self.now.store.now)) c.args.self.now.current c.args.attr c.args.inst.now _ c.laid_line-found.ensures

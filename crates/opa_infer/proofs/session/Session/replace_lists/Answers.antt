@@ -1,5 +1,0 @@
-use Rattle.opa_infer.proofs.Heard.{tells}
-use Rattle.opa_infer.proofs.session.Session.replace_lists.Goals as goal
-
-pub returns-clause-told : goal.returns-clause-told
-returns-clause-told g c = tells _ _ _ _ _ _ _ _ _ c.in_ok-ready.ensures.ready c.tell.ensures

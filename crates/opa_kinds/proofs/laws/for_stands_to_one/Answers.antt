@@ -1,5 +1,0 @@
-use Rattle.opa_kinds.proofs.LawsHold.{for_stands_to_one_holds}
-use Rattle.opa_kinds.proofs.laws.for_stands_to_one.Goals as goal
-
-pub returns : goal.returns
-returns c = for_stands_to_one_holds

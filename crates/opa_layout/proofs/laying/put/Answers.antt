@@ -1,4 +1,0 @@
-use Rattle.opa_layout.proofs.laying.put.Goals as goal
-
-pub returns-in_ok-go_on-clause-blocks : goal.returns-in_ok-go_on-clause-blocks
-returns-in_ok-go_on-clause-blocks c = c.in_ok-go_on.ensures.blocks c.args.file c.requires.blocks

@@ -1,0 +1,7 @@
+use Rattle.opa_mean.specs.Goals.States.{is_known}
+use Rattle.opa_mean.proofs.goals.Knowing.{AreKnownTo}
+use Rattle.opa_mean.proofs.goals.states.all_known.Given as goal
+
+-- the goals before are known
+abbrev pub invariant-loop-number : goal.invariant-loop-number
+invariant-loop-number g l = AreKnownTo (is_known (g.H.Held.rules l.held) (g.H.Held.held l.held)) (g.H.Held.rules l.held).model.goals l.number

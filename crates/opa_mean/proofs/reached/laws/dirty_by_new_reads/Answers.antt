@@ -1,0 +1,5 @@
+use Rattle.opa_mean.proofs.reached.Reaching.{dirty_by_new_reads}
+use Rattle.opa_mean.proofs.reached.laws.dirty_by_new_reads.Goals as goal
+
+pub returns : goal.returns
+returns c = dirty_by_new_reads

@@ -1,8 +1,0 @@
-use Rattle.std.proofs.Common.{ap, ◌∙◌}
-use Rattle.std.specs.FinMap as map
-use Rattle.opa_named.proofs.NamedLaws.{inserted}
-use Rattle.opa_named.proofs.map.Named.insert.Goals as goal
-
-pub returns-in-Ok-clause-ok : goal.returns-in-Ok-clause-ok
-returns-in-Ok-clause-ok g c =
-    inserted c.args.name c.args.value c.self.inside.entries.entries c.insert.new.self.entries c.in-Ok.ensures.updates.0 ∙ ap (λ m. map.insert m c.args.name c.args.value) c.self.view_is

@@ -1,7 +1,0 @@
-use Rattle.std.proofs.Common.{List, subst}
-use Rattle.opa_dirty.specs.declared.slot.Slot.{Slot}
-use Rattle.opa_readers.specs.Indexes.{AddsSlot}
-use Rattle.opa_readers.proofs.add.only.Goals as goal
-
-pub returns : goal.returns
-returns c = subst (λ (xs : List Slot). AddsSlot xs c.add_slot.new.slots.keys (c.args.attr, c.args.inst.now)) c.new-slots.ensures.empty c.in_ok-add_slot.ensures.adds

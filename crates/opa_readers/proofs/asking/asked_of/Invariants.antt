@@ -1,6 +1,0 @@
-use Rattle.std.proofs.Common.{take}
-use Rattle.opa_readers.specs.Touches.{AreAsked}
-use Rattle.opa_readers.proofs.asking.asked_of.Given as goal
-
-abbrev pub invariant-loop-question : goal.invariant-loop-question
-invariant-loop-question l = AreAsked (take l.question-index l.questions) l.asked

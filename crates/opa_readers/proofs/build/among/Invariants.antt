@@ -1,6 +1,0 @@
-use Rattle.std.proofs.Common.{take}
-use Rattle.opa_readers.specs.Indexes.{readers_in, AreReadersAmong}
-use Rattle.opa_readers.proofs.build.among.Given as goal
-
-abbrev pub invariant-loop-attr : goal.invariant-loop-attr
-invariant-loop-attr l = AreReadersAmong l.base l.case (take l.attr-index l.slots) (readers_in l.index)

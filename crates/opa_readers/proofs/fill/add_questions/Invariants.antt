@@ -1,6 +1,0 @@
-use Rattle.std.proofs.Common.{take}
-use Rattle.opa_readers.specs.Indexes.{AddsReads}
-use Rattle.opa_readers.proofs.fill.add_questions.Given as goal
-
-abbrev pub invariant-loop-question : goal.invariant-loop-question
-invariant-loop-question l = AddsReads (take l.question-index l.questions) l.attr l.inst l.initial.index l.index

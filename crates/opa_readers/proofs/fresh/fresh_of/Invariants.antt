@@ -1,7 +1,0 @@
-use Rattle.std.proofs.Common.{◌≡◌, take}
-use Rattle.opa_dirty.specs.Slots.{pairs_of}
-use Rattle.opa_readers.specs.Renewing.{fresh_among}
-use Rattle.opa_readers.proofs.fresh.fresh_of.Given as goal
-
-abbrev pub invariant-loop-attr : goal.invariant-loop-attr
-invariant-loop-attr l = pairs_of l.found ≡ fresh_among l.base l.old l.new (take l.attr-index l.slots)

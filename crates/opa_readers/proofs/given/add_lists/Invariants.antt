@@ -1,7 +1,0 @@
-use Rattle.std.proofs.Common.{◌≡◌, ◌++◌, take}
-use Rattle.std.specs.Prelude.{flat_map}
-use Rattle.opa_readers.specs.Renewing.{list_told}
-use Rattle.opa_readers.proofs.given.add_lists.Given as goal
-
-abbrev pub invariant-loop-number : goal.invariant-loop-number
-invariant-loop-number l = l.told ≡ l.initial.told ++ flat_map (λ x. list_told l.old l.new (x.0, x.1.now)) (take l.number-index l.cells)

@@ -1,8 +1,0 @@
-use Rattle.std.proofs.Common.{take}
-use Rattle.opa_case.specs.Overlays.{relisted_case}
-use Rattle.opa_readers.specs.Indexes.{readers_in}
-use Rattle.opa_readers.specs.Waits.{IsLiveReader, WaitsBesides}
-use Rattle.opa_readers.proofs.listing.mark_told.Given as goal
-
-abbrev pub invariant-loop-question : goal.invariant-loop-question
-invariant-loop-question l = WaitsBesides l.base (IsLiveReader (relisted_case l.next) (readers_in l.index) (take l.question-index l.told)) l.initial.tasks l.tasks

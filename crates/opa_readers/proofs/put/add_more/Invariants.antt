@@ -1,7 +1,0 @@
-use Rattle.std.proofs.Common.{take}
-use Rattle.opa_readers.specs.Indexes.{readers_in}
-use Rattle.opa_readers.specs.Renewals.{AddsMore}
-use Rattle.opa_readers.proofs.put.add_more.Given as goal
-
-abbrev pub invariant-loop-renewed : goal.invariant-loop-renewed
-invariant-loop-renewed l = AddsMore (take l.renewed-index l.slots) (readers_in l.fn.index) (readers_in l.index)

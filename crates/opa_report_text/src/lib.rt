@@ -1,8 +1,0 @@
-//! The text of a decision report.
-#![tactic(auto)]
-
-mod told;
-mod whole;
-
-pub use told::origin_text;
-pub use whole::report_text;

@@ -1,0 +1,8 @@
+use Rattle.std.proofs.Common.{◌≡◌, map}
+use Rattle.serde_json.specs.View.{view}
+use Rattle.opa_rules.specs.Describing.Description.{attribute_data}
+use Rattle.opa_rules.specs.Describing.Parts.{upto}
+use Rattle.opa_rules.proofs.describing.describing.attributes.Given as goal
+
+abbrev pub invariant-loop-n : goal.invariant-loop-n
+invariant-loop-n l = map view l.items.items ≡ upto (attribute_data l.base) l.n

@@ -1,6 +1,0 @@
-use Rattle.std.proofs.Common.{◌∙◌, ap}
-use Rattle.std.specs.Prelude.{◌==◌}
-use Rattle.opa_screen.proofs.table.lies_on.Goals as goal
-
-pub returns : goal.returns
-returns c = ap (λ n. n == c.args.screen) (c.number-number.ensures ∙ c.requires c.args.question.now)

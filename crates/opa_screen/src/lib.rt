@@ -1,9 +1,0 @@
-//! Screens: which one a question lies on, and what one shows.
-#![tactic(auto)]
-
-mod numbers;
-mod table;
-mod texts;
-
-pub use numbers::screen_of;
-pub use texts::screen_text;

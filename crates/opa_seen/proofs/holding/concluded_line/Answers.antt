@@ -1,8 +1,0 @@
-use Rattle.std.proofs.Common.{Some, ap, ◌∙◌}
-use Rattle.opa_value.specs.Fit.{fit_of}
-use Rattle.opa_seen.specs.Shades.{mapped}
-use Rattle.opa_seen.proofs.Walking.{told}
-use Rattle.opa_seen.proofs.holding.concluded_line.Goals as goal
-
-pub returns : goal.returns
-returns g c = λ d lt. c.in_ok-line.ensures d lt ∙ ap (λ h. Some (mapped (fit_of c.args.money) h)) (told c.in_ok-seen.seen _ c.in_ok-seen.ensures d lt)

@@ -1,7 +1,0 @@
-use Rattle.std.proofs.Common.{take}
-use Rattle.opa_seen.proofs.PartLaws.{Tells}
-use Rattle.opa_seen.proofs.parts.part_lines.Given as goal
-
--- what is told of the lines so far
-abbrev pub invariant-loop-line : goal.invariant-loop-line
-invariant-loop-line l = Tells l.part (take l.line-index l.lines) l.parts.items

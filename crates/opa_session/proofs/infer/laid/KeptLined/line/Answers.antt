@@ -1,0 +1,6 @@
+use Rattle.opa_session.specs.Store.Stores.{kept_of}
+use Rattle.opa_session.proofs.infer.Found.{found_in}
+use Rattle.opa_session.proofs.infer.laid.KeptLined.line.Goals as goal
+
+pub told_line-requires-clause-found : goal.told_line-requires-clause-found
+told_line-requires-clause-found g c = found_in c.args.self.now.base.now c.args.self.now.case.now (kept_of c.args.self.now.store.now) c.args.self.now.current c.args.attr c.args.inst.now _ c.get.ensures

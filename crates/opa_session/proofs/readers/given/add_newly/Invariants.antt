@@ -1,0 +1,7 @@
+use Rattle.std.proofs.Common.{◌≡◌, ◌++◌, take}
+use Rattle.std.specs.Prelude.{flat_map}
+use Rattle.opa_session.specs.Readers.Renewing.{newly_told}
+use Rattle.opa_session.proofs.readers.given.add_newly.Given as goal
+
+abbrev pub invariant-loop-number : goal.invariant-loop-number
+invariant-loop-number l = l.told ≡ l.initial.told ++ flat_map (λ x. newly_told l.base l.old l.new (x.0, x.1.now)) (take l.number-index l.cells)

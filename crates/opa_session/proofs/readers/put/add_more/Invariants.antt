@@ -1,0 +1,7 @@
+use Rattle.std.proofs.Common.{take}
+use Rattle.opa_session.specs.Readers.Indexes.{readers_in}
+use Rattle.opa_session.specs.Readers.Renewals.{AddsMore}
+use Rattle.opa_session.proofs.readers.put.add_more.Given as goal
+
+abbrev pub invariant-loop-renewed : goal.invariant-loop-renewed
+invariant-loop-renewed l = AddsMore (take l.renewed-index l.slots) (readers_in l.fn.index) (readers_in l.index)

@@ -1,0 +1,26 @@
+use Rattle.std.proofs.Common.{◌∙◌, ap}
+use Rattle.opa_mean.specs.Reached.Settling.{laid}
+use Rattle.opa_session.specs.Store.Stores.{StoreView, kept_of, staged_of, kept_lines, staged_lines}
+use Rattle.opa_session.proofs.store.Listing.{among, none_staged}
+use Rattle.opa_session.proofs.store.Storing.{commits, shorter, all_kept, nothing_left}
+use Rattle.opa_session.proofs.store.store.Store.commit.Goals as goal
+
+pub loop-slot-init : goal.loop-slot-init
+loop-slot-init g c = record {
+  laid = λ a i. ap (λ (s : StoreView). laid (kept_of s) (staged_of s) a i) c.self.view_is;
+  listed = among (staged_lines c.self.inside.entries) c.self.inside.slots c.self.invariant.0;
+}
+
+pub loop-slot-smaller : goal.loop-slot-smaller
+loop-slot-smaller g c = shorter c.loop-slot.self-inside.slots c.pop.new.self c.in-Some.slot c.in-Some.ensures
+
+pub loop-slot-preserved : goal.loop-slot-preserved
+loop-slot-preserved g c =
+    let k = commits c.loop-slot.self-inside.entries c.commit_at.new.entries c.in-Some.slot c.loop-slot.self-inside.slots c.pop.new.self c.in-Some.ensures c.loop-slot.invariant.listed c.commit_at.ensures in
+    record { laid = λ a i. k.0 a i ∙ c.loop-slot.invariant.laid a i; listed = k.1 }
+
+pub invariant_of-self : goal.invariant_of-self
+invariant_of-self g c = nothing_left c.loop-slot.self-inside.entries c.loop-slot.self-inside.slots c.pop.new.self c.loop-slot.invariant.listed c.in_default.ensures.0 c.in_default.ensures.1
+
+pub returns-clause-kept : goal.returns-clause-kept
+returns-clause-kept g c = λ a i. all_kept (kept_lines c.loop-slot.self-inside.entries) (staged_lines c.loop-slot.self-inside.entries) (none_staged (staged_lines c.loop-slot.self-inside.entries) c.loop-slot.self-inside.slots c.in_default.ensures.0 c.loop-slot.invariant.listed) a i ∙ c.loop-slot.invariant.laid a i

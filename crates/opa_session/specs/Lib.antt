@@ -1,0 +1,5 @@
+pub mod Store
+pub mod Settle
+pub mod Readers
+pub mod Changes
+pub mod Infer

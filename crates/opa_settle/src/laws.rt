@@ -1,7 +1,0 @@
-// Lines that stay the same.
-ghost use Rattle.opa_settle.specs.Sames.{SameAreCurrent};
-
-/// The same lines are current.
-pub fn same_are_current()
-    ensures { SameAreCurrent }
-{}

@@ -1,5 +1,0 @@
-use Rattle.opa_spelled.proofs.Pointing.{uncut_line}
-use Rattle.opa_spelled.proofs.body.line_in.Goals as goal
-
-pub returns-in-None : goal.returns-in-None
-returns-in-None c = uncut_line c.args.text.now c.in-None.ensures

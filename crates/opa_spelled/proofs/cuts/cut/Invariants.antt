@@ -1,9 +1,0 @@
-use Rattle.std.proofs.Common.{ℕ, List, length}
-use Rattle.opa_spelled.proofs.Cutting.{Passed}
-use Rattle.opa_spelled.proofs.cuts.cut.Given as goal
-
-abbrev pub invariant-loop-byte : goal.invariant-loop-byte
-invariant-loop-byte l = (front : List ℕ) × Passed l.text front l.rest l.inside l.count
-
-abbrev pub decreases-loop-byte : goal.decreases-loop-byte
-decreases-loop-byte l = length l.rest

@@ -1,5 +1,0 @@
-use Rattle.opa_spelled.proofs.Feeding.{texts_are_spelled_holds}
-use Rattle.opa_spelled.proofs.laws.texts_are_spelled.Goals as goal
-
-pub returns : goal.returns
-returns c = texts_are_spelled_holds

@@ -1,5 +1,0 @@
-use Rattle.opa_spelled.proofs.Namely.{unread_list}
-use Rattle.opa_spelled.proofs.names.names_in.Goals as goal
-
-pub returns-in-Err : goal.returns-in-Err
-returns-in-Err c = unread_list c.args.text.now c.in-Err.ensures.cases.0

@@ -1,5 +1,0 @@
-use Rattle.opa_spelled.proofs.Spotted.{unread_name}
-use Rattle.opa_spelled.proofs.spots.name_in.Goals as goal
-
-pub returns-in-Err : goal.returns-in-Err
-returns-in-Err c = unread_name c.args.text.now c.in-Err.ensures.cases.0

@@ -1,5 +1,0 @@
-use Rattle.opa_spelled.proofs.Telling.{unread_shown}
-use Rattle.opa_spelled.proofs.told.shown_in.Goals as goal
-
-pub returns-in-Err : goal.returns-in-Err
-returns-in-Err c = unread_shown c.args.text.now c.in-Err.ensures.cases.0

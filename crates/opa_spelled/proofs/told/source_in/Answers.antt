@@ -1,5 +1,0 @@
-use Rattle.opa_spelled.proofs.Placed.{unread_origin}
-use Rattle.opa_spelled.proofs.told.source_in.Goals as goal
-
-pub returns-in-Err : goal.returns-in-Err
-returns-in-Err c = unread_origin c.args.text.now c.in-Err.ensures.cases.0

@@ -1,5 +1,0 @@
-use Rattle.opa_spelled.proofs.Telling.{no_blank_told}
-use Rattle.opa_spelled.proofs.told.told_at.Goals as goal
-
-pub returns-in-None : goal.returns-in-None
-returns-in-None c = no_blank_told c.args.shown.now c.args.rest.now c.requires c.in-None.ensures

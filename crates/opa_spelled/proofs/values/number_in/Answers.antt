@@ -1,5 +1,0 @@
-use Rattle.opa_spelled.proofs.Valued.{no_number}
-use Rattle.opa_spelled.proofs.values.number_in.Goals as goal
-
-pub returns-in-Err : goal.returns-in-Err
-returns-in-Err c = no_number c.args.text.now c.in-Err.field-0 c.in-Err.ensures.value

@@ -1,8 +1,0 @@
-use Rattle.std.proofs.Common.{subst}
-use Rattle.opa_spelled.specs.Reading.{IsNumber, number_shown}
-use Rattle.opa_spelled.specs.Spelling.{Reads}
-use Rattle.opa_spelled.proofs.Valued.{no_value}
-use Rattle.opa_spelled.proofs.values.number_value.Goals as goal
-
-pub returns-in-None : goal.returns-in-None
-returns-in-None c = no_value c.args.text.now c.requires.word c.requires.day c.requires.words (subst (λ o. Reads IsNumber number_shown c.args.text.now o) c.in-None.is c.in_ok-number_in.ensures)

@@ -1,5 +1,0 @@
-use Rattle.opa_told.proofs.ReportLaws.{one_report_told}
-use Rattle.opa_told.proofs.laws.one_report_told.Goals as goal
-
-pub returns : goal.returns
-returns c = one_report_told c.at_most_one.ensures

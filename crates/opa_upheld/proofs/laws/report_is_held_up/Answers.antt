@@ -1,5 +1,0 @@
-use Rattle.opa_upheld.proofs.Reporting.{report_is_held_up_holds}
-use Rattle.opa_upheld.proofs.laws.report_is_held_up.Goals as goal
-
-pub returns : goal.returns
-returns c = report_is_held_up_holds

@@ -1,5 +1,0 @@
-use Rattle.opa_upheld.proofs.Orderly.{reports_are_held_up_holds}
-use Rattle.opa_upheld.proofs.laws.reports_are_held_up.Goals as goal
-
-pub returns : goal.returns
-returns c = reports_are_held_up_holds

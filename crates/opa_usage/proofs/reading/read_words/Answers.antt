@@ -1,7 +1,0 @@
-use Rattle.std.proofs.Common.{map, string_bytes, ◌∙◌}
-use Rattle.opa_usage.proofs.AskedLaws.{asks_nothing, other_error}
-use Rattle.opa_usage.proofs.reading.read_words.Goals as goal
-
-pub returns-in-Err-clause-usage : goal.returns-in-Err-clause-usage
-returns-in-Err-clause-usage c =
-    λ is. asks_nothing (map string_bytes c.args.words.now) (c.read_positionals.ensures.usage (c.in-Err.is ∙ other_error _ _ is))

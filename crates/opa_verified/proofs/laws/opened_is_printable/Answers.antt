@@ -1,8 +1,0 @@
-use Rattle.opa_verified.proofs.OpenedPrintable.{opened_is_model_holds, opened_is_printable_holds}
-use Rattle.opa_verified.proofs.laws.opened_is_printable.Goals as goal
-
-pub returns-clause-model : goal.returns-clause-model
-returns-clause-model c = opened_is_model_holds
-
-pub returns-clause-printable : goal.returns-clause-printable
-returns-clause-printable c = opened_is_printable_holds

@@ -1,0 +1,4 @@
+pub mod Listed
+pub mod Support
+pub mod Spelling
+pub mod Verdict

@@ -1,7 +1,0 @@
-//! Sessions that are told lines of input, and what they hold as it is printed: for test crates alone.
-#![tactic(auto)]
-
-pub mod counted;
-pub mod points;
-pub mod printed;
-pub mod told;

@@ -1,7 +1,0 @@
-//! Tests alone: rules of loaded rulebases as text, and what their models say.
-#![tactic(auto)]
-
-#[cfg(test)]
-mod printed;
-#[cfg(test)]
-mod spoken;
