@@ -1,19 +1,17 @@
-//! Tests alone: lines that are read as commands and as replies, and the generated example, by tables of rows.
+//! Tests alone: what the layers from loading to a session answer to their calls, by tables of rows.
 #![tactic(auto)]
 
+#[cfg(test)]
 mod generated;
+#[cfg(test)]
 pub mod infer;
+#[cfg(test)]
 pub mod input;
+#[cfg(test)]
 pub mod language;
+#[cfg(test)]
 mod lines;
+#[cfg(test)]
 pub mod meaning;
+#[cfg(test)]
 pub mod samples;
-
-pub use infer::{};
-pub use input::{};
-pub use language::{};
-pub use meaning::{};
-pub use samples::{load, load_text};
-
-#[cfg(test)]
-#[cfg(test)]
