@@ -34,7 +34,7 @@ pub(crate) fn clean(alloc: Global, text: &str) -> Result<Option<Txt>, NoMemory>
     ensures { IfOk result (λ r. r ≡ meant.clean text.now) }
 {
     if is_clean(text) {
-        Ok(Some(Txt::from_str(alloc, text)?))
+        Ok(Some(Txt::from_str(alloc, text)?.shared()?))
     } else {
         Ok(None)
     }

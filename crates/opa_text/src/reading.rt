@@ -219,7 +219,7 @@ pub(crate) fn name_at<'t>(
     match pieces.first() {
         None => Ok(None),
         Some((kind, text, rest)) => match kind {
-            TokenKind::Text => Ok(Some((text_of_token(alloc, text)?, rest))),
+            TokenKind::Text => Ok(Some((text_of_token(alloc, text)?.shared()?, rest))),
             TokenKind::Word | TokenKind::Number | TokenKind::Date | TokenKind::Symbol => Ok(None),
         },
     }
