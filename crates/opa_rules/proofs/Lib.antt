@@ -1,1 +1,2 @@
 pub mod DescribeLaws
+mod FaultLaws

@@ -6,7 +6,9 @@ use Rattle.opa_rules.specs.declared.reading.Mode.{Mode}
 use Rattle.opa_rules.specs.declared.reading.Mode.TheVariants as mode
 
 abbrev pub mode_named : List ℕ → Option Mode
-mode_named word = if bytes_eq word (codes "describe") then Some mode.Describe else None
+mode_named word =
+    if bytes_eq word (codes "describe") then Some mode.Describe else
+    if bytes_eq word (codes "faults") then Some mode.Faults else None
 
 abbrev pub begins_with_dash : List ℕ → Bool
 begins_with_dash [] = false

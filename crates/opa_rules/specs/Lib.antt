@@ -1,3 +1,4 @@
 pub mod Asked
 pub mod Promises
 pub mod Describing
+pub mod Faults

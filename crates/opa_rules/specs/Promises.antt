@@ -10,6 +10,7 @@ use Rattle.opa_talk.specs.WholeInput.Telling.{IsTold}
 use Rattle.opa_tree.specs.declared.rulebase.Rulebase.{Rulebase}
 use Rattle.opa_rulebase.specs.Loading.{Opens}
 use Rattle.opa_rules.specs.Describing.Description.{described}
+use Rattle.opa_rules.specs.Faults.Finding.{Finds}
 use Rattle.opa_rules.specs.declared.reading.Mode.{Mode}
 use Rattle.opa_rules.specs.declared.reading.Mode.TheVariants as mode
 use Rattle.opa_rules.specs.Asked.{asked_of, usage}
@@ -57,6 +58,37 @@ module _ (name : List ℕ) (old new : Outside) where
   Describes status.NoMemory = Appends old.written new.written []
   Describes status.InputLimit = ⊥
 
+  -- what is found in the files under the name is of this sort
+  abbrev pub Finding : (Option (List ℕ) → Type 0) → Type 0
+  Finding Is = IfSome old.files (λ files. (found : Option (List ℕ)) × Finds files name found × Is found)
+
+  -- nothing was found, and nothing was written
+  abbrev pub WroteNothing : Option (List ℕ) → Type 0
+  WroteNothing None = Appends old.written new.written []
+  WroteNothing (Some text) = ⊥
+
+  -- errors were found, and their text was written
+  abbrev pub WroteErrors : Option (List ℕ) → Type 0
+  WroteErrors None = ⊥
+  WroteErrors (Some text) = Appends old.written new.written text
+
+  -- errors were found, and a front of their text was written
+  abbrev pub WroteFront : Option (List ℕ) → Type 0
+  WroteFront None = ⊥
+  WroteFront (Some text) = AppendsFront old.written new.written text
+
+  -- How a list of errors ends: with Done the rulebase is accepted, and nothing was written; with Refused it has errors, which were
+  -- written. With WriteFault the sink failed, and a front of that was written. Else nothing was written: taking a file failed, or
+  -- there was no memory.
+  abbrev pub Faults : Status → Type 0
+  Faults status.Done = Finding WroteNothing
+  Faults status.Refused = Finding WroteErrors
+  Faults status.Usage = ⊥
+  Faults status.ReadFault = Rose old.takes new.takes × Appends old.written new.written []
+  Faults status.WriteFault = Rose old.writes new.writes × Finding WroteFront
+  Faults status.NoMemory = Appends old.written new.written []
+  Faults status.InputLimit = ⊥
+
 abbrev pub words_of : List (String Global) → List (List ℕ)
 words_of words = map (λ w. string_bytes w) words
 
@@ -69,5 +101,7 @@ pub record Promises (words : List (String Global)) (old new : Outside) (result :
   pub usage : asked_of (words_of words) ≡ None → IsTold status.Usage usage old.written new.written old.writes new.writes result
   -- The mode `describe` describes what the files open under the name.
   pub describe : (name : List ℕ) → Asks words mode.Describe name → Describes name old new result
+  -- The mode `faults` lists the errors of the rulebase of the name.
+  pub faults : (name : List ℕ) → Asks words mode.Faults name → Faults name old new result
   -- The files stay as they are.
   pub files : new.files ≡ old.files

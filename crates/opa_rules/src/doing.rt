@@ -2,6 +2,7 @@
 ghost use Rattle.opa_rules.specs.Promises.{outside, Promises};
 
 use crate::describe::describe;
+use crate::faults::faults;
 use crate::reading::{Mode, read_words};
 use opa_io::{Shelf, Sink, Status};
 use opa_talk::tell;
@@ -22,6 +23,7 @@ pub fn rules<F: Shelf, K: Sink>(
         None => tell(Status::Usage, out, b"usage: rules MODE NAME\n"),
         Some(asked) => match asked.mode {
             Mode::Describe => describe(alloc, asked.name, shelf, out),
+            Mode::Faults => faults(alloc, asked.name, shelf, out),
         },
     }
 }

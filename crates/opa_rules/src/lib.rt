@@ -4,6 +4,7 @@
 mod describe;
 pub mod describing;
 mod doing;
+mod faults;
 mod reading;
 
 pub use describing::{description, one_description};

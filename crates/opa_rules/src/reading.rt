@@ -7,6 +7,7 @@ ghost use Rattle.opa_rules.specs.Asked as meant;
 #[derive(Clone, Copy, Debug, PartialEq, Eq)]
 pub enum Mode {
     Describe,
+    Faults,
 }
 
 /// A mode, and the name of its rulebase.
@@ -22,6 +23,7 @@ fn mode_named(word: &str) -> Option<Mode>
 {
     match word {
         "describe" => Some(Mode::Describe),
+        "faults" => Some(Mode::Faults),
         _ => None,
     }
 }

@@ -1,0 +1,11 @@
+// Every error of a rulebase that can be found: the first one as in loading, and then, over and over, the first one of what is
+// left when the block with the last one is left out.
+
+mod finding;
+mod leaving;
+mod listing;
+mod printed;
+mod telling;
+mod words;
+
+pub(crate) use telling::faults;

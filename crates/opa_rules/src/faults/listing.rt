@@ -1,0 +1,82 @@
+// The errors of blocks, one after another.
+ghost use Rattle.std.specs.Prelude.{◌≡◌, ◌++◌, ℕ, All, OnOk, List as Seq, find};
+ghost use Rattle.std.specs.Option.{option_copied};
+ghost use Rattle.std.specs.String.{string_bytes};
+ghost use Rattle.opa_parse.specs.Fronts.{AreShort};
+ghost use Rattle.opa_rulebase.specs.Loading.{table_files};
+ghost use Rattle.opa_rules.specs.Faults.Blocks.{begins_at as begins};
+ghost use Rattle.opa_rules.specs.Faults.Listing.{AreLater, Lists, goes_on as goes_on_from};
+ghost use Rattle.opa_rules.specs.Faults.Printed.{error_in};
+
+use crate::faults::finding::first_fault;
+use crate::faults::leaving::{begins_at, declares, without};
+use crate::faults::printed::push_error_in;
+use opa_io::{List, NoMemory};
+use opa_parse::TableFile;
+use opa_rulebase::{Refusal, SourceFile, Unaccepted};
+use opa_words::Block;
+use std::alloc::Global;
+
+fn block_at(blocks: &[Block], file: u32, line: u32) -> Option<&Block>
+    ensures { option_copied result ≡ find (begins file line) blocks.now }
+{
+    blocks.iter().find(|block| begins_at(block, file, line))
+}
+
+/// Whether the block in which an error stands can be left out.
+fn goes_on(blocks: &[Block], wrong: &Refusal) -> bool
+    ensures { result ≡ goes_on_from blocks.now wrong.now }
+{
+    match block_at(blocks, wrong.fault.file, wrong.fault.line) {
+        None => false,
+        Some(block) => !declares(block),
+    }
+}
+
+/// Puts the errors of blocks behind a text, at most so many.
+fn push_errors(
+    alloc: Global,
+    out: &mut String,
+    files: &[SourceFile],
+    tables: &[TableFile],
+    blocks: List<Block>,
+    most: usize,
+) -> Result<(), NoMemory>
+    requires short { All (λ b. AreShort b.lines) blocks }
+    requires tables { tables.now ≡ table_files 0 files.now }
+    ensures { OnOk result ((more : Seq ℕ) × (string_bytes out.new ≡ string_bytes out.old ++ more) × Lists files.now most blocks more) }
+{
+    if most == 0 {
+        return Ok(());
+    }
+    match first_fault(alloc, blocks.as_slice(), tables) {
+        Ok(()) => Ok(()),
+        Err(Unaccepted::NoMemory) => Err(NoMemory),
+        Err(Unaccepted::Refused(wrong)) => {
+            push_from(alloc, out, files, tables, blocks, most - 1, &wrong)
+        }
+    }
+}
+
+/// Puts an error of blocks behind a text, and then at most so many of what is left without its block.
+pub(crate) fn push_from(
+    alloc: Global,
+    out: &mut String,
+    files: &[SourceFile],
+    tables: &[TableFile],
+    blocks: List<Block>,
+    most: usize,
+    wrong: &Refusal,
+) -> Result<(), NoMemory>
+    requires short { All (λ b. AreShort b.lines) blocks }
+    requires tables { tables.now ≡ table_files 0 files.now }
+    ensures { OnOk result ((more : Seq ℕ) × (string_bytes out.new ≡ (string_bytes out.old ++ error_in files.now blocks wrong.now) ++ more) × AreLater files.now most blocks wrong.now more) }
+{
+    push_error_in(alloc, out, files, blocks.as_slice(), wrong)?;
+    if goes_on(blocks.as_slice(), wrong) {
+        let left = without(blocks, wrong.fault.file, wrong.fault.line);
+        push_errors(alloc, out, files, tables, left, most)
+    } else {
+        Ok(())
+    }
+}
