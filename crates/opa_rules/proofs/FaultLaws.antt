@@ -1,6 +1,6 @@
 -- What is found of blocks, phase by phase and one after another.
 use Rattle.std.proofs.lemmas.List.Elements.{All-nil, All-append, All-head, All-tail, All-filter}
-use Rattle.std.proofs.Common.{◌≡◌, ℕ, ◌+◌, ◌++◌, append-nil, Bool, true, false, List, [], ◌∷◌, All, not, refl, sym, ap, ◌∙◌, subst}
+use Rattle.std.proofs.Common.{◌≡◌, ℕ, ◌+◌, ◌++◌, append-nil, Bool, true, false, List, [], ◌∷◌, All, not, Unit, Result, Ok, Err, IfOk, IfErr, refl, sym, ap, ◌∙◌, subst}
 use Rattle.opa_model.specs.declared.lists.Lists.{Lists as Model}
 use Rattle.opa_words.specs.declared.layout.block.Block.{Block}
 use Rattle.opa_words.specs.Layout.Blocks.{lines_of}
@@ -9,6 +9,7 @@ use Rattle.opa_tree.specs.declared.faults.RbError.TheVariants as errors
 use Rattle.opa_tree.specs.declared.faults.RbFault.{RbFault}
 use Rattle.opa_tree.specs.declared.rules.Inferred.{Inferred}
 use Rattle.opa_tree.specs.declared.rules.Rule.{Rule}
+use Rattle.opa_tree.specs.Accepted.{AreAccepted}
 use Rattle.opa_decl.specs.Declarations.{Declares}
 use Rattle.opa_parse.specs.Fronts.{AreShort}
 use Rattle.opa_parse.specs.Memberships.{AreInferences}
@@ -21,7 +22,7 @@ use Rattle.opa_rulebase.specs.declared.fault.Unaccepted.TheVariants as unaccepte
 use Rattle.opa_rulebase.specs.declared.files.source.SourceFile.{SourceFile}
 use Rattle.opa_rulebase.specs.Loading.{IsPlain, IsCircleRefusal, table_files}
 use Rattle.opa_rules.specs.Faults.Blocks.{begins_at, without}
-use Rattle.opa_rules.specs.Faults.Listing.{IsFirst, HasFirst, goes_on, Lists, AreLater}
+use Rattle.opa_rules.specs.Faults.Listing.{IsFirst, HasFirst, goes_on, AreListed, AreLater, AreFree}
 use Rattle.opa_rules.specs.Faults.Printed.{error_in}
 
 -- the lines of blocks of short lines are short
@@ -37,18 +38,22 @@ module _ (tables : List TableFile) (blocks : List Block) where
   plain_first (errors.Refused f) u p h = subst (HasFirst tables blocks) (sym p) (h f refl)
   plain_first errors.NoMemory u p h = subst (HasFirst tables blocks) (sym p) tt
 
-  pub circle_first : (m : Model) (inferences : List Inferred) (rules : List Rule) → Declares blocks m → AreInferences m blocks inferences → AreAllRules m inferences blocks tables rules → (u : Unaccepted) → IsCircleRefusal m rules u → HasFirst tables blocks u
-  circle_first m inferences rules d i r (unaccepted.Refused w) h = IsFirst.at_check m inferences rules d i r h.0 h.1
-  circle_first m inferences rules d i r unaccepted.NoMemory h = tt
+  module _ (m : Model) (inferences : List Inferred) (rules : List Rule) (d : Declares blocks m) (i : AreInferences m blocks inferences) (r : AreAllRules m inferences blocks tables rules) where
+    pub free_by : AreAccepted m rules → AreFree tables blocks
+    free_by a = record { model = m; inferences = inferences; rules = rules; declares_it = d; infers = i; are_rules = r; accepted = a }
+
+    pub circle_first : (u : Unaccepted) → IsCircleRefusal m rules u → HasFirst tables blocks u
+    circle_first (unaccepted.Refused w) h = IsFirst.at_check m inferences rules d i r h.0 h.1
+    circle_first unaccepted.NoMemory h = tt
 
 module _ (files : List SourceFile) (most : ℕ) (blocks : List Block) (w : Refusal) (more : List ℕ) (first : IsFirst (table_files 0 files) blocks w) (later : AreLater files most blocks w more) where
   nothing_behind : more ≡ [] → error_in files blocks w ≡ error_in files blocks w ++ more
   nothing_behind e = sym (append-nil (error_in files blocks w)) ∙ ap (λ t. error_in files blocks w ++ t) (sym e)
 
-  by_going : (b : Bool) → goes_on blocks w ≡ b → Lists files (most + 1) blocks (error_in files blocks w ++ more)
-  by_going true e = Lists.left w first e (later.left e)
-  by_going false e = subst (Lists files (most + 1) blocks) (nothing_behind (later.last e)) (Lists.last w first e)
+  by_going : (b : Bool) → goes_on blocks w ≡ b → AreListed files (most + 1) blocks (error_in files blocks w ++ more)
+  by_going true e = AreListed.left most blocks w more first e (later.left e)
+  by_going false e = subst (AreListed files (most + 1) blocks) (nothing_behind (later.last e)) (AreListed.last most blocks w first e)
 
   -- an error, and what is listed behind it
-  pub first_then : Lists files (most + 1) blocks (error_in files blocks w ++ more)
+  pub first_then : AreListed files (most + 1) blocks (error_in files blocks w ++ more)
   first_then = by_going (goes_on blocks w) refl

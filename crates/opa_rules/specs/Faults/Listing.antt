@@ -21,30 +21,29 @@ use Rattle.opa_rulebase.specs.Loading.{phrases_of, table_files, AreBlocks, IsRef
 use Rattle.opa_rules.specs.Faults.Blocks.{begins_at, declares, without}
 use Rattle.opa_rules.specs.Faults.Printed.{error_in}
 
-module _ (tables : List TableFile) where
-  -- the blocks have no error
-  pub record AreFree (blocks : List Block) : Type 0 where
-    pub model : Lists
-    pub inferences : List Inferred
-    pub rules : List Rule
-    pub declares_it : Declares blocks model
-    pub infers : AreInferences model blocks inferences
-    pub are_rules : AreAllRules model inferences blocks tables rules
-    pub accepted : AreAccepted model rules
+-- the blocks beside tables have no error
+pub record AreFree (tables : List TableFile) (blocks : List Block) : Type 0 where
+  pub model : Lists
+  pub inferences : List Inferred
+  pub rules : List Rule
+  pub declares_it : Declares blocks model
+  pub infers : AreInferences model blocks inferences
+  pub are_rules : AreAllRules model inferences blocks tables rules
+  pub accepted : AreAccepted model rules
 
-  -- the first error of the blocks, with the phrases of its circle: the first phase of loading that has one decides
-  pub data IsFirst (blocks : List Block) : Refusal → Type 0 where
-    at_declarations : {w : Refusal} → IsFirstFault blocks w.fault → w.circle ≡ [] → IsFirst blocks w
-    at_members : {w : Refusal} (m : Lists) → Declares blocks m → IsMemberFault m blocks w.fault → w.circle ≡ [] → IsFirst blocks w
-    at_rules : {w : Refusal} (m : Lists) (inferences : List Inferred) → Declares blocks m → AreInferences m blocks inferences
-        → AreAllRefused m inferences blocks tables w.fault → w.circle ≡ [] → IsFirst blocks w
-    at_check : {w : Refusal} (m : Lists) (inferences : List Inferred) (rules : List Rule) → Declares blocks m → AreInferences m blocks inferences
-        → AreAllRules m inferences blocks tables rules → IsCheckFault m rules w.fault → w.circle ≡ phrases_of m w.fault.cycle → IsFirst blocks w
+-- the first error of the blocks, with the phrases of its circle: the first phase of loading that has one decides
+pub data IsFirst (tables : List TableFile) (blocks : List Block) (w : Refusal) : Type 0 where
+  at_declarations : IsFirstFault blocks w.fault → w.circle ≡ [] → IsFirst tables blocks w
+  at_members : (m : Lists) → Declares blocks m → IsMemberFault m blocks w.fault → w.circle ≡ [] → IsFirst tables blocks w
+  at_rules : (m : Lists) (inferences : List Inferred) → Declares blocks m → AreInferences m blocks inferences → AreAllRefused m inferences blocks tables w.fault
+      → w.circle ≡ [] → IsFirst tables blocks w
+  at_check : (m : Lists) (inferences : List Inferred) (rules : List Rule) → Declares blocks m → AreInferences m blocks inferences → AreAllRules m inferences blocks tables rules
+      → IsCheckFault m rules w.fault → w.circle ≡ phrases_of m w.fault.cycle → IsFirst tables blocks w
 
-  -- the same, if memory was found for it
-  abbrev pub HasFirst : List Block → Unaccepted → Type 0
-  HasFirst blocks (unaccepted.Refused w) = IsFirst blocks w
-  HasFirst blocks unaccepted.NoMemory = Unit {0}
+-- the same, if memory was found for it
+abbrev pub HasFirst : List TableFile → List Block → Unaccepted → Type 0
+HasFirst tables blocks (unaccepted.Refused w) = IsFirst tables blocks w
+HasFirst tables blocks unaccepted.NoMemory = Unit {0}
 
 -- a block is there, and others don't speak of what it declares
 abbrev pub leaves : Option Block → Bool
@@ -55,28 +54,27 @@ leaves (Some b) = not (declares b)
 abbrev pub goes_on : List Block → Refusal → Bool
 goes_on blocks w = leaves (find (begins_at w.fault.file w.fault.line) blocks)
 
-module _ (files : List SourceFile) where
-  -- The text of at most so many errors of the blocks: the first one, and then those of what is left without its block. Behind an
-  -- error in a declaration none is looked for, since it might be one of what speaks of the declared.
-  pub data Lists : ℕ → List Block → List ℕ → Type 0 where
-    enough : {blocks : List Block} → Lists 0 blocks []
-    free : {most : ℕ} {blocks : List Block} → AreFree (table_files 0 files) blocks → Lists (most + 1) blocks []
-    last : {most : ℕ} {blocks : List Block} (w : Refusal) → IsFirst (table_files 0 files) blocks w → goes_on blocks w ≡ false
-        → Lists (most + 1) blocks (error_in files blocks w)
-    left : {most : ℕ} {blocks : List Block} {more : List ℕ} (w : Refusal) → IsFirst (table_files 0 files) blocks w → goes_on blocks w ≡ true
-        → Lists most (without w.fault.file w.fault.line blocks) more → Lists (most + 1) blocks (error_in files blocks w ++ more)
+-- The text of at most so many errors of the blocks: the first one, and then those of what is left without its block. Behind an
+-- error in a declaration none is looked for, since it might be one of what speaks of the declared.
+pub data AreListed (files : List SourceFile) : ℕ → List Block → List ℕ → Type 0 where
+  enough : (blocks : List Block) → AreListed files 0 blocks []
+  free : (most : ℕ) (blocks : List Block) → AreFree (table_files 0 files) blocks → AreListed files (most + 1) blocks []
+  last : (most : ℕ) (blocks : List Block) (w : Refusal) → IsFirst (table_files 0 files) blocks w → goes_on blocks w ≡ false
+      → AreListed files (most + 1) blocks (error_in files blocks w)
+  left : (most : ℕ) (blocks : List Block) (w : Refusal) (more : List ℕ) → IsFirst (table_files 0 files) blocks w → goes_on blocks w ≡ true
+      → AreListed files most (without w.fault.file w.fault.line blocks) more → AreListed files (most + 1) blocks (error_in files blocks w ++ more)
 
-  -- what is listed behind an error, at most so many
-  pub record AreLater (most : ℕ) (blocks : List Block) (w : Refusal) (more : List ℕ) : Type 0 where
-    pub last : goes_on blocks w ≡ false → more ≡ []
-    pub left : goes_on blocks w ≡ true → Lists most (without w.fault.file w.fault.line blocks) more
+-- what is listed behind an error, at most so many
+pub record AreLater (files : List SourceFile) (most : ℕ) (blocks : List Block) (w : Refusal) (more : List ℕ) : Type 0 where
+  pub last : goes_on blocks w ≡ false → more ≡ []
+  pub left : goes_on blocks w ≡ true → AreListed files most (without w.fault.file w.fault.line blocks) more
 
-  -- how many errors are listed at most behind the first: fewer where a file is long, since all is read anew for each
-  abbrev pub most_listed : ℕ
-  most_listed = if list_all (λ f. nat_le (length f.text) 1048576) files then 99 else 9
+-- how many errors are listed at most behind the first: fewer where a file is long, since all is read anew for each
+abbrev pub most_listed : List SourceFile → ℕ
+most_listed files = if list_all (λ f. nat_le (length f.text) 1048576) files then 99 else 9
 
-  -- The text of the errors of the files: the first one as it is found in loading, and then later ones.
-  pub data AreErrors : List ℕ → Type 0 where
-    of_layout : (w : Refusal) (fault : RbFault) → Begins fault (faults_from 0 files) → IsRefused files w.fault w.circle → AreErrors (error_in files [] w)
-    of_blocks : {blocks : List Block} {more : List ℕ} (w : Refusal) → AreBlocks files blocks → IsRefused files w.fault w.circle
-        → AreLater most_listed blocks w more → AreErrors (error_in files blocks w ++ more)
+-- The text of the errors of files: the first one as it is found in loading, and then later ones.
+pub data AreErrors (files : List SourceFile) : List ℕ → Type 0 where
+  of_layout : (w : Refusal) (fault : RbFault) → Begins fault (faults_from 0 files) → IsRefused files w.fault w.circle → AreErrors files (error_in files [] w)
+  of_blocks : (blocks : List Block) (w : Refusal) (more : List ℕ) → AreBlocks files blocks → IsRefused files w.fault w.circle
+      → AreLater files (most_listed files) blocks w more → AreErrors files (error_in files blocks w ++ more)

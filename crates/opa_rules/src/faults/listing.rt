@@ -5,7 +5,7 @@ ghost use Rattle.std.specs.String.{string_bytes};
 ghost use Rattle.opa_parse.specs.Fronts.{AreShort};
 ghost use Rattle.opa_rulebase.specs.Loading.{table_files};
 ghost use Rattle.opa_rules.specs.Faults.Blocks.{begins_at as begins};
-ghost use Rattle.opa_rules.specs.Faults.Listing.{AreLater, Lists, goes_on as goes_on_from};
+ghost use Rattle.opa_rules.specs.Faults.Listing.{AreLater, AreListed, goes_on as goes_on_from};
 ghost use Rattle.opa_rules.specs.Faults.Printed.{error_in};
 
 use crate::faults::finding::first_fault;
@@ -44,7 +44,7 @@ fn push_errors(
 ) -> Result<(), NoMemory>
     requires short { All (λ b. AreShort b.lines) blocks }
     requires tables { tables.now ≡ table_files 0 files.now }
-    ensures { OnOk result ((more : Seq ℕ) × (string_bytes out.new ≡ string_bytes out.old ++ more) × Lists files.now most blocks more) }
+    ensures { OnOk result ((more : Seq ℕ) × (string_bytes out.new ≡ string_bytes out.old ++ more) × AreListed files.now most blocks more) }
 {
     if most == 0 {
         return Ok(());
