@@ -1,9 +1,9 @@
 """What the pages say of the tree of crates, compared with crates.txt and crates/: tools/check prints what differs.
 
 - crates.txt has each crate below those that it uses.
-- docs/ARCHITECTURE.md has a row for each crate, in the order and the layers of crates.txt, with what it uses, and below it
-  one for each module that has a folder; and it says how many crates there are, and how many of them the longest chain has.
-- What a page names as a crate or as a module of one is there, and so are the files of definitions that it names.
+- docs/ARCHITECTURE.md has a row for each crate, in the order and the layers of crates.txt, with what it uses, and below
+  it one for each module that has a folder; and it says how many crates there are, and how long their longest chain is.
+- What a page names as a crate or as a module of one is there, and so are the files of definitions and proofs.
 - Each edit that docs/WRONG_BODIES.md names is there; each text that an edit takes stands once in its file.
 """
 import pathlib
@@ -14,8 +14,8 @@ import proving
 
 # Its tables are of a run over an earlier tree of crates.
 OF_BEFORE = "PERFORMANCE.md"
-# These name files of definitions, each of the crate that the text is about.
-OF_DEFINITIONS = ("ARCHITECTURE.md", "MEANING.md", "PROOFS.md")
+# These name files of definitions and of proofs, each of the crate that the text is about.
+OF_PARTS = ("ARCHITECTURE.md", "DECISIONS.md", "MEANING.md", "PROOFS.md")
 NAMED = re.compile(r"`((?:opa|tests)_\w+)((?:::\w+)*)`")
 
 
@@ -105,6 +105,10 @@ def is_there(source: pathlib.Path, module: str) -> bool:
     return any(item.search(path.read_text()) for path in source.rglob("*.rt"))
 
 
+def is_part(path: pathlib.Path) -> bool:
+    return path.is_dir() or path.with_name(path.name + ".antt").is_file()
+
+
 def names(top: pathlib.Path, crates: dict[str, list[str]]) -> Iterator[str]:
     """What the pages name as a crate, a part of one, or a file of definitions."""
     for page in [top / "README.md", *sorted((top / "docs").glob("*.md"))]:
@@ -117,9 +121,9 @@ def names(top: pathlib.Path, crates: dict[str, list[str]]) -> Iterator[str]:
                     yield f"{where}: there is no crate {crate}"
                 elif parts and not is_there(top / "crates" / crate / "src", parts.split("::")[1]):
                     yield f"{where}: there is no {crate}{parts}"
-            for path in re.findall(r"\bspecs/(\w+(?:/\w+)*)\b", line) if page.name in OF_DEFINITIONS else ():
-                if not any((top / "crates" / crate / "specs" / f"{path}.antt").is_file() for crate in crates):
-                    yield f"{where}: no crate has specs/{path}.antt"
+            for path in re.findall(r"\b(?:specs|proofs)/\w+(?:/\w+)*\b", line) if page.name in OF_PARTS else ():
+                if not any(is_part(top / "crates" / crate / path) for crate in crates):
+                    yield f"{where}: no crate has {path}"
 
 
 def wrong_bodies(top: pathlib.Path, crates: dict[str, list[str]]) -> Iterator[str]:
