@@ -65,7 +65,7 @@ fn phrases(alloc: Global, model: &Model, circle: &[AttrId]) -> Result<List<Txt>,
 }
 
 /// A fault without a circle.
-fn plain(alloc: Global, error: RbError) -> Unaccepted
+pub fn without_circle(alloc: Global, error: RbError) -> Unaccepted
     ensures { IsPlain error result }
 {
     match error {
@@ -78,7 +78,7 @@ fn plain(alloc: Global, error: RbError) -> Unaccepted
 }
 
 /// A fault of checked rules, which may be a circle.
-fn circle(alloc: Global, model: &Model, fault: RbFault) -> Result<Refusal, NoMemory>
+pub fn with_circle(alloc: Global, model: &Model, fault: RbFault) -> Result<Refusal, NoMemory>
     ensures { IfOk result (λ r. (r.fault ≡ fault) × (r.circle ≡ phrases_of model.now fault.cycle)) }
 {
     let circle = phrases(alloc, model, fault.cycle.as_slice())?;
@@ -108,7 +108,7 @@ fn accept_rules(
             Ok(Rulebase::new(model, rules, ranks, ruled, files))
         }
         Err(RbError::Refused(fault)) => {
-            let refusal = circle(alloc, &model, fault)?;
+            let refusal = with_circle(alloc, &model, fault)?;
             Err(Unaccepted::Refused(refusal))
         }
         Err(RbError::NoMemory) => Err(Unaccepted::NoMemory),
@@ -137,7 +137,7 @@ fn accept_inferred(
     let tables = tables_of(alloc, files)?;
     match read_all_rules(alloc, &model, inferences, blocks, tables.as_slice()) {
         Ok(rules) => accept_rules(alloc, model, rules, names),
-        Err(error) => Err(plain(alloc, error)),
+        Err(error) => Err(without_circle(alloc, error)),
     }
 }
 
@@ -159,7 +159,7 @@ fn accept_declared(
 {
     match read_inferences(alloc, &model, blocks) {
         Ok(inferences) => accept_inferred(alloc, model, &inferences, blocks, files),
-        Err(error) => Err(plain(alloc, error)),
+        Err(error) => Err(without_circle(alloc, error)),
     }
 }
 
@@ -180,7 +180,7 @@ fn accept_blocks(
 {
     match read_declarations(alloc, blocks) {
         Ok(model) => accept_declared(alloc, model, blocks, files),
-        Err(error) => Err(plain(alloc, error)),
+        Err(error) => Err(without_circle(alloc, error)),
     }
 }
 
@@ -195,6 +195,6 @@ pub fn accept(alloc: Global, files: &[SourceFile]) -> Result<Rulebase, Unaccepte
 {
     match lay_out(alloc, files) {
         Ok(blocks) => accept_blocks(alloc, blocks.as_slice(), files),
-        Err(error) => Err(plain(alloc, error)),
+        Err(error) => Err(without_circle(alloc, error)),
     }
 }

@@ -1,4 +1,4 @@
-//! Whole rulebases: from the files on a shelf to accepted rules, or the first fault as it is printed.
+//! Whole rulebases: their files, the check of their rules, and what is accepted, or the first fault: for all modes.
 #![tactic(auto)]
 
 mod accepting;
@@ -10,10 +10,11 @@ mod printed;
 mod ruled;
 mod tables;
 
-pub use accepting::accept;
+pub use accepting::{accept, with_circle, without_circle};
 pub use check::{accepted_are_not_refused, check, circles_are_round, ranks_exist};
 pub use fault::{LoadError, Refusal, Unaccepted};
 pub use files::{FileLine, SourceFile, TakeError, Unread, file_lines, lay_out, take_files};
 pub use loading::load_rulebase;
-pub use printed::refusal_text;
+pub use printed::{circle_lines, refusal_text};
 pub use ruled::ruled_of;
+pub use tables::tables_of;

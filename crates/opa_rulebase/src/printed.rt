@@ -11,7 +11,7 @@ use opa_words::printed_name;
 use std::alloc::Global;
 
 /// The lines of a circle.
-fn circle_lines(alloc: Global, phrases: &[Txt]) -> Result<String, NoMemory>
+pub fn circle_lines(alloc: Global, phrases: &[Txt]) -> Result<String, NoMemory>
     ensures { IfOk result (λ s. string_bytes s ≡ lines_of phrases.now) }
 {
     let mut out = String::new(alloc);

@@ -41,7 +41,7 @@ fn with_table(
 }
 
 /// The tables among files, with their places.
-pub(crate) fn tables_of(alloc: Global, files: &[SourceFile]) -> Result<List<TableFile>, NoMemory>
+pub fn tables_of(alloc: Global, files: &[SourceFile]) -> Result<List<TableFile>, NoMemory>
     requires { length files.now < 2 ^ 32 }
     ensures tables { IfOk result (λ tables. tables ≡ table_files 0 files.now) }
     ensures placed { IfOk result (All (λ (t : TableView). t.file < length files.now)) }

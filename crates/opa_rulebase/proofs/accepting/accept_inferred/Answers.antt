@@ -30,5 +30,5 @@ returns-in-Ok-clause-refused c =
 
 pub returns-in-Err-clause-refused : goal.returns-in-Err-clause-refused
 returns-in-Err-clause-refused c =
-    plain_refusal c.args.files.now c.in-Err.error c.plain.result c.plain.ensures
+    plain_refusal c.args.files.now c.in-Err.error c.without_circle.result c.without_circle.ensures
     (λ f e. IsRefused.at_rules c.args.blocks.now c.args.model c.args.inferences.now c.requires.inferred (subst (λ t. AreAllRefused c.args.model c.args.inferences.now c.args.blocks.now t f) (c.as_slice.ensures ∙ c.in_ok-tables.ensures.tables) (c.in-Err.ensures.refused f e)))
