@@ -1,4 +1,4 @@
-//! Many cases from a table of comma-separated values: for each record what the goals are where its cells alone are known.
+//! Many cases from a table, each record with what the goals are where its cells alone are known: for the desk.
 #![tactic(auto)]
 
 mod calling;

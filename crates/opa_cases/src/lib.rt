@@ -1,4 +1,4 @@
-//! A caseload: the lines of many cases in one input, each behind the name of its case, with suppositions that are taken back.
+//! A caseload, the lines of many cases in one input, kept by their names, with suppositions: for the desk.
 #![tactic(auto)]
 
 mod answering;

@@ -1,4 +1,4 @@
-//! Rules as flat code, which is run over whole lines: no tree is walked and no day is looked at by itself.
+//! Rules as flat code, and what is made of whole lines, no day by itself: for sessions, questions and reports.
 #![tactic(auto)]
 
 mod carry;

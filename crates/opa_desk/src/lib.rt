@@ -1,4 +1,4 @@
-//! Many cases at a desk: from the words of the command line, the files of a shelf and one input to what is written.
+//! Many cases at a desk, from words, the files of a shelf and one input to what is written: for the program `desk`.
 #![tactic(auto)]
 
 mod doing;

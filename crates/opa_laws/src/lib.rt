@@ -1,4 +1,4 @@
-//! Laws of whole transcripts: that nothing else could be written, and that the verifier supports what is printed.
+//! Laws alone, of whole transcripts: nothing else could be written, and the verifier supports what is printed.
 #![tactic(auto)]
 
 pub mod decided;

@@ -1,4 +1,4 @@
-//! Listeners: who is told of changes, what they keep of them, and what they say at the end.
+//! Listeners, who is told of changes, what they keep of them, and what they say at the end: for callers that watch.
 #![tactic(auto)]
 
 mod change;

@@ -1,4 +1,4 @@
-//! What a rulebase means: the value of each attribute at each day, from the answers alone.
+//! What a rulebase means, what a change reaches, the kinds of values and states of goals: for all that finds values.
 #![tactic(auto)]
 
 mod calendar_day;

@@ -1,4 +1,4 @@
-//! Rules and membership blocks: what a model's phrases stand for, and how the blocks of rule files are read.
+//! Rules and membership blocks, and tables of comma-separated values, from blocks and records to trees: for loading.
 #![tactic(auto)]
 
 mod block;

@@ -1,4 +1,4 @@
-//! What a line of the input prints, and what is held after it, in a run and in an interview.
+//! What a line of the input prints, what is reported of a case, and what is held after it: for runs and interviews.
 #![tactic(auto)]
 
 mod carrying;

@@ -1,4 +1,4 @@
-//! Decision reports: the points and lists that a value rests on, through all rules.
+//! Decision reports: the points and lists that a value rests on, with their days, and their text: for who explains.
 #![tactic(auto)]
 
 mod choices;

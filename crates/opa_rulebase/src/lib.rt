@@ -1,4 +1,4 @@
-//! Whole rulebases: from the files on a shelf to accepted rules, or the first fault as it is printed.
+//! Whole rulebases: their files, the check of their rules, and what is accepted, or the first fault: for all modes.
 #![tactic(auto)]
 
 mod accepting;

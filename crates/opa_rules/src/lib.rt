@@ -1,4 +1,4 @@
-//! For who writes rules: from the words of the command line and the files of a shelf to what is written.
+//! For who writes rules: what a rulebase declares, as JSON, and its errors in words: for the program `rules`.
 #![tactic(auto)]
 
 mod describe;

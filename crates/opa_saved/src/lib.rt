@@ -1,4 +1,4 @@
-//! Cases as they are saved in files.
+//! Cases as they are saved in files, and as such files are loaded: for the commands `save` and `load`.
 #![tactic(auto)]
 
 mod answer_refusals;

@@ -1,4 +1,4 @@
-//! Commands and replies as they are read from a line, and the generator of example runs.
+//! Commands and replies as they are read from a line, and the generator of example runs: for all that answers lines.
 #![tactic(auto)]
 
 mod changes;

@@ -1,4 +1,4 @@
-//! A case over a rulebase with the line of each conclusion, changed by what each change reaches.
+//! A case over a rulebase with the line of each conclusion, changed by what each change reaches: for all programs.
 #![tactic(auto)]
 
 pub mod changes;

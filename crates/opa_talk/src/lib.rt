@@ -1,4 +1,4 @@
-//! A talk: lines are read from a source and answered, beside a shelf of files and listeners, and what each prints is written to a sink.
+//! A talk, in which lines are read, answered and written, and whole inputs: for every program that reads or writes.
 #![tactic(auto)]
 
 mod feed;

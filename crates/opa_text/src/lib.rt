@@ -1,4 +1,4 @@
-//! The texts of values, lines, points, names and questions, and their readers.
+//! The texts of values, lines, points, names and questions, their readers, and screens: for what is read or printed.
 #![tactic(auto)]
 
 mod changes;

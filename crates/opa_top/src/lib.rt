@@ -1,4 +1,4 @@
-//! The top call: from the words of the command line, the files of a shelf and one input to the transcript.
+//! The top call, from the words of the command line, files and one input to the transcript: for the program `opa`.
 #![tactic(auto)]
 
 mod asking;

@@ -1,4 +1,4 @@
-//! Whether the text of a report holds up its values: what is spelled, what is listed, and the verdict.
+//! Whether a report's text holds up its value: what it spells, what it lists, the verdict: for who has no case.
 #![tactic(auto)]
 
 pub mod listed;

@@ -1,4 +1,4 @@
-//! How a rule is written as text that reads back as the same rule.
+//! How a rule is written as text that reads back as the same rule: for laws of what can be printed, and tests.
 #![tactic(auto)]
 
 mod joint;

@@ -1,4 +1,4 @@
-//! Tests alone: what the layers from loading to a session answer to their calls, by tables of rows.
+//! Tests alone, by tables of rows: loading, commands, meaning and sessions, and the rule files that these take.
 #![tactic(auto)]
 
 #[cfg(test)]
