@@ -1,7 +1,7 @@
+pub mod Backwards
 pub mod CodeLaws
 pub mod Compiled
 pub mod Concluding
-pub mod Gathering
 pub mod Inverting
 pub mod Listing
 pub mod Placed

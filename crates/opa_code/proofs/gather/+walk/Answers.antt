@@ -6,8 +6,8 @@ use Rattle.opa_case.specs.Shapes.{shape_of}
 use Rattle.opa_code.specs.Codes.{code, row_code, leaving, chosen_rows}
 use Rattle.opa_code.specs.declared.node.Decider.TheVariants.{AtFalse, AtTrue}
 use Rattle.opa_code.specs.declared.node.Node.TheVariants as node
-use Rattle.opa_code.proofs.CodeLaws.{code-All, code-Any, code-Not, code-Op, code-Certain, code-Known, code-Over, code-Window, code-Rolling, code-Table}
-use Rattle.opa_code.proofs.Gathering.{pushed, one_behind, all_dropped, all_more, leaving_more, rows_more}
+use Rattle.opa_code.proofs.CodeLaws.{code-Const, code-Attr, code-All, code-Any, code-Not, code-Op, code-Certain, code-Known, code-Over, code-Window, code-Rolling, code-Table}
+use Rattle.opa_code.proofs.Backwards.{pushed, one_behind, all_dropped, all_more, leaving_more, rows_more}
 use Rattle.opa_code.proofs.gather.+walk.Goals as goal
 
 pub gather-returns-in_ok-push-in-Not : goal.gather-returns-in_ok-push-in-Not
@@ -87,10 +87,18 @@ gather-returns-in_ok-gather-in-Table t c =
     ∙ ap (λ ys. ys ++ reverse old) (sym (ap (code s) c.in-Table.is ∙ code-Table s rows c.in-Table.last))) c.gather_rows.ensures
 
 pub gather-returns-in_ok-copy-in-Const : goal.gather-returns-in_ok-copy-in-Const
-gather-returns-in_ok-copy-in-Const t c = ?
+gather-returns-in_ok-copy-in-Const t c =
+    let s = shape_of c.args.model.now in let old = c.args.nodes.now in
+    on_ok_weaker c.push.result (λ e. pushed old c.push.new.self (node.Const c.in_ok-copy-in-Const.field-0) e
+    ∙ ap (λ v. node.Const v ∷ reverse old) c.in_ok-copy-in-Const.ensures
+    ∙ ap (λ ys. ys ++ reverse old) (sym (ap (code s) c.in-Const.is ∙ code-Const s c.in-Const.value))) c.push.ensures.ok
 
 pub gather-returns-in-Attr : goal.gather-returns-in-Attr
-gather-returns-in-Attr t c = ?
+gather-returns-in-Attr t c =
+    let s = shape_of c.args.model.now in let old = c.args.nodes.now in let a = c.in-Attr.attr in
+    on_ok_weaker c.push-in-Attr.result (λ e. pushed old c.push-in-Attr.new.self (node.Attr a c.owner_of.result) e
+    ∙ ap (λ o. node.Attr a o ∷ reverse old) c.owner_of.ensures
+    ∙ ap (λ ys. ys ++ reverse old) (sym (ap (code s) c.in-Attr.is ∙ code-Attr s a))) c.push-in-Attr.ensures.ok
 
 pub gather_all-loop-left-init : goal.gather_all-loop-left-init
 gather_all-loop-left-init t c = (ap (λ x. flat_map (code (shape_of c.args.model.now)) x ++ reverse c.args.nodes.now) (sym (all_dropped c.args.trees.now)), omega arith)
