@@ -122,7 +122,8 @@ fn gather_leaving(
     behind: usize,
     trees: &[Expr],
 ) -> Result<(), NoMemory>
-    ensures { OnOk result ((node : ANode) (below : Seq ANode) → length below ≡ behind → reverse nodes.old ≡ node ∷ below → reverse nodes.new ≡ leaving how 0 (map (code (shape_of model.now)) trees.now) (node ∷ []) ++ below) }
+    ensures { OnOk result ((node : ANode) (below : Seq ANode) → length below ≡ behind → reverse nodes.old ≡ node ∷ below
+        → reverse nodes.new ≡ leaving how 0 (map (code (shape_of model.now)) trees.now) (node ∷ []) ++ below) }
 {
     let mut left = trees.len();
     while left > 0 {
@@ -143,7 +144,8 @@ fn gather_rows(
     behind: usize,
     rows: &[Row],
 ) -> Result<(), NoMemory>
-    ensures { OnOk result ((last below : Seq ANode) → length below ≡ behind → reverse nodes.old ≡ last ++ (replicate (length rows.now) nodes_of.Choose ++ below)
+    ensures { OnOk result ((last below : Seq ANode) → length below ≡ behind
+        → reverse nodes.old ≡ last ++ (replicate (length rows.now) nodes_of.Choose ++ below)
         → reverse nodes.new ≡ chosen_rows (map (row_code (shape_of model.now)) rows.now) last ++ below) }
 {
     let mut left = rows.len();
@@ -164,7 +166,8 @@ fn gather_row(
     needless: usize,
     row: &Row,
 ) -> Result<(), NoMemory>
-    ensures { OnOk result (reverse nodes.new ≡ row_code (shape_of model.now) row.now ++ (nodes_of.Leave deciders.Chosen 1 needless ∷ reverse nodes.old)) }
+    ensures { OnOk result (reverse nodes.new ≡ row_code (shape_of model.now) row.now
+        ++ (nodes_of.Leave deciders.Chosen 1 needless ∷ reverse nodes.old)) }
 {
     let behind = nodes.len();
     nodes.push(Node::Leave(Decider::Chosen, 1, needless))?;

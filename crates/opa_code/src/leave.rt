@@ -26,7 +26,8 @@ pub(crate) fn go_on<'a, K: Look>(
     after: &'a [Node],
     enclosing: &[InstanceId],
 ) -> Result<&'a [Node], NoMemory>
-    ensures kept { over_at node.now ≡ None → IfOk result (λ rest. Keeps (K.looks look.now) enclosing.now stack.old.items (node.now ∷ after.now) stack.new.items rest.now) }
+    ensures kept { over_at node.now ≡ None → IfOk result (λ rest.
+        Keeps (K.looks look.now) enclosing.now stack.old.items (node.now ∷ after.now) stack.new.items rest.now) }
     ensures fewer { IfOk result (λ rest. length rest.now ≤ length after.now) }
 {
     match leave_of(node) {
@@ -44,7 +45,8 @@ fn go_past<'a, K: Look>(
     after: &'a [Node],
     enclosing: &[InstanceId],
 ) -> Result<&'a [Node], NoMemory>
-    ensures kept { over_at node.now ≡ None → leave_at node.now ≡ None → IfOk result (λ rest. Keeps (K.looks look.now) enclosing.now stack.old.items (node.now ∷ after.now) stack.new.items rest.now) }
+    ensures kept { over_at node.now ≡ None → leave_at node.now ≡ None → IfOk result (λ rest.
+        Keeps (K.looks look.now) enclosing.now stack.old.items (node.now ∷ after.now) stack.new.items rest.now) }
     ensures fewer { IfOk result (λ rest. length rest.now ≤ length after.now) }
 {
     match pass_of(node) {
@@ -64,7 +66,8 @@ fn leave<'a>(
     count: usize,
     after: &'a [Node],
 ) -> Result<&'a [Node], NoMemory>
-    ensures kept { IfOk result (λ rest. (l : Looked) (enclosing : Seq Instance) → Keeps l enclosing stack.old.items (nodes_of.Leave how dropped count ∷ after.now) stack.new.items rest.now) }
+    ensures kept { IfOk result (λ rest. (l : Looked) (enclosing : Seq Instance)
+        → Keeps l enclosing stack.old.items (nodes_of.Leave how dropped count ∷ after.now) stack.new.items rest.now) }
     ensures fewer { IfOk result (λ rest. length rest.now ≤ length after.now) }
 {
     match take_newest(stack) {
@@ -103,7 +106,8 @@ fn put_back(
 
 /// Takes the newest line away.
 fn take_newest(stack: &mut Vec<Line<Value>>) -> Option<Line<Value>>
-    ensures { MatchOption result ((stack.old.items ≡ []) × (stack.new.items ≡ [])) (λ x. stack.old.items ≡ stack.new.items ++ x ∷ []) }
+    ensures { MatchOption result ((stack.old.items ≡ []) × (stack.new.items ≡ []))
+        (λ x. stack.old.items ≡ stack.new.items ++ x ∷ []) }
 {
     stack.pop()
 }
@@ -115,7 +119,8 @@ fn pass<'a>(
     count: usize,
     after: &'a [Node],
 ) -> Result<&'a [Node], NoMemory>
-    ensures kept { IfOk result (λ rest. (l : Looked) (enclosing : Seq Instance) → Keeps l enclosing stack.old.items (nodes_of.Pass count ∷ after.now) stack.new.items rest.now) }
+    ensures kept { IfOk result (λ rest. (l : Looked) (enclosing : Seq Instance)
+        → Keeps l enclosing stack.old.items (nodes_of.Pass count ∷ after.now) stack.new.items rest.now) }
     ensures fewer { IfOk result (λ rest. length rest.now ≤ length after.now) }
 {
     if is_refuted(stack) {

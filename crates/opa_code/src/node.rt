@@ -13,9 +13,10 @@ pub(crate) enum Decider {
 }
 
 /// A node of flat code. It takes so many operands as it says, the results of nodes before it that no other node took.
-/// Attributes and relations stand with their entities. An `Over` says how many nodes its operand has, which stand behind
-/// it; they are run for each listed instance. A `Leave` that is decided takes away so many results before the newest one
-/// and passes over so many nodes; a `Pass` behind a false condition puts an uncertain value and passes over so many.
+/// Attributes and relations stand with their entities. An `Over` says how many nodes its operand has, which stand
+/// behind it; they are run for each listed instance. A `Leave` that is decided takes away so many results before the
+/// newest one and passes over so many nodes; a `Pass` behind a false condition puts an uncertain value and passes over
+/// so many.
 #[derive(Debug, Drop)]
 pub(crate) enum Node {
     Const(Value),

@@ -5,7 +5,8 @@ ghost use Rattle.opa_line.specs.Lines.{StandsFor};
 ghost use Rattle.opa_mean.specs.Meaning as meant;
 ghost use Rattle.opa_code.specs.OverLines.Additions.{HasRoom};
 ghost use Rattle.opa_code.specs.OverLines.Lines.{Stand, meaning_of, values_at};
-ghost use Rattle.opa_code.specs.Steps.{IsFirst, IsGathered, IsItem, IsListed, IsOver, Keeps, Leaves, attribute_at, attribute_in, is_count, over_at};
+ghost use Rattle.opa_code.specs.Steps.{IsFirst, IsGathered, IsItem, IsListed, IsOver, Keeps, Leaves};
+ghost use Rattle.opa_code.specs.Steps.{attribute_at, attribute_in, is_count, over_at};
 
 use crate::carry::{add, behind};
 use crate::leave::go_on;
@@ -49,7 +50,8 @@ fn step<'a, K: Look>(
     after: &'a [Node],
     enclosing: &[InstanceId],
 ) -> Result<&'a [Node], NoMemory>
-    ensures kept { IfOk result (λ rest. Keeps (K.looks look.now) enclosing.now stack.old.items (node.now ∷ after.now) stack.new.items rest.now) }
+    ensures kept { IfOk result (λ rest. Keeps (K.looks look.now) enclosing.now stack.old.items
+        (node.now ∷ after.now) stack.new.items rest.now) }
     ensures fewer { IfOk result (λ rest. length rest.now ≤ length after.now) }
 {
     match over_of(node) {
