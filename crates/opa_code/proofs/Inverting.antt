@@ -1,5 +1,5 @@
 -- What a run of nodes begins with.
-use Rattle.std.proofs.Common.{◌≡◌, ℕ, List, [], ◌∷◌, ◌++◌, None, Some, length, take, drop, refl, sym, ◌∙◌, ap, subst}
+use Rattle.std.proofs.Common.{◌≡◌, ℕ, List, [], ◌∷◌, ◌++◌, None, length, take, drop, refl, sym, ◌∙◌, ap, subst}
 use Rattle.opa_model.specs.declared.ids.RelId.{RelId}
 use Rattle.opa_tree.specs.declared.kinds.Quant.{Quant}
 use Rattle.opa_mean.specs.Looks.{Look}

@@ -1,16 +1,16 @@
 -- What is kept from one node to the next.
-use Rattle.std.proofs.Common.{◌≡◌, ℕ, ◌+◌, ◌-◌, ◌<◌, Bool, true, false, cond, List, [], ◌∷◌, ◌++◌, None, Some, length, take, drop, refl, sym, ◌∙◌, ap, subst, arith}
+use Rattle.std.proofs.Common.{◌≡◌, ℕ, ◌-◌, Bool, true, false, cond, List, [], ◌∷◌, ◌++◌, None, Some, length, take, drop, refl, sym, ◌∙◌, ap, subst, arith}
 use Rattle.std.proofs.lemmas.List.{length-append}
 use Rattle.std.proofs.Math.Seq.{take-append_seam, drop-append_seam}
 use Rattle.opa_date.specs.declared.TheConstants.{DAYS}
 use Rattle.opa_value.specs.declared.value.Value.{Value}
-use Rattle.opa_value.specs.declared.value.Value.TheVariants.{Uncertain, Bool as Truth}
+use Rattle.opa_value.specs.declared.value.Value.TheVariants.{Uncertain}
 use Rattle.opa_line.specs.Lines.{StandsFor}
 use Rattle.opa_model.specs.declared.ids.RelId.{RelId}
 use Rattle.opa_tree.specs.declared.kinds.Quant.{Quant}
 use Rattle.opa_cells.specs.declared.instance.InstanceId.{InstanceId}
 use Rattle.opa_mean.specs.Looks.{Look}
-use Rattle.opa_mean.specs.Meaning.{Meaning, each}
+use Rattle.opa_mean.specs.Meaning.{Meaning}
 use Rattle.opa_code.specs.OverLines.Lines.{Stand, values_at}
 use Rattle.opa_code.specs.Running.{Run, IsDecided, IsStep, put, over_meaning}
 use Rattle.opa_code.specs.Steps.{AreDecided, IsOver, IsPutBack, IsRefuted, Keeps, Leaves, leave_at, over_at, pass_at}
