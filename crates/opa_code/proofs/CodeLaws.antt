@@ -1,7 +1,6 @@
 -- The nodes of each sort of tree.
 use Rattle.std.proofs.Common.{◌≡◌, ℕ, Bool, List, [], ◌∷◌, ◌++◌, length, map, suc, refl, ap, ◌∙◌}
 use Rattle.std.specs.Prelude.{flat_map}
-use Rattle.std.specs.Prelude.{replicate}
 use Rattle.opa_value.specs.declared.value.Value.{Value}
 use Rattle.opa_model.specs.declared.ids.AttrId.{AttrId}
 use Rattle.opa_model.specs.declared.ids.RelId.{RelId}
@@ -18,7 +17,9 @@ use Rattle.opa_tree.specs.declared.expr.Expr.TheFolds.{fold-Row, fold-roll-Expr,
 use Rattle.opa_tree.proofs.Folds.{fold-Const, fold-Attr, fold-All, fold-Any, fold-Not, fold-Op, fold-Certain, fold-Known, fold-Over, fold-Window, fold-Rolling, fold-Table}
 use Rattle.opa_tree.proofs.MentionLaws.{flat_map-map}
 use Rattle.opa_mean.specs.Places.{owner_of}
-use Rattle.opa_code.specs.Codes.{code, code_step, code_row, row_code, joined, over_nodes}
+use Rattle.opa_code.specs.Codes.{code, code_step, code_row, row_code, joined, leaving, chosen_rows}
+use Rattle.opa_code.specs.declared.node.Decider.{Decider}
+use Rattle.opa_code.specs.declared.node.Decider.TheVariants.{AtFalse, AtTrue}
 use Rattle.opa_code.specs.declared.node.Node.{Node}
 use Rattle.opa_code.specs.declared.node.Node.TheVariants as node
 
@@ -41,9 +42,13 @@ module _ (s : Shape) where
   joined_is : (es : List Expr) → joined (map (code s) es) ≡ flat_map (code s) es
   joined_is es = flat_map-map (code s) (λ x. x) es
 
-  joined_rows : (rows : List Row) → joined (map row_folded rows) ≡ flat_map (row_code s) rows
-  joined_rows [] = refl
-  joined_rows (r ∷ rows) = ap (λ xs. xs ++ joined (map row_folded rows)) (row_folded-is r) ∙ ap (λ ys. row_code s r ++ ys) (joined_rows rows)
+  pub rows_folded : (rows : List Row) → map row_folded rows ≡ map (row_code s) rows
+  rows_folded [] = refl
+  rows_folded (r ∷ rows) = ap (λ x. x ∷ map row_folded rows) (row_folded-is r) ∙ ap (λ ys. row_code s r ∷ ys) (rows_folded rows)
+
+  -- the node that takes operands says how many they are
+  taking : (how : Decider) (f : ℕ → Node) (es : List Expr) → leaving how 0 (map (code s) es) (f (length (map (code s) es)) ∷ []) ≡ leaving how 0 (map (code s) es) (f (length es) ∷ [])
+  taking how f es = ap (λ n. leaving how 0 (map (code s) es) (f n ∷ [])) (length_map (code s) es)
 
   behind : (f : ℕ → Node) (es : List Expr) → joined (map (code s) es) ++ f (length (map (code s) es)) ∷ [] ≡ flat_map (code s) es ++ f (length es) ∷ []
   behind f es = ap (λ xs. xs ++ f (length (map (code s) es)) ∷ []) (joined_is es) ∙ ap (λ n. flat_map (code s) es ++ f n ∷ []) (length_map (code s) es)
@@ -56,13 +61,13 @@ module _ (s : Shape) where
   unfolding code
   code-Attr a = fold-Attr (List Node) (List Node) (code_step s) code_row a
 
-  pub code-All : (es : List Expr) → code s (V.All es) ≡ flat_map (code s) es ++ node.All (length es) ∷ []
+  pub code-All : (es : List Expr) → code s (V.All es) ≡ leaving AtFalse 0 (map (code s) es) (node.All (length es) ∷ [])
   unfolding code
-  code-All es = fold-All (List Node) (List Node) (code_step s) code_row es ∙ behind node.All es
+  code-All es = fold-All (List Node) (List Node) (code_step s) code_row es ∙ taking AtFalse node.All es
 
-  pub code-Any : (es : List Expr) → code s (V.Any es) ≡ flat_map (code s) es ++ node.Any (length es) ∷ []
+  pub code-Any : (es : List Expr) → code s (V.Any es) ≡ leaving AtTrue 0 (map (code s) es) (node.Any (length es) ∷ [])
   unfolding code
-  code-Any es = fold-Any (List Node) (List Node) (code_step s) code_row es ∙ behind node.Any es
+  code-Any es = fold-Any (List Node) (List Node) (code_step s) code_row es ∙ taking AtTrue node.Any es
 
   pub code-Not : (e : Expr) → code s (V.Not e) ≡ code s e ++ node.Not ∷ []
   unfolding code
@@ -80,9 +85,9 @@ module _ (s : Shape) where
   unfolding code
   code-Known e = fold-Known (List Node) (List Node) (code_step s) code_row e
 
-  pub code-Over : (q : Quant) (r : RelId) (es : List Expr) → code s (V.Over q r es) ≡ over_nodes (flat_map (code s) es) (node.Over q r (s.source r) (s.target r))
+  pub code-Over : (q : Quant) (r : RelId) (es : List Expr) → code s (V.Over q r es) ≡ node.Over q r (s.source r) (s.target r) (length (flat_map (code s) es)) ∷ flat_map (code s) es
   unfolding code
-  code-Over q r es = fold-Over (List Node) (List Node) (code_step s) code_row q r es ∙ ap (λ xs. over_nodes xs (node.Over q r (s.source r) (s.target r))) (joined_is es)
+  code-Over q r es = fold-Over (List Node) (List Node) (code_step s) code_row q r es ∙ ap (λ xs. node.Over q r (s.source r) (s.target r) (length xs) ∷ xs) (joined_is es)
 
   pub code-Window : (k : WinKind) (es : List Expr) → code s (V.Window k es) ≡ flat_map (code s) es ++ node.Window k (length es) ∷ []
   unfolding code
@@ -92,11 +97,8 @@ module _ (s : Shape) where
   unfolding code
   code-Rolling b n e = fold-Rolling (List Node) (List Node) (code_step s) code_row b n e
 
-  pub code-Table : (rows : List Row) (last : Expr) → code s (V.Table rows last) ≡ flat_map (row_code s) rows ++ (code s last ++ replicate (length rows) node.Choose)
+  pub code-Table : (rows : List Row) (last : Expr) → code s (V.Table rows last) ≡ chosen_rows (map (row_code s) rows) (code s last)
   unfolding code row_folded
-  code-Table rows last =
-      fold-Table (List Node) (List Node) (code_step s) code_row rows last
-      ∙ ap (λ xs. xs ++ (code s last ++ replicate (length (map row_folded rows)) node.Choose)) (joined_rows rows)
-      ∙ ap (λ n. flat_map (row_code s) rows ++ (code s last ++ replicate n node.Choose)) (length_map row_folded rows)
+  code-Table rows last = fold-Table (List Node) (List Node) (code_step s) code_row rows last ∙ ap (λ xs. chosen_rows xs (code s last)) (rows_folded rows)
 
 pub ruleset code_laws = (code-Const, code-Attr, code-All, code-Any, code-Not, code-Op, code-Certain, code-Known, code-Over, code-Window, code-Rolling, code-Table)

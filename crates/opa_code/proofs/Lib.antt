@@ -1,3 +1,4 @@
+pub mod Backwards
 pub mod CodeLaws
 pub mod Compiled
 pub mod Concluding

@@ -25,7 +25,7 @@ use Rattle.opa_code.specs.Running.{Run, put}
 use Rattle.opa_code.specs.Steps.{Leaves, IsListed, IsFirst, IsGathered, IsItem, Collected, HasPlace, items_at, attribute_at, is_count}
 use Rattle.opa_code.specs.declared.node.Node.{Node}
 use Rattle.opa_code.specs.declared.node.Node.TheVariants as node
-use Rattle.opa_code.proofs.Inverting.{run_none, run_step}
+use Rattle.opa_code.proofs.Inverting.{IsPlain, run_none, run_step}
 use Rattle.opa_code.proofs.Standing.{stand_values, stands_same}
 
 -- what is gathered, where something is
@@ -67,11 +67,12 @@ attribute_is (node.Not ∷ []) a owner e = absurd (cc e)
 attribute_is (node.Op k n ∷ []) a owner e = absurd (cc e)
 attribute_is (node.Certain ∷ []) a owner e = absurd (cc e)
 attribute_is (node.Known ∷ []) a owner e = absurd (cc e)
-attribute_is (node.Operand k ∷ []) a owner e = absurd (cc e)
-attribute_is (node.Over q r s t ∷ []) a owner e = absurd (cc e)
+attribute_is (node.Over q r s t k ∷ []) a owner e = absurd (cc e)
 attribute_is (node.Window k n ∷ []) a owner e = absurd (cc e)
 attribute_is (node.Rolling b n ∷ []) a owner e = absurd (cc e)
 attribute_is (node.Choose ∷ []) a owner e = absurd (cc e)
+attribute_is (node.Leave how k n ∷ []) a owner e = absurd (cc e)
+attribute_is (node.Pass n ∷ []) a owner e = absurd (cc e)
 
 -- what is gathered is what the quantifier makes of the items
 gathers_is : (q : Quant) (how : Gathering) (vs : List Value) → gathers q ≡ Some how → gather_of how vs ≡ quant_of q vs
@@ -150,7 +151,8 @@ module _ (l : Look) (enclosing : List InstanceId) (operand : List Node) where
     where
       left : (ms : List Meaning) → Run l operand [] ms → put l (node.Attr a owner) [] ≡ ms
       left ms run =
-          let s = run_step l operand (node.Attr a owner) [] [] ms (attribute_is operand a owner is) refl run in
+          let plain : IsPlain (node.Attr a owner) = record { no_over = refl; no_leave = refl; no_pass = refl } in
+          let s = run_step l operand (node.Attr a owner) [] [] ms (attribute_is operand a owner is) plain run in
           run_none l [] (put l (node.Attr a owner) []) ms refl s.goes
 
   module _ (q : Quant) (how : Gathering) (target : ℕ) where

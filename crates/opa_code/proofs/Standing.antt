@@ -43,25 +43,47 @@ module _ (enclosing : List InstanceId) where
   stand_length (l ∷ ls) [] h = absurd h
   stand_length (l ∷ ls) (m ∷ ms) h = ap (λ n. suc n) (stand_length ls ms h.1)
 
-  stand_take : (n : ℕ) (ls : Lines) (ms : List Meaning) → Stand enclosing ls ms → Stand enclosing (take n ls) (take n ms)
+  pub stand_take : (n : ℕ) (ls : Lines) (ms : List Meaning) → Stand enclosing ls ms → Stand enclosing (take n ls) (take n ms)
   stand_take zero ls ms h = tt
   stand_take (suc n) [] [] h = tt
   stand_take (suc n) [] (m ∷ ms) h = absurd h
   stand_take (suc n) (l ∷ ls) [] h = absurd h
   stand_take (suc n) (l ∷ ls) (m ∷ ms) h = (h.0, stand_take n ls ms h.1)
 
-  stand_drop : (n : ℕ) (ls : Lines) (ms : List Meaning) → Stand enclosing ls ms → Stand enclosing (drop n ls) (drop n ms)
+  pub stand_drop : (n : ℕ) (ls : Lines) (ms : List Meaning) → Stand enclosing ls ms → Stand enclosing (drop n ls) (drop n ms)
   stand_drop zero ls ms h = h
   stand_drop (suc n) [] [] h = tt
   stand_drop (suc n) [] (m ∷ ms) h = absurd h
   stand_drop (suc n) (l ∷ ls) [] h = absurd h
   stand_drop (suc n) (l ∷ ls) (m ∷ ms) h = stand_drop n ls ms h.1
 
+  -- the line has at every day the value of the meaning
+  abbrev pub Has : List (ℕ × Value) → Meaning → Type 0
+  Has l m = (d : ℕ) → d < DAYS → day_value l d ≡ m enclosing d
+
+  pub stand_more : (ls : Lines) (ms : List Meaning) (l : List (ℕ × Value)) (m : Meaning) → Stand enclosing ls ms → Has l m → Stand enclosing (ls ++ l ∷ []) (ms ++ m ∷ [])
+  stand_more [] [] l m h s = (s, tt)
+  stand_more [] (k ∷ ms) l m h s = absurd h
+  stand_more (k ∷ ls) [] l m h s = absurd h
+  stand_more (k ∷ ls) (j ∷ ms) l m h s = (h.0, stand_more ls ms l m h.1 s)
+
   pub stand_push : (ls : Lines) (ms : List Meaning) (l : List (ℕ × Value)) (m : Meaning) → Stand enclosing ls ms → StandsFor DAYS (m enclosing) l → Stand enclosing (ls ++ l ∷ []) (ms ++ m ∷ [])
-  stand_push [] [] l m h s = (day_is l (m enclosing) s, tt)
-  stand_push [] (k ∷ ms) l m h s = absurd h
-  stand_push (k ∷ ls) [] l m h s = absurd h
-  stand_push (k ∷ ls) (j ∷ ms) l m h s = (h.0, stand_push ls ms l m h.1 s)
+  stand_push ls ms l m h s = stand_more ls ms l m h (day_is l (m enclosing) s)
+
+  no_meaning : (ls : Lines) (l : List (ℕ × Value)) → Stand enclosing (ls ++ l ∷ []) [] → ⊥
+  no_meaning [] l h = h
+  no_meaning (k ∷ ls) l h = h
+
+  no_line : (ms : List Meaning) (m : Meaning) → Stand enclosing [] (ms ++ m ∷ []) → ⊥
+  no_line [] m h = h
+  no_line (k ∷ ms) m h = h
+
+  -- the newest line and those before it
+  pub stand_newest : (ls : Lines) (ms : List Meaning) (l : List (ℕ × Value)) (m : Meaning) → Stand enclosing (ls ++ l ∷ []) (ms ++ m ∷ []) → Stand enclosing ls ms × Has l m
+  stand_newest [] [] l m h = (tt, h.0)
+  stand_newest [] (k ∷ ms) l m h = absurd (no_line ms m h.1)
+  stand_newest (k ∷ ls) [] l m h = absurd (no_meaning ls l h.1)
+  stand_newest (k ∷ ls) (j ∷ ms) l m h = let r = stand_newest ls ms l m h.1 in ((h.0, r.0), r.1)
 
   stand_each : (ls : Lines) (ms : List Meaning) → Stand enclosing ls ms → (d : ℕ) → d < DAYS → each (map meaning_of ls) enclosing d ≡ each ms enclosing d
   stand_each [] [] h d lt = refl

@@ -1,5 +1,5 @@
 -- The line of a tree over a held case.
-use Rattle.std.proofs.Common.{◌≡◌, ℕ, List, [], ◌∷◌, sym, ◌∙◌, ap, subst}
+use Rattle.std.proofs.Common.{◌≡◌, ℕ, List, [], ◌∷◌, sym, ap, subst}
 use Rattle.std.specs.List.{AllByRecursion}
 use Rattle.opa_date.specs.declared.TheConstants.{DAYS}
 use Rattle.opa_value.specs.declared.value.Value.{Value}
@@ -11,7 +11,7 @@ use Rattle.opa_tree.specs.declared.expr.Expr.{Expr}
 use Rattle.opa_tree.specs.declared.rulebase.Rulebase.{Rulebase}
 use Rattle.opa_mean.specs.Holding.{held_look}
 use Rattle.opa_mean.specs.Looks.{Look}
-use Rattle.opa_mean.specs.Meaning.{Meaning, value, first_value}
+use Rattle.opa_mean.specs.Meaning.{value, first_value}
 use Rattle.opa_mean.specs.Rulebases.{IsOf}
 use Rattle.opa_mean.proofs.HeldFresh.{held_is_fresh}
 use Rattle.opa_code.specs.Codes.{code}

@@ -1,5 +1,5 @@
 -- What a tree is worth over the determination of a case.
-use Rattle.std.specs.Prelude.{◌≡◌, ℕ, List, [], ◌∷◌}
+use Rattle.std.specs.Prelude.{ℕ, List, [], ◌∷◌}
 use Rattle.opa_date.specs.declared.TheConstants.{DAYS}
 use Rattle.opa_value.specs.declared.value.Value.{Value}
 use Rattle.opa_line.specs.Lines.{StandsFor}

@@ -1,22 +1,25 @@
 -- What a part of a run leads to.
-use Rattle.std.specs.Prelude.{◌≡◌, ℕ, ◌<◌, Bool, true, false, List, [], ◌∷◌, map, length, drop, Option, None, Some}
+use Rattle.std.specs.Prelude.{◌≡◌, ℕ, ◌<◌, ◌-◌, Bool, true, false, List, [], ◌∷◌, ◌++◌, map, length, take, drop, Option, None, Some}
 use Rattle.opa_date.specs.declared.TheConstants.{DAYS}
 use Rattle.opa_value.specs.declared.value.Value.{Value}
+use Rattle.opa_value.specs.declared.value.Value.TheVariants.{Bool as Truth}
 use Rattle.opa_line.specs.Lines.{StandsFor}
 use Rattle.opa_model.specs.declared.ids.AttrId.{AttrId}
 use Rattle.opa_model.specs.declared.ids.RelId.{RelId}
 use Rattle.opa_tree.specs.declared.kinds.Quant.{Quant}
 use Rattle.opa_tree.specs.declared.kinds.Quant.TheVariants as quant
+use Rattle.opa_window.specs.Days.{day_value}
 use Rattle.opa_cells.specs.Instances.{named}
 use Rattle.opa_cells.specs.declared.instance.InstanceId.{InstanceId}
 use Rattle.opa_mean.specs.Looks.{Look}
 use Rattle.opa_mean.specs.Meaning.{Meaning, each, first_value, item, over}
 use Rattle.opa_code.specs.OverLines.Additions.{Gathered, IsAdded}
-use Rattle.opa_code.specs.OverLines.Lines.{Stand}
+use Rattle.opa_code.specs.OverLines.Lines.{Stand, values_at}
 use Rattle.opa_code.specs.OverLines.Tallies.{gather_of}
 use Rattle.opa_code.specs.declared.over_lines.gathering.Gathering.{Gathering}
 use Rattle.opa_code.specs.declared.over_lines.items.Items.{Items}
-use Rattle.opa_code.specs.Running.{Run, over_meaning}
+use Rattle.opa_code.specs.Running.{Run, over_meaning, IsDecided}
+use Rattle.opa_code.specs.declared.node.Decider.{Decider}
 use Rattle.opa_code.specs.declared.node.Node.{Node}
 use Rattle.opa_code.specs.declared.node.Node.TheVariants as node
 
@@ -34,20 +37,36 @@ Keeps l enclosing old nodes new rest = (end : List Meaning) → Stands l enclosi
 abbrev pub Leaves : Look → List InstanceId → List Node → List (List (ℕ × Value)) → Type 0
 Leaves l enclosing nodes lines = (end : List Meaning) → Run l nodes [] end → Stand enclosing lines end
 
--- how many nodes an operand has
-abbrev pub operand_at : Node → Option ℕ
-operand_at (node.Operand count) = Some count
-operand_at _ = None
-
--- the quantifier that stands first
-abbrev pub over_at : List Node → Option (Quant × (RelId × (ℕ × ℕ)))
-over_at (node.Over q r source target ∷ rest) = Some (q, (r, (source, target)))
+-- what a quantifier's node says: what it makes of which relation's members, their entities, and how many nodes follow
+abbrev pub over_at : Node → Option (Quant × (RelId × (ℕ × (ℕ × ℕ))))
+over_at (node.Over q r source target count) = Some (q, (r, (source, (target, count))))
 over_at _ = None
 
--- the line stands for the quantifier, if there is one, over what the operand's nodes leave
-abbrev pub IsQuantified : Look → List InstanceId → List Node → Option (Quant × (RelId × (ℕ × ℕ))) → List (ℕ × Value) → Type 0
-IsQuantified l enclosing operand first line = (ms : List Meaning) (q : Quant) (r : RelId) (source target : ℕ) → Run l operand [] ms → first ≡ Some (q, (r, (source, target)))
-    → StandsFor DAYS (over_meaning l q r source target ms enclosing) line
+-- what decides, how many results are dropped, and how many nodes are passed over
+abbrev pub leave_at : Node → Option (Decider × (ℕ × ℕ))
+leave_at (node.Leave how dropped count) = Some (how, (dropped, count))
+leave_at _ = None
+
+-- how many nodes are passed over
+abbrev pub pass_at : Node → Option ℕ
+pass_at (node.Pass count) = Some count
+pass_at _ = None
+
+-- the newest line decides, or the first one before it
+abbrev pub AreDecided : Decider → List (List (ℕ × Value)) → List (ℕ × Value) → Type 0
+AreDecided how before newest = (d : ℕ) → d < DAYS → IsDecided how (values_at before d) (day_value newest d)
+
+-- the newest line is put back, in place of those that decide
+abbrev pub IsPutBack : Decider → ℕ → Bool → List (List (ℕ × Value)) → List (ℕ × Value) → List (List (ℕ × Value)) → Type 0
+IsPutBack how dropped true old newest new = AreDecided how (drop (length old - dropped) old) newest × (new ≡ take (length old - dropped) old ++ newest ∷ [])
+IsPutBack how dropped false old newest new = new ≡ old ++ newest ∷ []
+
+-- the newest line is false on every day
+pub record IsRefuted (lines : List (List (ℕ × Value))) : Type 0 where
+  pub before : List (List (ℕ × Value))
+  pub newest : List (ℕ × Value)
+  pub is : lines ≡ before ++ newest ∷ []
+  pub false_always : (d : ℕ) → day_value newest d ≡ Truth false
 
 abbrev pub IsOver : Look → List InstanceId → List Node → Quant → RelId → ℕ → ℕ → List (ℕ × Value) → Type 0
 IsOver l enclosing operand q r source target line = (ms : List Meaning) → Run l operand [] ms → StandsFor DAYS (over_meaning l q r source target ms enclosing) line

@@ -58,7 +58,8 @@ fn operand_count(node: &Node) -> usize
     ensures { result ≡ count_of node.now }
 {
     match node {
-        Node::Const(_) | Node::Attr(_, _) | Node::Operand(_) | Node::Over(_, _, _, _) => 0,
+        Node::Const(_) | Node::Attr(_, _) => 0,
+        Node::Over(_, _, _, _, _) | Node::Leave(_, _, _) | Node::Pass(_) => 0,
         Node::Not | Node::Certain | Node::Known | Node::Rolling(_, _) => 1,
         Node::Choose => 3,
         Node::All(count) | Node::Any(count) | Node::Op(_, count) | Node::Window(_, count) => *count,
@@ -87,7 +88,9 @@ fn node_line<K: Look>(
         Node::Window(kind, _) => window_line(alloc, *kind, operands),
         Node::Rolling(always, days) => rolling_sole(alloc, *always, *days, operands),
         Node::Choose => chosen_line(alloc, operands),
-        Node::Operand(_) | Node::Over(_, _, _, _) => Line::constant(alloc, Value::Uncertain),
+        Node::Over(_, _, _, _, _) | Node::Leave(_, _, _) | Node::Pass(_) => {
+            Line::constant(alloc, Value::Uncertain)
+        }
     }
 }
 

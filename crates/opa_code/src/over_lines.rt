@@ -18,5 +18,6 @@ pub use lines::{
     certain_line, choice_line, first_line, fitted_line, gathered, item_line, known_line, not_line,
     op_line, quantified, same_line,
 };
+pub use steady::constant_of;
 pub use sums::amount;
 pub use windows::{rolling_line, window_line};

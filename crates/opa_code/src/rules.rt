@@ -5,7 +5,7 @@ ghost use Rattle.opa_code.specs.Coding.{coded};
 ghost use Rattle.opa_code.specs.Rulebases.{rulebase_of};
 
 use crate::Code;
-use crate::gather::gather;
+use crate::gather::nodes_in;
 use crate::rule_code::RuleCode;
 use opa_io::{List, NoMemory};
 use opa_mean::is_money;
@@ -36,8 +36,7 @@ fn code_each(alloc: Global, model: &Model, rules: &[Rule]) -> Result<List<RuleCo
 fn code_of(alloc: Global, model: &Model, rule: &Rule) -> Result<RuleCode, NoMemory>
     ensures { IfOk result (λ code. code ≡ coded (shape_of model.now) rule.now) }
 {
-    let mut nodes = List::new(alloc);
-    gather(alloc, model, &mut nodes, &rule.expr)?;
+    let nodes = nodes_in(alloc, model, &rule.expr)?;
     Ok(RuleCode {
         attr: rule.attr,
         money: is_money(model, rule.attr),

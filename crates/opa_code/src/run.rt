@@ -5,10 +5,11 @@ ghost use Rattle.opa_line.specs.Lines.{StandsFor};
 ghost use Rattle.opa_mean.specs.Meaning as meant;
 ghost use Rattle.opa_code.specs.OverLines.Additions.{HasRoom};
 ghost use Rattle.opa_code.specs.OverLines.Lines.{Stand, meaning_of, values_at};
-ghost use Rattle.opa_code.specs.Running.{IsStep, node_meaning, operand_count as count_of, put, sole, chosen};
-ghost use Rattle.opa_code.specs.Steps.{IsFirst, IsGathered, IsItem, IsListed, IsOver, IsQuantified, Keeps, Leaves, attribute_at, attribute_in, is_count, operand_at, over_at};
+ghost use Rattle.opa_code.specs.Steps.{IsFirst, IsGathered, IsItem, IsListed, IsOver, Keeps, Leaves};
+ghost use Rattle.opa_code.specs.Steps.{attribute_at, attribute_in, is_count, over_at};
 
-use crate::carry::{add, behind, carry_out};
+use crate::carry::{add, behind};
+use crate::leave::go_on;
 use crate::members::{add_attribute, put_first, with_room};
 use crate::node::Node;
 use crate::over_lines::{Gathering, Items, amount, gathering_of, item_line};
@@ -49,43 +50,22 @@ fn step<'a, K: Look>(
     after: &'a [Node],
     enclosing: &[InstanceId],
 ) -> Result<&'a [Node], NoMemory>
-    ensures kept { IfOk result (λ rest. Keeps (K.looks look.now) enclosing.now stack.old.items (node.now ∷ after.now) stack.new.items rest.now) }
+    ensures kept { IfOk result (λ rest. Keeps (K.looks look.now) enclosing.now stack.old.items
+        (node.now ∷ after.now) stack.new.items rest.now) }
     ensures fewer { IfOk result (λ rest. length rest.now ≤ length after.now) }
 {
-    match operand_of(node) {
-        None => {
-            carry_out(alloc, look, stack, node, enclosing)?;
-            Ok(after)
-        }
-        Some(count) => {
+    match over_of(node) {
+        None => go_on(alloc, look, stack, node, after, enclosing),
+        Some((quant, (rel, (source, (target, count))))) => {
             let operand = up_to(count, after);
-            let later = behind(count, after);
-            let line = quantifier_line(alloc, look, operand, later, enclosing)?;
+            let line = over_line(alloc, look, quant, rel, source, target, operand, enclosing)?;
             add(stack, line)?;
-            Ok(behind(1, later))
+            Ok(behind(count, after))
         }
     }
 }
 
 /// The line of a quantifier with the nodes of its operand.
-#[cycle(running)]
-fn quantifier_line<K: Look>(
-    alloc: Global,
-    look: &K,
-    operand: &[Node],
-    later: &[Node],
-    enclosing: &[InstanceId],
-) -> Result<Line<Value>, NoMemory>
-    ensures { IfOk result (IsQuantified (K.looks look.now) enclosing.now operand.now (over_at later.now)) }
-{
-    match quantifier_of(later) {
-        None => Line::constant(alloc, Value::Uncertain),
-        Some((quant, (rel, (source, target)))) => over_line(
-            alloc, look, quant, rel, source, target, operand, enclosing,
-        ),
-    }
-}
-
 #[cycle(running)]
 fn over_line<K: Look>(
     alloc: Global,
@@ -242,23 +222,13 @@ fn attribute_in(node: &Node) -> Option<(AttrId, u32)>
     }
 }
 
-/// How many nodes an operand has, at the node that says it.
-fn operand_of(node: &Node) -> Option<usize>
-    ensures { result ≡ operand_at node.now }
+/// What a quantifier's node says.
+fn over_of(node: &Node) -> Option<(Quant, (RelId, (u32, (u32, usize))))>
+    ensures { result ≡ over_at node.now }
 {
     match node {
-        Node::Operand(count) => Some(*count),
-        _ => None,
-    }
-}
-
-/// The quantifier that stands first.
-fn quantifier_of(nodes: &[Node]) -> Option<(Quant, (RelId, (u32, u32)))>
-    ensures { result ≡ over_at nodes.now }
-{
-    match nodes {
-        [Node::Over(quant, rel, source, target), ..] => {
-            Some((*quant, (*rel, (*source, *target))))
+        Node::Over(quant, rel, source, target, count) => {
+            Some((*quant, (*rel, (*source, (*target, *count)))))
         }
         _ => None,
     }

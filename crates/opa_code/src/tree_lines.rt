@@ -2,14 +2,12 @@
 ghost use Rattle.std.specs.Prelude.{◌≡◌, IfOk};
 ghost use Rattle.std.specs.List.{AllByRecursion, list_all};
 ghost use Rattle.opa_case.specs.Cases.{IsLive};
-ghost use Rattle.opa_case.specs.Shapes.{shape_of};
 ghost use Rattle.opa_date.specs.declared.TheConstants.{DAYS};
 ghost use Rattle.opa_line.specs.Lines.{StandsFor};
-ghost use Rattle.opa_code.specs.Codes.{code};
 ghost use Rattle.opa_code.specs.Fresh.{IsLeft, fresh_value};
 ghost use Rattle.opa_code.specs.Runnable.{can_run as runs};
 
-use crate::gather::gather;
+use crate::gather::nodes_in;
 use crate::node::Node;
 use crate::over_lines::first_line;
 use crate::run::run;
@@ -18,7 +16,6 @@ use opa_io::limits::MOST_DAYS;
 use opa_io::{List, NoMemory};
 use opa_line::{Builder, DAYS, Line};
 use opa_mean::{Held, HeldLook, Look, tree_value};
-use opa_model::Model;
 use opa_tree::Expr;
 use opa_value::Value;
 use std::alloc::Global;
@@ -34,7 +31,7 @@ pub fn tree_line<H: Held>(
     ensures { IfOk result (StandsFor DAYS (fresh_value (H.rules held.now) (H.held held.now) tree.now enclosing.now)) }
 {
     let _case = held.case();
-    let nodes = nodes_of(alloc, &held.base().model, tree)?;
+    let nodes = nodes_in(alloc, &held.base().model, tree)?;
     if can_run(nodes.as_slice()) {
         left_line(
             alloc,
@@ -45,14 +42,6 @@ pub fn tree_line<H: Held>(
     } else {
         day_by_day(alloc, held, tree, enclosing)
     }
-}
-
-fn nodes_of(alloc: Global, model: &Model, tree: &Expr) -> Result<List<Node>, NoMemory>
-    ensures { IfOk result (λ nodes. nodes ≡ code (shape_of model.now) tree.now) }
-{
-    let mut nodes = List::new(alloc);
-    gather(alloc, model, &mut nodes, tree)?;
-    Ok(nodes)
 }
 
 /// Whether nodes can be run: those of rules can.

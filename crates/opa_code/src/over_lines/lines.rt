@@ -1,5 +1,5 @@
 // Lines whose value at each day is made of the values of other lines at that day.
-ghost use Rattle.std.specs.Prelude.{◌≡◌, ◌∷◌, [], IfOk};
+ghost use Rattle.std.specs.Prelude.{◌≡◌, ◌∷◌, [], cond as condition, IfOk};
 ghost use Rattle.opa_date.specs.declared.TheConstants.{DAYS};
 ghost use Rattle.opa_line.specs.Lines.{StandsFor};
 ghost use Rattle.opa_line.specs.Pointwise.{EachDay};
@@ -15,7 +15,7 @@ ghost use Rattle.opa_code.specs.OverLines.Tallies.{IsOne, IsTally, gather_of, is
 use crate::over_lines::choice::Choice;
 use crate::over_lines::gathering::Gathering;
 use crate::over_lines::operations::{strict_one, strict_two};
-use crate::over_lines::steady::{constant_tally, told_first};
+use crate::over_lines::steady::{constant_tally, told_first, truth_of};
 use crate::over_lines::sums::amount;
 use crate::over_lines::tally::Tally;
 use opa_io::NoMemory;
@@ -114,6 +114,28 @@ fn two_line(
 
 /// Where the condition is true the value, where it is false the rest, and else what the condition is.
 pub fn choice_line(
+    alloc: Global,
+    cond: &Line<Value>,
+    value: &Line<Value>,
+    rest: &Line<Value>,
+) -> Result<Line<Value>, NoMemory>
+    ensures { IfOk result (StandsFor DAYS (λ d. meant.choose (day_value cond.now d) (day_value value.now d)
+        (day_value rest.now d))) }
+{
+    match truth_of(cond) {
+        Some(holds) => same_line(alloc, either(holds, value, rest)),
+        None => choice_by_day(alloc, cond, value, rest),
+    }
+}
+
+/// The first if it holds, else the second.
+fn either<'a>(holds: bool, first: &'a Line<Value>, second: &'a Line<Value>) -> &'a Line<Value>
+    ensures { result.now ≡ condition holds first.now second.now }
+{
+    if holds { first } else { second }
+}
+
+fn choice_by_day(
     alloc: Global,
     cond: &Line<Value>,
     value: &Line<Value>,

@@ -1,5 +1,6 @@
 // Lines with the same value at every day.
 ghost use Rattle.std.specs.Prelude.{◌≡◌, ◌∷◌, [], ℕ, IfOk, IfSome};
+ghost use Rattle.opa_value.specs.declared.value.Value.TheVariants.{Bool as Truth};
 ghost use Rattle.opa_window.specs.Days.{day_value};
 ghost use Rattle.opa_mean.specs.Meaning as meant;
 ghost use Rattle.opa_code.specs.OverLines.Lines.{values_at};
@@ -18,6 +19,17 @@ pub fn constant_of(line: &Line<Value>) -> Option<&Value>
 {
     match line.segments() {
         [pair] => Some(&pair.1),
+        _ => None,
+    }
+}
+
+/// Whether a line is true at every day or false at every day, if it is one of these.
+pub fn truth_of(line: &Line<Value>) -> Option<bool>
+    ensures { IfSome result (λ holds. (d : ℕ) → day_value line.now d ≡ Truth holds) }
+{
+    let value = constant_of(line)?;
+    match value {
+        Value::Bool(holds) => Some(*holds),
         _ => None,
     }
 }

@@ -17,10 +17,13 @@ use Rattle.opa_code.proofs.run.+running.Goals as goal
 pub run-returns : goal.run-returns
 run-returns g t c = run_left (g.K.Look.looks c.args.look.now) c.args.enclosing.now c.args.nodes.now c.loop-node.rest.now c.loop-node.stack.items c.loop-node.invariant.0 c.in_default.ensures
 
+pub step-returns-in-None-clause-kept : goal.step-returns-in-None-clause-kept
+step-returns-in-None-clause-kept g t c = c.go_on.ensures.kept (sym c.over_of.ensures ∙ c.in-None.is)
+
 pub step-returns-in_ok-add-in-Some-clause-kept : goal.step-returns-in_ok-add-in-Some-clause-kept
 step-returns-in_ok-add-in-Some-clause-kept g t c =
-    over_kept (g.K.Look.looks c.args.look.now) c.args.enclosing.now c.args.stack.now.items c.add.new.lines.items c.in_ok-line-in-Some.line c.args.node.now c.in-Some.count c.args.after.now c.up_to-operand.result.now c.behind-later.result.now c.behind.result.now
-    (sym c.operand_of.ensures ∙ c.in-Some.is) c.up_to-operand.ensures c.behind-later.ensures c.behind.ensures c.in_ok-add-in-Some.ensures c.in_ok-line-in-Some.ensures
+    over_kept (g.K.Look.looks c.args.look.now) c.args.enclosing.now c.args.stack.now.items c.add.new.lines.items c.in_ok-line-in-Some.line c.args.node.now c.in-Some.quant c.in-Some.rel c.in-Some.source c.in-Some.target c.in-Some.count c.args.after.now
+    c.up_to-operand.result.now c.behind.result.now (sym c.over_of.ensures ∙ c.in-Some.is) c.up_to-operand.ensures c.behind.ensures c.in_ok-add-in-Some.ensures c.in_ok-line-in-Some.ensures
 
 pub listed_line-returns-then-only_counts : goal.listed_line-returns-then-only_counts
 listed_line-returns-then-only_counts g t c =

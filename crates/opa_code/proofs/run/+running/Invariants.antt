@@ -8,9 +8,6 @@ decreases-run g l = 8 * length l.nodes.now
 abbrev pub decreases-step : goal.decreases-step
 decreases-step g l = 8 * length l.after.now + 7
 
-abbrev pub decreases-quantifier_line : goal.decreases-quantifier_line
-decreases-quantifier_line g l = 8 * length l.operand.now + 5
-
 abbrev pub decreases-over_line : goal.decreases-over_line
 decreases-over_line g l = 8 * length l.operand.now + 4
 

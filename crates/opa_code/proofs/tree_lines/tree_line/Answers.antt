@@ -1,5 +1,4 @@
 use Rattle.std.proofs.Common.{◌≡◌, List, ◌∙◌, ap, sym, subst}
-use Rattle.std.specs.List.{list_all}
 use Rattle.opa_cells.specs.declared.instance.InstanceId.{InstanceId}
 use Rattle.opa_case.specs.Shapes.{shape_of}
 use Rattle.opa_line.proofs.Zipping.{ok_weaker}
@@ -7,7 +6,7 @@ use Rattle.opa_tree.specs.declared.rulebase.Rulebase.{Rulebase}
 use Rattle.opa_mean.specs.Holding.{held_look}
 use Rattle.opa_code.specs.Codes.{code}
 use Rattle.opa_code.specs.Fresh.{IsLeft}
-use Rattle.opa_code.specs.Runnable.{can_run, CanRun}
+use Rattle.opa_code.specs.Runnable.{CanRun}
 use Rattle.opa_code.specs.declared.node.Node.{Node}
 use Rattle.opa_code.proofs.TreeLines.{held_left}
 use Rattle.opa_code.proofs.tree_lines.tree_line.Goals as goal

@@ -23,3 +23,11 @@ invariant_of-self g c = nothing_left c.loop-slot.self-inside.entries c.loop-slot
 
 pub returns-clause-kept : goal.returns-clause-kept
 returns-clause-kept g c = λ a i. c.loop-slot.invariant.kept a i
+
+pub loop-slot-smaller-in-Some : goal.loop-slot-smaller-in-Some
+loop-slot-smaller-in-Some g c = shorter c.loop-slot.self-inside.slots c.pop.new.self c.in-Some.slot c.in-Some.ensures
+
+pub loop-slot-preserved-in-Some : goal.loop-slot-preserved-in-Some
+loop-slot-preserved-in-Some g c =
+    let k = abandons c.loop-slot.self-inside.entries c.abandon_at.new.entries c.in-Some.slot c.loop-slot.self-inside.slots c.pop.new.self c.in-Some.ensures c.loop-slot.invariant.listed c.abandon_at.ensures in
+    record { kept = λ a i. k.0 a i ∙ c.loop-slot.invariant.kept a i; listed = k.1 }

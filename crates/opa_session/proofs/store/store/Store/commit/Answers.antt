@@ -24,3 +24,11 @@ invariant_of-self g c = nothing_left c.loop-slot.self-inside.entries c.loop-slot
 
 pub returns-clause-kept : goal.returns-clause-kept
 returns-clause-kept g c = λ a i. all_kept (kept_lines c.loop-slot.self-inside.entries) (staged_lines c.loop-slot.self-inside.entries) (none_staged (staged_lines c.loop-slot.self-inside.entries) c.loop-slot.self-inside.slots c.in_default.ensures.0 c.loop-slot.invariant.listed) a i ∙ c.loop-slot.invariant.laid a i
+
+pub loop-slot-smaller-in-Some : goal.loop-slot-smaller-in-Some
+loop-slot-smaller-in-Some g c = shorter c.loop-slot.self-inside.slots c.pop.new.self c.in-Some.slot c.in-Some.ensures
+
+pub loop-slot-preserved-in-Some : goal.loop-slot-preserved-in-Some
+loop-slot-preserved-in-Some g c =
+    let k = commits c.loop-slot.self-inside.entries c.commit_at.new.entries c.in-Some.slot c.loop-slot.self-inside.slots c.pop.new.self c.in-Some.ensures c.loop-slot.invariant.listed c.commit_at.ensures in
+    record { laid = λ a i. k.0 a i ∙ c.loop-slot.invariant.laid a i; listed = k.1 }
