@@ -1,7 +1,7 @@
-"""The errors of a rulebase as `opa check` finds them one after another, to compare with `rules faults`.
+"""What `rules faults` is to print, as `opa check` finds the errors one after another.
 
-The block of each error is made blank, so that all lines keep their numbers, and `opa check` is asked again. It stops where
-`rules faults` stops: behind an error that isn't in a block of a rule file, or that is in a declaration.
+The block of each error is made blank, so that all lines keep their numbers, and `opa check` is asked again. It stops behind an
+error that isn't in a block of a rule file, or that is in a declaration.
 """
 from __future__ import annotations
 
@@ -11,37 +11,50 @@ from pathlib import Path
 from typing import NamedTuple
 
 REFUSED = re.compile(r"refused: rulebase (\d) (.*):(\d+)\n((?:  .*\n)*)")
-# What the words of each kind begin with.
 WORDS = {
     1: "this file isn't UTF-8",
-    2: "this can't be read",
-    3: "a phrase isn't declared",
-    4: "this speaks of something",
-    5: "two sorts of values",
+    2: "this can't be read: look for an indentation that jumps, a missing `and` or `or`, or a bracket",
+    3: "a phrase isn't declared, or names something else than is expected here",
+    4: "this speaks of something that the rule's own case doesn't reach: use a list",
+    5: "two sorts of values don't go together, or a number isn't allowed here",
     6: "this is declared, concluded or named a second time",
-    7: "these conclusions need one another",
+    7: "these conclusions need one another, so none of them can come first:",
     8: "this is over a limit",
     9: "there is no such file",
 }
 PRINTED = re.compile(r"^(.*):(\d+):(\d+): error: (.*)$", re.M)
 DECLARES = re.compile(r"global$|(entity|verb) ")
 FILE_LINE = re.compile(r"(include|table) ")
-MOST = 100
+MOST_ERRORS, MOST_FILE_LINES, MOST_LINE, MOST_LEVEL = 100, 100, 65536, 64
 
 
 class Error(NamedTuple):
     kind: int
     file: str
     line: int
+    circle: str = ""
+    source: str | None = None
+
+    def text(self) -> str:
+        """As `rules faults` prints it."""
+        shown, column = "", 1
+        if self.source is not None:
+            shown, column = f"  {self.source.lstrip()}\n  ^\n", 2 * (level(self.source) or 0) + 1
+        return f"{self.file}:{self.line}:{column}: error: {WORDS[self.kind]}\n{self.circle}{shown}"
 
 
 def level(line: str) -> int | None:
     """Its indentation, or none if it is blank or a comment."""
     text = line.lstrip(" \t")
-    if not text.rstrip("\r") or text.startswith("#"):
+    if not text or text.startswith("#"):
         return None
     blanks = line[: len(line) - len(text)]
     return blanks.count("\t") + blanks.count(" ") // 2
+
+
+def lines_of(path: Path) -> list[str]:
+    lines = path.read_bytes().decode(errors="replace").removeprefix("\ufeff").split("\n")
+    return [line.removesuffix("\r") for line in lines]
 
 
 def block_of(lines: list[str], number: int) -> tuple[int, int] | None:
@@ -53,55 +66,63 @@ def block_of(lines: list[str], number: int) -> tuple[int, int] | None:
     return first and (first, min((head for head in heads if head > number), default=len(lines) + 1) - 1)
 
 
+def is_of_layout(lines: list[str], kind: int, number: int) -> bool:
+    """Whether it is a line that is too long, too deep, or indented by an odd blank or too far; or names the 101st file."""
+    line = lines[number - 1]
+    deep, blanks = level(line) or 0, line[: len(line) - len(line.lstrip(" \t"))]
+    if kind == 8:
+        files = sum(bool(FILE_LINE.match(text)) for text in lines[:number])
+        return len(line.encode()) > MOST_LINE or deep > MOST_LEVEL or (bool(FILE_LINE.match(line)) and files > MOST_FILE_LINES)
+    above = next((found for text in reversed(lines[: number - 1]) if (found := level(text)) is not None), -1)
+    odd = any(len(run) % 2 for run in blanks.split("\t"))
+    return kind == 2 and (odd or deep > above + 1)
+
+
 def checked(opa: str, folder: Path, name: str) -> Error | None:
-    """The error that `opa check` prints, if it isn't `accepted`."""
+    """The error that `opa check` prints, if it refuses the rulebase."""
     done = subprocess.run([opa, "check", name], cwd=folder, capture_output=True, timeout=120)
     found = REFUSED.fullmatch(done.stdout.decode())
     if done.returncode != (1 if found else 0):
         raise ValueError(f"opa check {name}: status {done.returncode}, {done.stdout!r}")
-    return Error(int(found[1]), found[2], int(found[3])) if found else None
+    return Error(int(found[1]), found[2], int(found[3]), found[4]) if found else None
 
 
-def is_laid_out(lines: list[str], error: Error) -> bool:
-    """Whether an error isn't one of the layout: a line that is too long, too deep, or indented by an odd blank or too far."""
-    line = lines[error.line - 1]
-    if error.kind not in (2, 8):
-        return True
-    blanks = line[: len(line) - len(line.lstrip(" \t"))]
-    if blanks.replace("\t", "").count(" ") % 2 or len(line.encode()) > 65536 or (level(line) or 0) > 64:
-        return False
-    above = next((found for text in reversed(lines[: error.line - 1]) if (found := level(text)) is not None), -1)
-    return (level(line) or 0) <= above + 1
-
-
-def left_out(folder: Path, error: Error) -> bool:
-    """Makes the block of an error blank, if it has one and doesn't declare what others speak of."""
+def placed(folder: Path, error: Error, tables: set[str]) -> tuple[Error, tuple[int, int] | None]:
+    """The error with its line, and its block, if it is in one."""
     path = folder / error.file
-    if not error.line or path.suffix == ".csv":
-        return False
-    lines = path.read_text().split("\n")
+    if not error.line or error.file in tables or not path.is_file():
+        return error, None
+    lines = lines_of(path)
     block = block_of(lines, error.line)
-    if not block or not is_laid_out(lines, error) or DECLARES.match(lines[block[0] - 1]):
+    if not block or is_of_layout(lines, error.kind, error.line):
+        return error, None
+    return error._replace(source=lines[error.line - 1]), block
+
+
+def left_out(path: Path, block: tuple[int, int]) -> bool:
+    """Makes a block blank, unless it declares what others speak of."""
+    lines = lines_of(path)
+    if DECLARES.match(lines[block[0] - 1]):
         return False
     lines[block[0] - 1 : block[1]] = [""] * (block[1] - block[0] + 1)
     path.write_text("\n".join(lines))
     return True
 
 
-def by_check(opa: str, folder: Path, name: str, most: int = MOST) -> list[Error]:
-    """All errors; the files of the folder are changed."""
+def by_check(opa: str, folder: Path, name: str) -> list[Error]:
+    """All errors of a rulebase; the files of the folder are changed."""
+    main = lines_of(folder / name) if (folder / name).is_file() else []
+    tables = {line.split('"')[1] for line in main if re.match(r'table "', line)}
     found: list[Error] = []
-    while len(found) < most and (error := checked(opa, folder, name)):
+    while len(found) < MOST_ERRORS and (first := checked(opa, folder, name)):
+        error, block = placed(folder, first, tables)
         found.append(error)
-        if not left_out(folder, error):
+        if not block or not left_out(folder / error.file, block):
             break
     return found
 
 
-def printed(text: str) -> list[Error]:
-    """The errors that `rules faults` printed."""
+def printed(text: str) -> list[tuple[int, str, int]]:
+    """The kind, the file and the line of each error that `rules faults` printed."""
     kinds = {words: kind for kind, words in WORDS.items()}
-    return [
-        Error(next(kind for words, kind in kinds.items() if said.startswith(words)), file, int(line))
-        for file, line, _, said in PRINTED.findall(text)
-    ]
+    return [(kinds[said], file, int(line)) for file, line, _, said in PRINTED.findall(text)]
