@@ -25,7 +25,9 @@ WORDS = {
 PRINTED = re.compile(r"^(.*):(\d+):(\d+): error: (.*)$", re.M)
 DECLARES = re.compile(r"global$|(entity|verb) ")
 FILE_LINE = re.compile(r"(include|table) ")
-MOST_ERRORS, MOST_FILE_LINES, MOST_LINE, MOST_LEVEL = 100, 100, 65536, 64
+MOST_FILE_LINES, MOST_LINE, MOST_LEVEL = 100, 65536, 64
+# How many errors are listed, and how many if a file is long.
+MOST, MOST_OF_LONG, LONG = 100, 10, 1048576
 
 
 class Error(NamedTuple):
@@ -112,9 +114,12 @@ def left_out(path: Path, block: tuple[int, int]) -> bool:
 def by_check(opa: str, folder: Path, name: str) -> list[Error]:
     """All errors of a rulebase; the files of the folder are changed."""
     main = lines_of(folder / name) if (folder / name).is_file() else []
-    tables = {line.split('"')[1] for line in main if re.match(r'table "', line)}
+    named = [parts for line in main if (parts := re.match(r'(include|table) "(.*)"', line))]
+    tables = {parts[2] for parts in named if parts[1] == "table"}
+    files = [folder / each for each in (name, *(parts[2] for parts in named))]
+    most = MOST_OF_LONG if any(path.is_file() and path.stat().st_size > LONG for path in files) else MOST
     found: list[Error] = []
-    while len(found) < MOST_ERRORS and (first := checked(opa, folder, name)):
+    while len(found) < most and (first := checked(opa, folder, name)):
         error, block = placed(folder, first, tables)
         found.append(error)
         if not block or not left_out(folder / error.file, block):
