@@ -1,7 +1,7 @@
 """What `rules faults` is to print, as `opa check` finds the errors one after another.
 
-The block of each error is made blank, so that all lines keep their numbers, and `opa check` is asked again. It stops behind an
-error that isn't in a block of a rule file, or that is in a declaration.
+The block of each error is made blank, so that all lines keep their numbers, and `opa check` is asked again. It stops
+behind an error that isn't in a block of a rule file, or that is in a declaration.
 """
 from __future__ import annotations
 
@@ -69,12 +69,13 @@ def block_of(lines: list[str], number: int) -> tuple[int, int] | None:
 
 
 def is_of_layout(lines: list[str], kind: int, number: int) -> bool:
-    """Whether it is a line that is too long, too deep, or indented by an odd blank or too far; or names the 101st file."""
+    """Whether the line is too long, too deep, indented by an odd blank or too far, or names the 101st file."""
     line = lines[number - 1]
     deep, blanks = level(line) or 0, line[: len(line) - len(line.lstrip(" \t"))]
     if kind == 8:
         files = sum(bool(FILE_LINE.match(text)) for text in lines[:number])
-        return len(line.encode()) > MOST_LINE or deep > MOST_LEVEL or (bool(FILE_LINE.match(line)) and files > MOST_FILE_LINES)
+        names_too_many = bool(FILE_LINE.match(line)) and files > MOST_FILE_LINES
+        return len(line.encode()) > MOST_LINE or deep > MOST_LEVEL or names_too_many
     above = next((found for text in reversed(lines[: number - 1]) if (found := level(text)) is not None), -1)
     odd = any(len(run) % 2 for run in blanks.split("\t"))
     return kind == 2 and (odd or deep > above + 1)

@@ -1,6 +1,7 @@
 """What editors find in an output of `rules faults`: Vim by its errorformat, VS Code by its problem matcher.
 
-The output is a saved one; tools/tests/test_faults.py compares it with what the program prints. Without Vim its test is skipped.
+The output is a saved one; tools/tests/test_faults.py compares it with what the program prints. Without Vim its test is
+skipped.
 """
 from __future__ import annotations
 
@@ -56,8 +57,10 @@ class VsCode(unittest.TestCase):
         package = json.loads((TOP / "editors" / "textmate" / "package.json").read_text())
         (matcher,) = package["contributes"]["problemMatchers"]
         pattern = matcher["pattern"]
-        found = [match for line in (OUTPUT + MISSING + LOOKS_SO).splitlines() if (match := re.search(pattern["regexp"], line))]
-        places = [(match[pattern["file"]], int(match[pattern["line"]]), int(match[pattern["column"]])) for match in found]
+        lines = (OUTPUT + MISSING + LOOKS_SO).splitlines()
+        found = [match for line in lines if (match := re.search(pattern["regexp"], line))]
+        file, line, column = pattern["file"], pattern["line"], pattern["column"]
+        places = [(match[file], int(match[line]), int(match[column])) for match in found]
         self.assertEqual(places, PLACES)
         self.assertEqual({match[pattern["severity"]] for match in found}, {"error"})
         self.assertEqual(found[2][pattern["message"]], WORDS)
@@ -89,7 +92,8 @@ class Vim(unittest.TestCase):
             folder = Path(room)
             for name, held in {"card.txt": RULEBASE, "output": text, "script.vim": SCRIPT}.items():
                 (folder / name).write_text(held)
-            env = {"EDITORS": str(TOP / "editors" / "vim"), "HOME": room, "TERM": "dumb", "PATH": "/usr/bin:/bin", "LC_ALL": "C.UTF-8"}
+            own = {"EDITORS": str(TOP / "editors" / "vim"), "HOME": room}
+            env = {**own, "TERM": "dumb", "PATH": "/usr/bin:/bin", "LC_ALL": "C.UTF-8"}
             words = [str(VIM), "-N", "-u", "NONE", "-i", "NONE", "-es", "-S", "script.vim"]
             subprocess.run(words, cwd=folder, env=env, stdin=subprocess.DEVNULL, capture_output=True, timeout=60)
             found = [json.loads(line) for line in (folder / "found").read_text().splitlines()]

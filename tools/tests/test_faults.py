@@ -1,4 +1,4 @@
-"""`rules faults`: each story that `opa check` refuses, where it is and in words; several errors in one run; broken rulebases.
+"""`rules faults`: each story of `opa check`, where its error is and in words; several errors at once; broken rulebases.
 
 The program is the environment's RULES, or the built one of this repository.
 """
@@ -22,6 +22,9 @@ from stories import DATA, Story  # noqa: E402
 
 RULES = os.environ.get("RULES", str(TOP / "crates" / "rules" / "out" / "rules"))
 
+# Examples that are broken in three lines each.
+BROKEN = ("claimant.txt", "library.txt", "children.txt", "school.txt", "benefit.txt", "food.txt", "recipe_choices.txt")
+
 HEAD = """verb is / is not / is /
 global
   bool the claimant [is] entitled
@@ -34,23 +37,30 @@ entity the friend
   in global: the people
   number the friend's age
 """
-# Rules behind HEAD, and the errors of each: the kind, the line, the column, and the line's text or what is printed in its place.
+# Rules behind HEAD, and the errors of each: kind, line, column, and the line's text or what is printed in its place.
 SEVERAL = {
     "none": ("the claimant is entitled if\n  the claimant is an adult\n", []),
     "a goal and two rules": (
-        "goal the weather\nthe claimant is entitled if\n  the clamant is an adult\nthe claimant is an adult if\n  the income > the name\n",
-        [(3, 12, 1, "goal the weather"), (3, 14, 3, "the clamant is an adult"), (5, 15, 1, "the claimant is an adult if")],
+        "goal the weather\nthe claimant is entitled if\n  the clamant is an adult\n"
+        "the claimant is an adult if\n  the income > the name\n",
+        [
+            (3, 12, 1, "goal the weather"),
+            (3, 14, 3, "the clamant is an adult"),
+            (5, 15, 1, "the claimant is an adult if"),
+        ],
     ),
     "by kind, then by line": (
         "the income = the weather\nthe claimant is entitled if\n  the income > 1 and\n",
         [(2, 13, 1, "the claimant is entitled if"), (3, 12, 1, "the income = the weather")],
     ),
     "one error of a block hides its others": (
-        "the claimant is entitled if\n  the weather > 1 and\n  the name > 1 and\n  the clamant is an adult\nthe income = the day\n",
+        "the claimant is entitled if\n  the weather > 1 and\n  the name > 1 and\n  the clamant is an adult\n"
+        "the income = the day\n",
         [(3, 13, 3, "the weather > 1 and"), (3, 16, 1, "the income = the day")],
     ),
     "deep lines, tabs and a comment": (
-        "the claimant is entitled if\n\t# so\n  any\n\t\tthe claimant is an adult or\n    the weather > 1\nthe income = the friend's age\n",
+        "the claimant is entitled if\n\t# so\n  any\n\t\tthe claimant is an adult or\n    the weather > 1\n"
+        "the income = the friend's age\n",
         [(3, 16, 5, "the weather > 1"), (4, 17, 1, "the income = the friend's age")],
     ),
     "a line of a screen": (
@@ -62,7 +72,8 @@ SEVERAL = {
         [(6, 12, 1, "goal the claimant is entitled"), (6, 14, 1, "the income = 2"), (6, 15, 1, "the income = 3")],
     ),
     "a circle, and its attributes": (
-        "the claimant is entitled if\n  the claimant is an adult\nthe claimant is an adult if\n  the claimant is entitled\n",
+        "the claimant is entitled if\n  the claimant is an adult\n"
+        "the claimant is an adult if\n  the claimant is entitled\n",
         [(7, 12, 1, ["the claimant is entitled", "the claimant is an adult", "the claimant is entitled if"])],
     ),
     "nothing behind an error in a declaration": (
@@ -85,13 +96,14 @@ SEVERAL = {
 
 
 def text_of(kind: int, line: int, column: int, shown: str | list[str]) -> str:
-    """An error of f.txt: with the line that is given; of a list the last item is the line, and the others are a circle."""
+    """An error of f.txt with its line; of a list the last item is the line, and the others are a circle."""
     lines = [shown] if isinstance(shown, str) else shown
-    return f"f.txt:{line}:{column}: error: {WORDS[kind]}\n" + "".join(f"  {each}\n" for each in lines) + ("  ^\n" if lines else "")
+    below = "".join(f"  {each}\n" for each in lines) + ("  ^\n" if lines else "")
+    return f"f.txt:{line}:{column}: error: {WORDS[kind]}\n{below}"
 
 
 def ran(program: str, *words: str, folder: object) -> subprocess.CompletedProcess[bytes]:
-    return subprocess.run([program, *words], cwd=str(folder), capture_output=True, timeout=120)
+    return subprocess.run([program, *words], cwd=str(folder), capture_output=True, timeout=300)
 
 
 @unittest.skipUnless(os.access(RULES, os.X_OK), "RULES names no program")
@@ -176,13 +188,14 @@ class Faults(unittest.TestCase):
         """The whole text is what `opa check` finds one after another (tools/faults_by_check.py)."""
         chance = random.Random(57)
         for turn in range(100):
-            name = chance.choice(["claimant.txt", "library.txt", "children.txt", "school.txt", "benefit.txt", "food.txt", "recipe_choices.txt"])
+            name = chance.choice(BROKEN)
             lines = (EXAMPLES / name).read_text().split("\n")
             places = [chance.randrange(len(lines)) for _ in range(3)]
             for place in places:
-                at = chance.randrange(len(lines[place]) + 1)
-                lines[place] = lines[place][:at] + chance.choice(["x", "  ", "(", "", '"', "\t"]) + lines[place][at + chance.randrange(2) :]
-            with self.subTest(f"{turn} {name}:{[place + 1 for place in places]}"), tempfile.TemporaryDirectory() as room:
+                old, at = lines[place], chance.randrange(len(lines[place]) + 1)
+                lines[place] = old[:at] + chance.choice(["x", "  ", "(", "", '"', "\t"]) + old[at + chance.randrange(2) :]
+            what = f"{turn} {name}:{[place + 1 for place in places]}"
+            with self.subTest(what), tempfile.TemporaryDirectory() as room:
                 for other in EXAMPLES.iterdir():
                     if other.suffix in (".txt", ".csv"):
                         Path(room, other.name).write_bytes(other.read_bytes())
@@ -190,7 +203,8 @@ class Faults(unittest.TestCase):
                 done = ran(RULES, "faults", name, folder=room)
                 text = done.stdout.decode()
                 # Without a line that names a file `opa check` would read other files.
-                if not any(FILE_LINE.match(lines[line - 1]) for _, file, line in printed(text) if file == name and line):
+                named = [lines[line - 1] for _, file, line in printed(text) if file == name and line]
+                if not any(map(FILE_LINE.match, named)):
                     wanted = "".join(error.text() for error in by_check(OPA, Path(room), name))
                     self.assertEqual((text, done.returncode), (wanted, 1 if wanted else 0))
 
