@@ -193,7 +193,8 @@ class Faults(unittest.TestCase):
             places = [chance.randrange(len(lines)) for _ in range(3)]
             for place in places:
                 old, at = lines[place], chance.randrange(len(lines[place]) + 1)
-                lines[place] = old[:at] + chance.choice(["x", "  ", "(", "", '"', "\t"]) + old[at + chance.randrange(2) :]
+                put, rest = chance.choice(["x", "  ", "(", "", '"', "\t"]), old[at + chance.randrange(2) :]
+                lines[place] = old[:at] + put + rest
             what = f"{turn} {name}:{[place + 1 for place in places]}"
             with self.subTest(what), tempfile.TemporaryDirectory() as room:
                 for other in EXAMPLES.iterdir():
