@@ -64,7 +64,8 @@ class Checkout:
         for name in ("low", "tests_low", *PROGRAMS):
             self.write(f"crates/{name}/src/main.rt", f"// {name}\n")
         self.write("tools/stories.py", "print('1 passed, 0 failed')\n")
-        self.write("tools/tests/test_rules.py", RULES)
+        for name in ("rules", "faults"):
+            self.write(f"tools/tests/test_{name}.py", RULES)
         self.write(".gitignore", "out/\n__pycache__/\n")
         self.programs = self.room / "programs"
         self.programs.mkdir()

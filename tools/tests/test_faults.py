@@ -1,4 +1,4 @@
-"""`rules faults`: each story that `opa check` refuses, where it is and in words; several errors in one run; broken rulebases.
+"""`rules faults`: each story of `opa check`, where its error is and in words; several errors at once; broken rulebases.
 
 The program is the environment's RULES, or the built one of this repository.
 """
@@ -14,24 +14,16 @@ import unittest
 from pathlib import Path
 
 from tools.tests.base import EXAMPLES, OPA, TOP
+from tools.tests.test_editors import OUTPUT, RULEBASE
 
 sys.path.insert(0, str(TOP / "tools"))
+from faults_by_check import FILE_LINE, REFUSED, WORDS, by_check, printed  # noqa: E402
 from stories import DATA, Story  # noqa: E402
 
 RULES = os.environ.get("RULES", str(TOP / "crates" / "rules" / "out" / "rules"))
-REFUSED = re.compile(r"refused: rulebase (\d) (.*):(\d+)\n((?:  .*\n)*)")
-# What the words of each kind begin with.
-KINDS = {
-    "1": "this file isn't UTF-8",
-    "2": "this can't be read",
-    "3": "a phrase isn't declared",
-    "4": "this speaks of something",
-    "5": "two sorts of values",
-    "6": "this is declared, concluded or named a second time",
-    "7": "these conclusions need one another",
-    "8": "this is over a limit",
-    "9": "there is no such file",
-}
+
+# Examples that are broken in three lines each.
+BROKEN = ("claimant.txt", "library.txt", "children.txt", "school.txt", "benefit.txt", "food.txt", "recipe_choices.txt")
 
 HEAD = """verb is / is not / is /
 global
@@ -39,106 +31,183 @@ global
   bool the claimant [is] an adult
   number the income
   text the name
+  reference the friends: many the friend
 goal the claimant is entitled
+entity the friend
+  in global: the people
+  number the friend's age
 """
-
-# Rules behind HEAD, and what is printed of them.
+# Rules behind HEAD, and the errors of each: kind, line, column, and the line's text or what is printed in its place.
 SEVERAL = {
-    "none": ("the claimant is entitled if\n  the claimant is an adult\n", ""),
-    "two rules and a goal": (
-        "goal the weather\nthe claimant is entitled if\n  the clamant is an adult\nthe claimant is an adult if\n  the income > the name\n",
-        "f.txt:8:1: error: a phrase isn't declared, or names something else than is expected here\n  goal the weather\n  ^\n"
-        "f.txt:9:1: error: a phrase isn't declared, or names something else than is expected here\n  the claimant is entitled if\n  ^\n"
-        "f.txt:11:1: error: two sorts of values don't go together, or a number isn't allowed here\n  the claimant is an adult if\n  ^\n",
+    "none": ("the claimant is entitled if\n  the claimant is an adult\n", []),
+    "a goal and two rules": (
+        "goal the weather\nthe claimant is entitled if\n  the clamant is an adult\n"
+        "the claimant is an adult if\n  the income > the name\n",
+        [
+            (3, 12, 1, "goal the weather"),
+            (3, 14, 3, "the clamant is an adult"),
+            (5, 15, 1, "the claimant is an adult if"),
+        ],
     ),
     "by kind, then by line": (
         "the income = the weather\nthe claimant is entitled if\n  the income > 1 and\n",
-        "f.txt:9:1: error: this can't be read: look for an indentation that jumps, a missing `and` or `or`, or a bracket\n  the claimant is entitled if\n  ^\n"
-        "f.txt:8:1: error: a phrase isn't declared, or names something else than is expected here\n  the income = the weather\n  ^\n",
+        [(2, 13, 1, "the claimant is entitled if"), (3, 12, 1, "the income = the weather")],
+    ),
+    "one error of a block hides its others": (
+        "the claimant is entitled if\n  the weather > 1 and\n  the name > 1 and\n  the clamant is an adult\n"
+        "the income = the day\n",
+        [(3, 13, 3, "the weather > 1 and"), (3, 16, 1, "the income = the day")],
+    ),
+    "deep lines, tabs and a comment": (
+        "the claimant is entitled if\n\t# so\n  any\n\t\tthe claimant is an adult or\n    the weather > 1\n"
+        "the income = the friend's age\n",
+        [(3, 16, 5, "the weather > 1"), (4, 17, 1, "the income = the friend's age")],
+    ),
+    "a line of a screen": (
+        'screen "Who"\n  the name\n  the weather\nthe income = the day\n',
+        [(3, 14, 3, "the weather"), (3, 15, 1, "the income = the day")],
+    ),
+    "a second goal and a second rule": (
+        "goal the claimant is entitled\nthe income = 1\nthe income = 2\nthe income = 3\n",
+        [(6, 12, 1, "goal the claimant is entitled"), (6, 14, 1, "the income = 2"), (6, 15, 1, "the income = 3")],
     ),
     "a circle, and its attributes": (
-        "the claimant is entitled if\n  the claimant is an adult\nthe claimant is an adult if\n  the claimant is entitled\n",
-        "f.txt:8:1: error: these conclusions need one another, so none of them can come first:\n"
-        "  the claimant is entitled\n  the claimant is an adult\n  the claimant is entitled if\n  ^\n",
+        "the claimant is entitled if\n  the claimant is an adult\n"
+        "the claimant is an adult if\n  the claimant is entitled\n",
+        [(7, 12, 1, ["the claimant is entitled", "the claimant is an adult", "the claimant is entitled if"])],
     ),
     "nothing behind an error in a declaration": (
         "verb has / has not\nthe income = the weather\n",
-        "f.txt:8:1: error: this can't be read: look for an indentation that jumps, a missing `and` or `or`, or a bracket\n  verb has / has not\n  ^\n",
+        [(2, 12, 1, "verb has / has not")],
+    ),
+    "nothing behind an error in a line of a declaration": (
+        "global\n  bool the claimant [has] a claim\nthe income = the weather\n",
+        [(3, 13, 3, "bool the claimant [has] a claim")],
+    ),
+    "nothing behind an error of layout": (
+        "the claimant is entitled if\n    the claimant is an adult\nthe income = the weather\n",
+        [(2, 13, 1, [])],
+    ),
+    "nothing behind an odd blank": (
+        "the claimant is entitled if\n   the claimant is an adult\nthe income = the weather\n",
+        [(2, 13, 1, [])],
     ),
 }
 
 
+def text_of(kind: int, line: int, column: int, shown: str | list[str]) -> str:
+    """An error of f.txt with its line; of a list the last item is the line, and the others are a circle."""
+    lines = [shown] if isinstance(shown, str) else shown
+    below = "".join(f"  {each}\n" for each in lines) + ("  ^\n" if lines else "")
+    return f"f.txt:{line}:{column}: error: {WORDS[kind]}\n{below}"
+
+
 def ran(program: str, *words: str, folder: object) -> subprocess.CompletedProcess[bytes]:
-    return subprocess.run([program, *words], cwd=str(folder), capture_output=True, timeout=120)
-
-
-def heads(printed: str) -> list[str]:
-    return [line for line in printed.splitlines() if ": error: " in line]
+    return subprocess.run([program, *words], cwd=str(folder), capture_output=True, timeout=300)
 
 
 @unittest.skipUnless(os.access(RULES, os.X_OK), "RULES names no program")
 class Faults(unittest.TestCase):
     maxDiff = None
 
-    def test_each_refused_story_in_words(self) -> None:
+    def setUp(self) -> None:
+        room = tempfile.TemporaryDirectory(prefix="faults-")
+        self.addCleanup(room.cleanup)
+        self.folder = Path(room.name)
+
+    def faults(self, name: str = "f.txt") -> tuple[str, int]:
+        done = ran(RULES, "faults", name, folder=self.folder)
+        self.assertEqual(done.stderr, b"")
+        return done.stdout.decode(), done.returncode
+
+    def put(self, text: str, name: str = "f.txt") -> None:
+        (self.folder / name).write_text(text)
+
+    def test_each_checked_story_in_words(self) -> None:
         seen = 0
         for path in sorted((DATA / "stories").glob("*.txt")):
             story = Story(path)
-            if story.is_in_memory or len(story.words) != 3 or story.words[1] != "check":
+            if story.is_in_memory or len(story.words) != 3 or story.words[1] != "check" or story.status > 1:
                 continue
-            wanted = REFUSED.fullmatch((story.printed or b"").decode(errors="replace"))
             with self.subTest(path.stem), tempfile.TemporaryDirectory() as folder:
                 for name, found in story.files.items():
                     Path(folder, name).write_bytes(found)
                 done = ran(RULES, "faults", story.words[2], folder=folder)
-                printed = done.stdout.decode()
-                if wanted is None:
-                    self.assertEqual((done.returncode, printed), (story.status, "") if story.status == 0 else (done.returncode, printed))
-                    continue
-                seen += 1
-                kind, name, line, circle = wanted.groups()
-                self.assertEqual(done.returncode, 1)
-                self.assertRegex(printed.split("\n")[0], f"^{re.escape(name)}:{line}:[0-9]+: error: {re.escape(KINDS[kind])}")
-                if circle:
-                    self.assertTrue(printed.split("\n", 1)[1].startswith(circle))
+                text = done.stdout.decode()
+                self.assertEqual((done.returncode, bool(text)), (story.status, story.status == 1))
+                wanted = REFUSED.fullmatch((story.printed or b"").decode(errors="replace"))
+                if wanted:
+                    seen += 1
+                    kind, name, line, circle = wanted.groups()
+                    head = rf"{re.escape(name)}:{line}:\d+: error: {re.escape(WORDS[int(kind)])}\n{re.escape(circle)}"
+                    self.assertRegex(text, rf"\A{head}")
         self.assertGreater(seen, 20)
 
     def test_several_errors(self) -> None:
         for what, (rules, wanted) in SEVERAL.items():
-            with self.subTest(what), tempfile.TemporaryDirectory() as folder:
-                Path(folder, "f.txt").write_text(HEAD + rules)
-                done = ran(RULES, "faults", "f.txt", folder=folder)
-                self.assertEqual((done.stdout.decode(), done.returncode), (wanted, 1 if wanted else 0))
+            with self.subTest(what):
+                self.put(HEAD + rules)
+                self.assertEqual(self.faults(), ("".join(text_of(*each) for each in wanted), 1 if wanted else 0))
+
+    def test_what_editors_are_tried_over(self) -> None:
+        self.put(RULEBASE, "card.txt")
+        self.assertEqual(self.faults("card.txt"), (OUTPUT, 1))
+
+    def test_files_that_are_not_read(self) -> None:
+        self.assertEqual(self.faults(), (f"f.txt:0:1: error: {WORDS[9]}\n", 1))
+        self.put(f'include "more.txt"\n{HEAD}the income = the weather\n')
+        self.assertEqual(self.faults(), (f"more.txt:0:1: error: {WORDS[9]}\n", 1))
+        (self.folder / "more.txt").write_bytes(b"the claimant is entitled if\n  \xff\n")
+        self.assertEqual(self.faults(), (f"more.txt:0:1: error: {WORDS[1]}\n", 1))
+
+    def test_an_error_of_a_further_file_and_of_a_table(self) -> None:
+        self.put(f'include "more.txt"\ntable "rates.csv"\n{HEAD}the income = the weather\n')
+        self.put("the claimant is an adult if\n  the day > 1\n", "more.txt")
+        self.put("the income,= the wether\n>= 3,1\notherwise,2\n", "rates.csv")
+        text, status = self.faults()
+        self.assertEqual((printed(text), status), ([(3, "f.txt", 14), (3, "more.txt", 2), (3, "rates.csv", 1)], 1))
+        self.assertTrue(text.endswith(f"\nrates.csv:1:1: error: {WORDS[3]}\n"))
 
     def test_a_hundred_at_most(self) -> None:
-        with tempfile.TemporaryDirectory() as folder:
-            for count in (99, 100, 101, 300):
-                Path(folder, "f.txt").write_text(HEAD + "the income = the weather\n" * count)
-                done = ran(RULES, "faults", "f.txt", folder=folder)
-                self.assertEqual(len(heads(done.stdout.decode())), min(count, 100), count)
+        for count in (99, 100, 101, 300):
+            self.put(HEAD + "the income = the weather\n" * count)
+            text, status = self.faults()
+            self.assertEqual((len(printed(text)), status), (min(count, 100), 1), count)
+
+    def test_ten_at_most_of_a_long_file(self) -> None:
+        for length, most in ((1048576, 20), (1048577, 10)):
+            text = HEAD + "the income = the weather\n" * 20
+            # Comments of at most 1,000 bytes fill the file.
+            rest = length - len(text)
+            text += ("#" * 999 + "\n") * (rest // 1000) + "#" * (rest % 1000)
+            self.put(text)
+            self.assertEqual(len(printed(self.faults()[0])), most, length)
 
     @unittest.skipUnless(os.access(OPA, os.X_OK), "OPA names no program")
-    def test_the_first_is_that_of_check_in_broken_rulebases(self) -> None:
+    def test_broken_rulebases_by_check(self) -> None:
+        """The whole text is what `opa check` finds one after another (tools/faults_by_check.py)."""
         chance = random.Random(57)
-        for turn in range(200):
-            name = chance.choice(["claimant.txt", "food.txt", "food_benefit.txt", "child_benefit.txt", "housing.txt"])
-            if not (EXAMPLES / name).exists():
-                continue
+        for turn in range(100):
+            name = chance.choice(BROKEN)
             lines = (EXAMPLES / name).read_text().split("\n")
-            place = chance.randrange(len(lines))
-            at = chance.randrange(len(lines[place]) + 1)
-            lines[place] = lines[place][:at] + chance.choice(["x", "  ", "(", "", '"']) + lines[place][at + chance.randrange(2) :]
-            with self.subTest(f"{turn} {name}:{place + 1}"), tempfile.TemporaryDirectory() as folder:
+            places = [chance.randrange(len(lines)) for _ in range(3)]
+            for place in places:
+                old, at = lines[place], chance.randrange(len(lines[place]) + 1)
+                put, rest = chance.choice(["x", "  ", "(", "", '"', "\t"]), old[at + chance.randrange(2) :]
+                lines[place] = old[:at] + put + rest
+            what = f"{turn} {name}:{[place + 1 for place in places]}"
+            with self.subTest(what), tempfile.TemporaryDirectory() as room:
                 for other in EXAMPLES.iterdir():
                     if other.suffix in (".txt", ".csv"):
-                        Path(folder, other.name).write_bytes(other.read_bytes())
-                Path(folder, name).write_text("\n".join(lines))
-                checked, done = ran(OPA, "check", name, folder=folder), ran(RULES, "faults", name, folder=folder)
-                told = REFUSED.fullmatch(checked.stdout.decode())
-                self.assertEqual(done.returncode, 1 if told else 0)
-                if told:
-                    self.assertTrue(done.stdout.decode().startswith(f"{told[2]}:{told[3]}:"))
-                    self.assertIn(KINDS[told[1]], heads(done.stdout.decode())[0])
+                        Path(room, other.name).write_bytes(other.read_bytes())
+                Path(room, name).write_text("\n".join(lines))
+                done = ran(RULES, "faults", name, folder=room)
+                text = done.stdout.decode()
+                # Without a line that names a file `opa check` would read other files.
+                named = [lines[line - 1] for _, file, line in printed(text) if file == name and line]
+                if not any(map(FILE_LINE.match, named)):
+                    wanted = "".join(error.text() for error in by_check(OPA, Path(room), name))
+                    self.assertEqual((text, done.returncode), (wanted, 1 if wanted else 0))
 
 
 if __name__ == "__main__":

@@ -21,7 +21,7 @@ use Rattle.opa_rulebase.specs.declared.fault.Unaccepted.{Unaccepted}
 use Rattle.opa_rulebase.specs.declared.fault.Unaccepted.TheVariants as unaccepted
 use Rattle.opa_rulebase.specs.declared.files.source.SourceFile.{SourceFile}
 use Rattle.opa_rulebase.specs.Loading.{IsPlain, IsCircleRefusal, table_files}
-use Rattle.opa_rules.specs.Faults.Blocks.{begins_at, without}
+use Rattle.opa_rules.specs.Faults.Blocks.{has_line, without}
 use Rattle.opa_rules.specs.Faults.Listing.{IsFirst, HasFirst, goes_on, AreListed, AreLater, AreFree}
 use Rattle.opa_rules.specs.Faults.Printed.{error_in}
 
@@ -31,7 +31,7 @@ short_lines [] h = All-nil IsShort
 short_lines (b ∷ bs) h = All-append IsShort b.lines (lines_of bs) (All-head (λ (b : Block). AreShort b.lines) b bs h) (short_lines bs (All-tail (λ (b : Block). AreShort b.lines) b bs h))
 
 pub short_without : (file line : ℕ) (blocks : List Block) → All (λ (b : Block). AreShort b.lines) blocks → All (λ (b : Block). AreShort b.lines) (without file line blocks)
-short_without file line blocks h = All-filter (λ b. not (begins_at file line b)) (λ (b : Block). AreShort b.lines) blocks h
+short_without file line blocks h = All-filter (λ b. not (has_line file line b)) (λ (b : Block). AreShort b.lines) blocks h
 
 module _ (tables : List TableFile) (blocks : List Block) where
   pub plain_first : (e : RbError) (u : Unaccepted) → IsPlain e u → ((f : RbFault) → e ≡ errors.Refused f → IsFirst tables blocks (record { fault = f; circle = [] })) → HasFirst tables blocks u

@@ -1,8 +1,8 @@
 // Every error of a rulebase that can be found: the first one as in loading, and then, over and over, the first one of what is
 // left when the block with the last one is left out.
 
+mod blocks;
 mod finding;
-mod leaving;
 mod listing;
 mod printed;
 mod telling;

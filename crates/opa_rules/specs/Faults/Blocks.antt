@@ -1,24 +1,34 @@
--- Blocks in which errors stand, and what is left without them.
-use Rattle.std.specs.Prelude.{ℕ, Bool, true, false, not, ◌&&◌, ◌||◌, ◌==◌, List, [], ◌∷◌, codes, filter, if◌then◌else◌, nat_eq}
+-- Blocks in which errors are, and what is left without them.
+use Rattle.std.specs.Prelude.{ℕ, Bool, true, false, not, ◌&&◌, ◌||◌, ◌==◌, nat_eq, if◌then◌else◌, List, [], ◌∷◌, codes, filter, find, Option}
+use Rattle.std.specs.List.{list_any, starts_with}
+use Rattle.std.specs.Option.{option_and_then}
 use Rattle.std.specs.Str.{bytes_eq}
-use Rattle.std.specs.List.{starts_with}
 use Rattle.opa_words.specs.declared.layout.block.Block.{Block}
 use Rattle.opa_words.specs.declared.layout.block.BlockLine.{BlockLine}
 
-abbrev pub heads : ℕ → List BlockLine → Bool
-heads line [] = false
-heads line (l ∷ ls) = l.line == line
+abbrev pub has_number : ℕ → BlockLine → Bool
+has_number line l = l.line == line
 
--- the block begins at this line of this file
-abbrev pub begins_at : ℕ → ℕ → Block → Bool
-begins_at file line b = b.file == file && heads line b.lines
+-- the block has this line of this file
+abbrev pub has_line : ℕ → ℕ → Block → Bool
+has_line file line b = b.file == file && list_any (has_number line) b.lines
 
+-- a line of a file, if it is laid out in one of the blocks
+abbrev pub line_at : ℕ → ℕ → List Block → Option BlockLine
+line_at file line blocks = option_and_then (λ b. find (has_number line) b.lines) (find (has_line file line) blocks)
+
+-- the blocks that don't have the line
 abbrev pub without : ℕ → ℕ → List Block → List Block
-without file line blocks = filter (λ b. not (begins_at file line b)) blocks
+without file line blocks = filter (λ b. not (has_line file line b)) blocks
 
--- the first line of a block that declares what other blocks speak of
+abbrev pub begins_with : List ℕ → List ℕ → Bool
+begins_with word text = starts_with nat_eq text word
+
+-- the first line of a block that says what other blocks speak of
 abbrev pub is_declaration : List ℕ → Bool
-is_declaration text = if bytes_eq text (codes "global") then true else (starts_with nat_eq text (codes "entity ") || starts_with nat_eq text (codes "verb "))
+is_declaration text =
+    if bytes_eq text (codes "global") then true else
+    (begins_with (codes "entity ") text || begins_with (codes "verb ") text || begins_with (codes "members ") text || begins_with (codes "include ") text || begins_with (codes "table ") text)
 
 abbrev pub declares_in : List BlockLine → Bool
 declares_in [] = false

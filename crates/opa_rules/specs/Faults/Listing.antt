@@ -18,7 +18,7 @@ use Rattle.opa_rulebase.specs.declared.fault.Unaccepted.TheVariants as unaccepte
 use Rattle.opa_rulebase.specs.declared.files.source.SourceFile.{SourceFile}
 use Rattle.opa_rulebase.specs.Files.Layouts.{faults_from, Begins}
 use Rattle.opa_rulebase.specs.Loading.{phrases_of, table_files, AreBlocks, IsRefused}
-use Rattle.opa_rules.specs.Faults.Blocks.{begins_at, declares, without}
+use Rattle.opa_rules.specs.Faults.Blocks.{has_line, declares, without}
 use Rattle.opa_rules.specs.Faults.Printed.{error_in}
 
 -- the blocks beside tables have no error
@@ -50,9 +50,9 @@ abbrev pub leaves : Option Block → Bool
 leaves None = false
 leaves (Some b) = not (declares b)
 
--- the block in which an error stands can be left out
+-- the block in which an error is can be left out
 abbrev pub goes_on : List Block → Refusal → Bool
-goes_on blocks w = leaves (find (begins_at w.fault.file w.fault.line) blocks)
+goes_on blocks w = leaves (find (has_line w.fault.file w.fault.line) blocks)
 
 -- The text of at most so many errors of the blocks: the first one, and then those of what is left without its block. Behind an
 -- error in a declaration none is looked for, since it might be one of what speaks of the declared.

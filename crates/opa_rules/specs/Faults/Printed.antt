@@ -1,7 +1,5 @@
 -- How errors are printed.
-use Rattle.std.specs.Prelude.{ℕ, ◌+◌, ◌*◌, ◌==◌, ◌&&◌, Bool, List, [], ◌∷◌, ◌++◌, codes, Option, Some, None, find}
-use Rattle.std.specs.List.{list_any}
-use Rattle.std.specs.Option.{option_and_then}
+use Rattle.std.specs.Prelude.{ℕ, ◌+◌, ◌*◌, List, [], ◌∷◌, ◌++◌, codes, Option, Some, None}
 use Rattle.std.specs.Fmt.{decimal}
 use Rattle.opa_words.specs.Names.{printed_name}
 use Rattle.opa_words.specs.declared.layout.block.Block.{Block}
@@ -11,18 +9,8 @@ use Rattle.opa_rulebase.specs.declared.files.source.SourceFile.{SourceFile}
 use Rattle.opa_rulebase.specs.Loading.{name_at}
 use Rattle.opa_rulebase.specs.Printed.{circle_lines}
 use Rattle.opa_tree.specs.declared.faults.RbFault.{RbFault}
+use Rattle.opa_rules.specs.Faults.Blocks.{line_at}
 use Rattle.opa_rules.specs.Faults.Words.{words_of}
-
-abbrev pub has_number : ℕ → BlockLine → Bool
-has_number line l = l.line == line
-
--- the block has this line of this file
-abbrev pub has_line : ℕ → ℕ → Block → Bool
-has_line file line b = b.file == file && list_any (has_number line) b.lines
-
--- a line of a file, if it is laid out in one of the blocks
-abbrev pub line_at : ℕ → ℕ → List Block → Option BlockLine
-line_at file line blocks = option_and_then (λ b. find (has_number line) b.lines) (find (has_line file line) blocks)
 
 -- counted from 1; two blanks or a tab are one level of indentation
 abbrev pub column_of : Option BlockLine → ℕ
@@ -32,7 +20,7 @@ column_of (Some l) = l.level * 2 + 1
 -- the line, and a mark below its first character
 abbrev pub source_of : Option BlockLine → List ℕ
 source_of None = []
-source_of (Some l) = codes "  " ++ (l.text ++ (10 ∷ codes "  ^" ++ 10 ∷ []))
+source_of (Some l) = codes "  " ++ (printed_name l.text ++ (10 ∷ codes "  ^" ++ 10 ∷ []))
 
 -- `FILE:LINE:COLUMN: error: WORDS`, the phrases of a circle, and the line
 abbrev pub error_text : List ℕ → RbFault → List (List ℕ) → Option BlockLine → List ℕ

@@ -1,15 +1,13 @@
 // The errors of blocks, one after another.
-ghost use Rattle.std.specs.Prelude.{◌≡◌, ◌++◌, ℕ, All, OnOk, List as Seq, find};
-ghost use Rattle.std.specs.Option.{option_copied};
+ghost use Rattle.std.specs.Prelude.{◌≡◌, ◌++◌, ℕ, All, OnOk, List as Seq};
 ghost use Rattle.std.specs.String.{string_bytes};
 ghost use Rattle.opa_parse.specs.Fronts.{AreShort};
 ghost use Rattle.opa_rulebase.specs.Loading.{table_files};
-ghost use Rattle.opa_rules.specs.Faults.Blocks.{begins_at as begins};
 ghost use Rattle.opa_rules.specs.Faults.Listing.{AreLater, AreListed, goes_on as goes_on_from};
 ghost use Rattle.opa_rules.specs.Faults.Printed.{error_in};
 
+use crate::faults::blocks::{block_with, declares, without};
 use crate::faults::finding::first_fault;
-use crate::faults::leaving::{begins_at, declares, without};
 use crate::faults::printed::push_error_in;
 use opa_io::{List, NoMemory};
 use opa_parse::TableFile;
@@ -17,17 +15,11 @@ use opa_rulebase::{Refusal, SourceFile, Unaccepted};
 use opa_words::Block;
 use std::alloc::Global;
 
-fn block_at(blocks: &[Block], file: u32, line: u32) -> Option<&Block>
-    ensures { option_copied result ≡ find (begins file line) blocks.now }
-{
-    blocks.iter().find(|block| begins_at(block, file, line))
-}
-
-/// Whether the block in which an error stands can be left out.
+/// Whether the block in which an error is can be left out.
 fn goes_on(blocks: &[Block], wrong: &Refusal) -> bool
     ensures { result ≡ goes_on_from blocks.now wrong.now }
 {
-    match block_at(blocks, wrong.fault.file, wrong.fault.line) {
+    match block_with(blocks, wrong.fault.file, wrong.fault.line) {
         None => false,
         Some(block) => !declares(block),
     }
