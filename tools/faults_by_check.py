@@ -25,7 +25,7 @@ WORDS = {
 PRINTED = re.compile(r"^(.*):(\d+):(\d+): error: (.*)$", re.M)
 DECLARES = re.compile(r"global$|(entity|verb|members|include|table) ")
 FILE_LINE = re.compile(r"(include|table) ")
-CONTROL = re.compile("[\x00-\x1f\x7f-\x9f]")
+CONTROL = re.compile(r"[\x00-\x1f\x7f]")
 MOST_FILE_LINES, MOST_LINE, MOST_LEVEL = 100, 65536, 64
 # How many errors are listed, and how many if a file is long.
 MOST, MOST_OF_LONG, LONG = 100, 10, 1048576
@@ -42,7 +42,8 @@ class Error(NamedTuple):
         """As `rules faults` prints it."""
         shown, column = "", 1
         if self.source is not None:
-            shown, column = f"  {CONTROL.sub('?', self.source.lstrip(" \t"))}\n  ^\n", 2 * (level(self.source) or 0) + 1
+            line = CONTROL.sub("?", self.source.lstrip(" \t"))
+            shown, column = f"  {line}\n  ^\n", 2 * (level(self.source) or 0) + 1
         return f"{self.file}:{self.line}:{column}: error: {WORDS[self.kind]}\n{self.circle}{shown}"
 
 
