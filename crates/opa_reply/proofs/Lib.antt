@@ -1,3 +1,4 @@
+mod AtHand
 mod Changing
 mod Leaving
 mod LoadLaws

@@ -97,3 +97,7 @@ answered_asked x y m line text read same says nothing out = answered Asks AsksNo
 pub answered_told : (x y : Held) (m : Lists) (q : Option Question) (line text : List ℕ) (read : Result Command CmdFault) → m ≡ x.rules.model → q ≡ next_of x.rules x.case
     → IfOk read (IsTold m q line) → IfErr read (IsNotTold m q line) → Responds read x text y → Answers Tells TellsNothing x line text y
 answered_told x y m q line text read same next says nothing out = answered Tells TellsNothing x y line text read (told_as x m q line read same next says nothing) out
+
+pub stopped_told : (keep keep' : ℕ) (x y : Held) (m : Lists) (q : Option Question) (line : List ℕ) (read : Result Command CmdFault) → m ≡ x.rules.model → q ≡ next_of x.rules x.case
+    → IfOk read (IsTold m q line) → IfErr read (IsNotTold m q line) → HaltsFrom keep keep' read x y → LeftBy (MayLeave keep keep' (StopsAt Tells) (LacksAt Tells)) x line y
+stopped_told keep keep' x y m q line read same next says nothing halts = stopped Tells TellsNothing keep keep' x y line read (told_as x m q line read same next says nothing) halts

@@ -2,7 +2,8 @@ pub mod Dismissals
 pub mod Held
 pub mod Interviews
 pub mod Lines
-pub mod Refused
 pub mod Loads
+pub mod Questions
+pub mod Refused
 pub mod Replies
 pub mod Reporting

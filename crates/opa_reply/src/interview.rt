@@ -1,5 +1,8 @@
 // A session as what asks, and answers the lines of an interview.
-ghost use Rattle.std.specs.Prelude.{◌≡◌, ◌≤◌, ◌+◌, List, Option, IfOk, IfErr, IfSome, Some};
+ghost use Rattle.std.proofs.Props.{props};
+ghost use Rattle.std.specs.Coded.{coded_option};
+ghost use Rattle.std.specs.Prelude.{◌≡◌, ◌≤◌, ◌+◌, false, List, Option, IfOk, IfErr, IfSome, None, Some};
+ghost use Rattle.opa_case.specs.contracts.question.Question as each;
 ghost use Rattle.opa_session.specs.Infer.Sessions.{rules_of, held_of, first_slots};
 ghost use Rattle.opa_io.specs.Outside.{Files};
 ghost use Rattle.opa_listen.specs.Hearing.{Hearer};
@@ -7,11 +10,13 @@ ghost use Rattle.opa_need.specs.Goals.{next_of};
 ghost use Rattle.opa_script.specs.Laws.{IsInRange};
 ghost use Rattle.opa_text.specs.Points.{HasAsked};
 ghost use Rattle.opa_reply.specs.Held.{Held as Holding, beside, at_first};
+ghost use Rattle.opa_reply.specs.Reporting.Asking.{is_over, prompt_told as prompt_text};
 ghost use Rattle.opa_reply.specs.Interviews.{interview, LacksAsked, StopsAsked, IsTold, IsNotTold};
+ghost use Rattle.opa_reply.specs.Questions.{IsAtHand, alters, brings, loads, no_text};
 
 use crate::carrying::respond;
 use crate::lines::{is_long_reply, text_of};
-use crate::reporting::prompt_told;
+use crate::reporting::{Prompt as Prompted, prompt_asking, prompt_told};
 use opa_case::Question;
 use opa_io::{NoMemory, Shelf, Steps};
 use opa_listen::Listener;
@@ -25,10 +30,13 @@ use opa_tree::Rulebase;
 use std::alloc::Global;
 use std::sync::ledger::Ledger;
 
-/// A session that asks: each line replies to the question that is asked, or is a command behind a slash.
+/// A session that asks: each line replies to the question that is asked, or is a command behind a slash. The question
+/// stands beside the session from the line on that led to it, unless memory for it was lacking.
 #[derive(Drop)]
 pub struct Interview<L: Ledger> {
     session: Session<L>,
+    asked: Option<Option<Question>>,
+    ghost next: { IsAtHand (rules_of session) (held_of session) asked } by { Prim.hlevel (props, coded_option, each.the_row.coded) },
 }
 
 impl<L: Ledger> Interview<L> {
@@ -43,7 +51,8 @@ impl<L: Ledger> Interview<L> {
         ensures bound { steps.new ≤ steps.old + first_slots base }
     {
         let session = Session::start(alloc, base, steps)?;
-        Ok(Interview { session })
+        let asked = at_hand(alloc, &session);
+        Ok(Interview { session, asked })
     }
 }
 
@@ -89,6 +98,116 @@ fn question<L: Ledger>(alloc: Global, session: &Session<L>) -> Result<Option<Que
     Ok(asked)
 }
 
+/// The question that is asked next, or nothing for want of memory.
+#[tactic(auto, using(crate::proofs::AtHand::handing))]
+fn at_hand<L: Ledger>(alloc: Global, session: &Session<L>) -> Option<Option<Question>>
+    ensures { IsAtHand (rules_of session.now) (held_of session.now) result }
+{
+    match question(alloc, session) {
+        Ok(asked) => Some(asked),
+        Err(_) => None,
+    }
+}
+
+/// What stands before a line.
+fn prompted<L: Ledger>(
+    alloc: Global,
+    session: &Session<L>,
+    asked: &Option<Option<Question>>,
+) -> Result<Prompted, NoMemory>
+    requires { IsAtHand (rules_of session.now) (held_of session.now) asked.now }
+    ensures text { IfOk result (λ p. p.text.items ≡ prompt_text (rules_of session.now) (held_of session.now)) }
+    ensures over { IfOk result (λ p. p.over ≡ is_over (rules_of session.now) (held_of session.now)) }
+{
+    match asked {
+        None => prompt_told(alloc, session, session.frees()),
+        Some(asked) => prompt_asking(alloc, session, session.frees(), asked),
+    }
+}
+
+/// Takes the question that is asked next, and leaves none at hand.
+fn taken<L: Ledger>(
+    alloc: Global,
+    session: &Session<L>,
+    asked: &mut Option<Option<Question>>,
+) -> Result<Option<Question>, NoMemory>
+    requires { IsAtHand (rules_of session.now) (held_of session.now) asked.old }
+    ensures next { IfOk result (λ q. q ≡ next_of (rules_of session.now) (held_of session.now)) }
+    ensures declared { IfOk result (λ q. IfSome q (HasAsked (rules_of session.now).model)) }
+    ensures none { asked.new ≡ None }
+{
+    match asked.take() {
+        None => question(alloc, session),
+        Some(asked) => {
+            is_declared(session, &asked);
+            Ok(asked)
+        }
+    }
+}
+
+/// What is asked next is declared.
+fn is_declared<L: Ledger>(session: &Session<L>, asked: &Option<Question>)
+    requires { asked.now ≡ next_of (rules_of session.now) (held_of session.now) }
+    ensures { IfSome asked.now (HasAsked (rules_of session.now).model) }
+{
+    next_is_declared();
+    // The case fits the rulebase.
+    let _case = session.case();
+}
+
+/// The question that is asked next after a line: the same where the line brought no other case.
+fn asked_after<L: Ledger>(
+    alloc: Global,
+    session: &Session<L>,
+    before: Option<Question>,
+    may_bring: bool,
+) -> Option<Option<Question>>
+    requires { may_bring ≡ false → before ≡ next_of (rules_of session.now) (held_of session.now) }
+    ensures { IsAtHand (rules_of session.now) (held_of session.now) result }
+{
+    if may_bring {
+        at_hand(alloc, session)
+    } else {
+        Some(before)
+    }
+}
+
+/// Whether what was read names a file to load.
+fn is_load(read: &Result<Command, CmdFault>) -> bool
+    ensures { result ≡ loads read.now }
+{
+    match read {
+        Err(_) => false,
+        Ok(command) => matches!(command, Command::Load(_)),
+    }
+}
+
+/// Whether what was read is a change.
+fn is_change(read: &Result<Command, CmdFault>) -> bool
+    ensures { result ≡ alters read.now }
+{
+    match read {
+        Err(_) => false,
+        Ok(command) => matches!(command, Command::Change(_)),
+    }
+}
+
+/// Whether a line may have brought another case: it named a file to load, or was a change that wasn't refused.
+fn may_bring(load: bool, change: bool, text: &[u8]) -> bool
+    ensures { result ≡ brings load change text.now }
+{
+    load || change && is_nothing(text)
+}
+
+fn is_nothing(text: &[u8]) -> bool
+    ensures { result ≡ no_text text.now }
+{
+    match text {
+        [] => true,
+        [_, ..] => false,
+    }
+}
+
 impl<L: Ledger> Replier<L> for Interview<L> {
     ghost Held = { Holding };
 
@@ -101,14 +220,14 @@ impl<L: Ledger> Replier<L> for Interview<L> {
     ghost held = { λ c hearers files steps. beside c.session hearers files steps };
 
     fn prompt(&self, alloc: Global) -> Result<Prompt, NoMemory> {
-        let told = prompt_told(alloc, &self.session, self.session.frees())?;
+        let told = prompted(alloc, &self.session, &self.asked)?;
         Ok(Prompt {
             text: told.text,
             is_over: told.over,
         })
     }
 
-    #[tactic(auto, using(crate::proofs::ReplyLaws::replying))]
+    #[tactic(auto, using(crate::proofs::ReplyLaws::replying, crate::proofs::AtHand::handing))]
     fn reply<F: Shelf>(
         &mut self,
         alloc: Global,
@@ -117,8 +236,13 @@ impl<L: Ledger> Replier<L> for Interview<L> {
         steps: &mut Steps<L>,
         line: &[u8],
     ) -> Result<Vec<u8>, Halt> {
-        let asked = question(alloc, &self.session)?;
+        let asked = taken(alloc, &self.session, &mut self.asked)?;
         let read = told(alloc, &self.session.base().model, &asked, line);
-        respond(alloc, &mut self.session, shelf, listeners, steps, read)
+        let load = is_load(&read);
+        let change = is_change(&read);
+        let text = respond(alloc, &mut self.session, shelf, listeners, steps, read)?;
+        let may = may_bring(load, change, text.as_slice());
+        self.asked = asked_after(alloc, &self.session, asked, may);
+        Ok(text)
     }
 }

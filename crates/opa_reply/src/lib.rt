@@ -18,6 +18,6 @@ pub use interview::Interview;
 pub use lines::{bytes_of, text_of};
 pub use refused::{refused_change, refused_command};
 pub use reporting::{
-    Prompt, goals_told, names_told, next_told, one_report_told, prompt_told, report_told,
-    screen_told, stats_told, value_told,
+    Prompt, goals_told, names_told, next_told, one_report_told, prompt_asking, prompt_told,
+    report_told, screen_told, stats_told, value_told,
 };

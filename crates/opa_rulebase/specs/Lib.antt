@@ -1,4 +1,4 @@
 pub mod Printed
 pub mod Loading
-pub mod Check
+pub mod Checking
 pub mod Files

@@ -10,12 +10,12 @@ ghost use Rattle.opa_rulebase.specs.Files.Layouts.{IsShort};
 ghost use Rattle.opa_verbs.specs.Phrasing.{IsReadable};
 ghost use Rattle.opa_parse.specs.Fronts.{AreShort};
 ghost use Rattle.opa_parse.specs.Handed.{AreFormed, AreDeclared};
-ghost use Rattle.opa_rulebase.specs.Check.Refused.{IsRefused as IsCheckFault};
+ghost use Rattle.opa_rulebase.specs.Checking.Refused.{IsRefused as IsCheckFault};
 ghost use Rattle.opa_rulebase.specs.declared.fault.Refusal.{Refusal as RefusalView};
 ghost use Rattle.opa_rulebase.specs.declared.fault.Unaccepted.TheVariants.{Refused};
 ghost use Rattle.opa_rulebase.specs.Loading.{AreBlocks, IsDeclared, AreInferred, IsAccepted, HasRefusal, phrase_at, phrases_of, IsCircleRefusal, IsPlain};
 
-use crate::check::check;
+use crate::checking::check;
 use crate::fault::{Refusal, Unaccepted};
 use crate::files::{SourceFile, lay_out};
 use crate::ruled::ruled_of;

@@ -2,7 +2,7 @@
 #![tactic(auto)]
 
 mod accepting;
-pub mod check;
+pub mod checking;
 mod fault;
 pub mod files;
 mod loading;
@@ -11,7 +11,7 @@ mod ruled;
 mod tables;
 
 pub use accepting::{accept, with_circle, without_circle};
-pub use check::{accepted_are_not_refused, check, circles_are_round, ranks_exist};
+pub use checking::{accepted_are_not_refused, check, circles_are_round, ranks_exist};
 pub use fault::{LoadError, Refusal, Unaccepted};
 pub use files::{FileLine, SourceFile, TakeError, Unread, file_lines, lay_out, take_files};
 pub use loading::load_rulebase;

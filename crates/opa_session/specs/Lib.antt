@@ -1,5 +1,5 @@
 pub mod Store
-pub mod Settle
+pub mod Settlement
 pub mod Readers
-pub mod Changes
+pub mod Telling
 pub mod Infer

@@ -12,7 +12,7 @@ use Rattle.opa_mean.specs.Changes.{changes}
 use Rattle.opa_mean.specs.Given.{base_of, facts_of}
 use Rattle.opa_listen.specs.declared.change.Change.{Change}
 use Rattle.opa_listen.specs.Hearing.{Hearer, hearing, words_of}
-use Rattle.opa_session.specs.Changes.Telling.{ToldOnce}
+use Rattle.opa_session.specs.Telling.Telling.{ToldOnce}
 use Rattle.opa_session.specs.Infer.Sessions.{reached}
 use Rattle.opa_script.specs.declared.command.Command.{Command}
 use Rattle.opa_script.specs.declared.command.Command.TheVariants as command

@@ -9,11 +9,11 @@ use Rattle.opa_tree.specs.declared.faults.RbKind.{RbKind}
 use Rattle.opa_tree.specs.declared.rules.Rule.{Rule}
 use Rattle.opa_tree.specs.FirstFaults.{first_fault}
 use Rattle.opa_tree.specs.Rules.{rule_of}
-use Rattle.opa_rulebase.specs.Check.Circles as c
-use Rattle.opa_rulebase.specs.Check.Circles.{IsLeft, IsTaken, IsFirstLeft, Circles, IsLeastLeft, HasCircle, from_visit}
-use Rattle.opa_rulebase.specs.Check.Faults.{rule_faults}
-use Rattle.opa_rulebase.specs.Check.Refused.{IsRefusedBy}
-use Rattle.opa_rulebase.proofs.check.AcceptedLaws.{accepted_are_not_refused_holds, not_both}
+use Rattle.opa_rulebase.specs.Checking.Circles as c
+use Rattle.opa_rulebase.specs.Checking.Circles.{IsLeft, IsTaken, IsFirstLeft, Circles, IsLeastLeft, HasCircle, from_visit}
+use Rattle.opa_rulebase.specs.Checking.Faults.{rule_faults}
+use Rattle.opa_rulebase.specs.Checking.Refused.{IsRefusedBy}
+use Rattle.opa_rulebase.proofs.checking.AcceptedLaws.{accepted_are_not_refused_holds, not_both}
 use Rattle.opa_laws.specs.Decided.Checking.{OneCircle, OneCheckFault, RulebasesAreNotRefused}
 
 -- ---- the least attribute that is left

@@ -1,7 +1,7 @@
 -- A line of an interview has one reply.
 use Rattle.std.proofs.Common.{◌≡◌, ◌≢◌, ℕ, List, inl, inr, sym, ◌∙◌}
 use Rattle.std.specs.Prelude.{Option, None, Some}
-use Rattle.opa_session.specs.Changes.Telling.{ToldOnce}
+use Rattle.opa_session.specs.Telling.Telling.{ToldOnce}
 use Rattle.opa_model.specs.declared.lists.Lists.{Lists}
 use Rattle.opa_case.specs.declared.question.Question.{Question}
 use Rattle.opa_reply.specs.Reporting.Laws.{OneReportTold}

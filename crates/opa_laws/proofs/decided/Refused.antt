@@ -12,7 +12,7 @@ use Rattle.opa_decl.specs.Declarations.{Declares, IsFirstFault}
 use Rattle.opa_decl.proofs.OneReading.{one_model_holds, model_or_fault_holds}
 use Rattle.opa_parse.specs.Memberships.{AreInferences, AreRefused as IsMemberFault}
 use Rattle.opa_parse.specs.Tables.Whole.{AreAllRules, AreAllRefused}
-use Rattle.opa_rulebase.specs.Check.Refused.{IsRefused as IsCheckFault}
+use Rattle.opa_rulebase.specs.Checking.Refused.{IsRefused as IsCheckFault}
 use Rattle.opa_rulebase.specs.Loading as l
 use Rattle.opa_rulebase.specs.Loading.{AreBlocks, IsDeclared, AreInferred, IsAccepted, IsRefused, table_files, phrases_of}
 use Rattle.opa_laws.specs.Decided.Opening.{OneRefusal, AcceptedOrRefused}

@@ -1,6 +1,6 @@
 -- A line of a run has one reply.
 use Rattle.std.proofs.Common.{◌≡◌, ◌≢◌, ℕ, List, inl, inr, sym, ap, subst, ◌∙◌}
-use Rattle.opa_session.specs.Changes.Telling.{ToldOnce}
+use Rattle.opa_session.specs.Telling.Telling.{ToldOnce}
 use Rattle.opa_model.specs.declared.lists.Lists.{Lists}
 use Rattle.opa_reply.specs.Reporting.Laws.{OneReportTold}
 use Rattle.opa_script.specs.declared.command.Command.{Command}

@@ -5,8 +5,8 @@ use Rattle.opa_model.specs.declared.lists.Lists.{Lists}
 use Rattle.opa_tree.specs.declared.faults.RbFault.{RbFault}
 use Rattle.opa_tree.specs.declared.rulebase.Rulebase.{Rulebase}
 use Rattle.opa_tree.specs.declared.rules.Rule.{Rule}
-use Rattle.opa_rulebase.specs.Check.Circles.{Circles}
-use Rattle.opa_rulebase.specs.Check.Refused.{IsRefused}
+use Rattle.opa_rulebase.specs.Checking.Circles.{Circles}
+use Rattle.opa_rulebase.specs.Checking.Refused.{IsRefused}
 
 -- an attribute leads to at most one circle
 abbrev pub OneCircle : Type 0

@@ -41,12 +41,47 @@ pub fn prompt_told<H: Held>(alloc: Global, held: &H, frees: &Frees) -> Result<Pr
     }
 }
 
+/// The same, where the next question is at hand.
+pub fn prompt_asking<H: Held>(
+    alloc: Global,
+    held: &H,
+    frees: &Frees,
+    asked: &Option<Question>,
+) -> Result<Prompt, NoMemory>
+    requires frees { rulebase_of frees.now ≡ H.rules held.now }
+    requires asked { asked.now ≡ next_of (H.rules held.now) (H.held held.now) }
+    ensures text { IfOk result (λ p. p.text.items ≡ meant.prompt_told (H.rules held.now) (H.held held.now)) }
+    ensures over { IfOk result (λ p. p.over ≡ meant.is_over (H.rules held.now) (H.held held.now)) }
+    ensures known { IfOk result (λ p. IsTrue p.over ↔ AreAllKnown (H.rules held.now) (H.held held.now)) }
+{
+    let over = are_all_known(held, frees);
+    if over {
+        let text = goals_told(alloc, held, frees)?;
+        Ok(Prompt { text, over })
+    } else {
+        let text = asked_titled(alloc, held, asked)?;
+        Ok(Prompt { text, over })
+    }
+}
+
 /// The next question behind the title of its screen.
 fn next_titled<H: Held>(alloc: Global, held: &H) -> Result<Vec<u8>, NoMemory>
     ensures { IfOk result (λ t. t.items ≡ meant.titled_or (H.rules held.now).model (next_of (H.rules held.now) (H.held held.now))) }
 {
     let question = next(alloc, held)?;
-    match &question {
+    let text = asked_titled(alloc, held, &question)?;
+    Ok(text)
+}
+
+fn asked_titled<H: Held>(
+    alloc: Global,
+    held: &H,
+    asked: &Option<Question>,
+) -> Result<Vec<u8>, NoMemory>
+    requires { asked.now ≡ next_of (H.rules held.now) (H.held held.now) }
+    ensures { IfOk result (λ t. t.items ≡ meant.titled_or (H.rules held.now).model (next_of (H.rules held.now) (H.held held.now))) }
+{
+    match asked {
         None => Ok(Vec::new(alloc)),
         Some(question) => {
             is_declared(held, question);

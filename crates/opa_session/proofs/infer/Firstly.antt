@@ -28,8 +28,8 @@ use Rattle.opa_mean.proofs.Determining.{determined}
 use Rattle.opa_mean.proofs.Filtered.{Ordered, ordered_flat, map_out}
 use Rattle.opa_mean.proofs.LawsOver.{base}
 use Rattle.opa_mean.proofs.SlotsAre.{slots_are_live}
-use Rattle.opa_session.specs.Changes.Among.{ByRank}
-use Rattle.opa_session.proofs.changes.Rising.{ruled_rises}
+use Rattle.opa_session.specs.Telling.Among.{ByRank}
+use Rattle.opa_session.proofs.telling.Rising.{ruled_rises}
 use Rattle.opa_mean.specs.Reached.Settling.{Lines, AreCurrent, HaveKinds, NoLines, SameLines, Stages, laid, laid_look, laid_value}
 use Rattle.opa_mean.proofs.reached.Laying.{derived_right}
 use Rattle.opa_mean.proofs.reached.Looking.{line_right}

@@ -10,7 +10,7 @@ use Rattle.opa_mean.proofs.Everywhere.{in_map}
 use Rattle.opa_mean.specs.Rulebases.{IsOf}
 use Rattle.opa_mean.specs.Slots.{is_slot}
 use Rattle.opa_mean.proofs.Filtered.{map_out}
-use Rattle.opa_session.specs.Changes.Among.{DirtyHaveChanges, HaveChanges}
+use Rattle.opa_session.specs.Telling.Among.{DirtyHaveChanges, HaveChanges}
 use Rattle.opa_mean.specs.Reached.Dirty.{is_reached}
 use Rattle.opa_mean.specs.Reached.Settling.{AreSettled, Lines, is_slot_same, shift}
 use Rattle.opa_mean.specs.Reached.Slots.{pairs_of}

@@ -22,7 +22,7 @@ use Rattle.opa_mean.proofs.SameBoth.{sameness_is_exact}
 use Rattle.opa_mean.proofs.SlotsAre.{slots_are_live}
 use Rattle.opa_mean.specs.Reached.Dirty.{is_changed, is_fresh}
 use Rattle.opa_mean.specs.Reached.Settling.{IsByAnswers, NothingIsFresh, Waiting, is_given, shift}
-use Rattle.opa_session.specs.Settle.Starts.{AreTold, fresh_slots}
+use Rattle.opa_session.specs.Settlement.Starts.{AreTold, fresh_slots}
 use Rattle.opa_session.specs.Readers.Renewing.{AreAnswersTold}
 use Rattle.opa_session.proofs.readers.Renewed.{not_so}
 

@@ -28,8 +28,8 @@ use Rattle.opa_mean.specs.declared.reached.slot.Slot.{Slot}
 use Rattle.opa_mean.proofs.reached.ListsBegin.{lists_begin}
 use Rattle.opa_mean.proofs.reached.Parted.{parts_of, slot_is}
 use Rattle.opa_mean.proofs.reached.Staging.{still_slot}
-use Rattle.opa_session.specs.Settle.Tasks.{AreRanked, Marks, MarksLive, slots_of}
-use Rattle.opa_session.specs.declared.settle.task.Task.{Task}
+use Rattle.opa_session.specs.Settlement.Tasks.{AreRanked, Marks, MarksLive, slots_of}
+use Rattle.opa_session.specs.declared.settlement.task.Task.{Task}
 use Rattle.opa_session.specs.Store.Drops.{has_slot}
 use Rattle.opa_session.specs.Store.Owners.{ruled_of}
 use Rattle.opa_session.proofs.store.Owning.{in_ruled}

@@ -33,7 +33,7 @@ use Rattle.opa_tree.proofs.Members.{none_in, contains_head, contains_tail, conta
 use Rattle.opa_session.specs.Readers.Indexes.{Table, slots_at, readers_in}
 use Rattle.opa_session.specs.Readers.Renewing.{fresh_among, attr_at, rel_at, answer_told, newly_told, list_told, AreAnswersTold, AreGiven}
 use Rattle.opa_session.specs.declared.readers.index.Index.{Index}
-use Rattle.opa_session.proofs.settle.Marking.{pairs-append}
+use Rattle.opa_session.proofs.settlement.Marking.{pairs-append}
 
 -- ---- slots
 

@@ -22,9 +22,9 @@ use Rattle.opa_mean.proofs.reached.Causes.{witness}
 use Rattle.opa_mean.proofs.reached.Parted.{parts_of}
 use Rattle.opa_mean.specs.Slots.{is_slot}
 use Rattle.opa_mean.proofs.Everywhere.{in_map}
-use Rattle.opa_session.specs.Settle.Starts.{MarksReaders}
-use Rattle.opa_session.specs.Settle.Tasks.{Marks, slots_of}
-use Rattle.opa_session.specs.declared.settle.task.Task.{Task}
+use Rattle.opa_session.specs.Settlement.Starts.{MarksReaders}
+use Rattle.opa_session.specs.Settlement.Tasks.{Marks, slots_of}
+use Rattle.opa_session.specs.declared.settlement.task.Task.{Task}
 use Rattle.opa_tree.specs.declared.rulebase.Rulebase.{Rulebase}
 use Rattle.opa_tree.proofs.Members.{flat_in}
 use Rattle.opa_session.specs.Store.Owners.{ruled_of}

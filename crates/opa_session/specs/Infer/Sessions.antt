@@ -12,7 +12,7 @@ use Rattle.opa_listen.specs.Hearing.{Hearer, hearing}
 use Rattle.opa_tree.specs.declared.rulebase.Rulebase.{Rulebase}
 use Rattle.opa_mean.specs.Changes.{changes, dirty, slots}
 use Rattle.opa_mean.specs.Given.{base_of, facts_of}
-use Rattle.opa_session.specs.Changes.Telling.{TellsOf}
+use Rattle.opa_session.specs.Telling.Telling.{TellsOf}
 use Rattle.opa_session.specs.declared.infer.session.Session.{Session}
 
 abbrev pub rules_of : {L : Type 0} {G : Ghosts L} → Session L G → Rulebase

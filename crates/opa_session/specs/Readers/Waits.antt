@@ -10,8 +10,8 @@ use Rattle.opa_case.specs.declared.question.Question.{Question}
 use Rattle.opa_tree.specs.declared.rulebase.Rulebase.{Rulebase}
 use Rattle.opa_mean.specs.Reached.ByLists.{ReadsTold}
 use Rattle.opa_mean.specs.Reached.Settling.{Waiting}
-use Rattle.opa_session.specs.Settle.Tasks.{AreRanked, slots_of}
-use Rattle.opa_session.specs.declared.settle.task.Task.{Task}
+use Rattle.opa_session.specs.Settlement.Tasks.{AreRanked, slots_of}
+use Rattle.opa_session.specs.declared.settlement.task.Task.{Task}
 use Rattle.opa_session.specs.Store.Drops.{has_slot}
 
 -- Those slots wait besides.

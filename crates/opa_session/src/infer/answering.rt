@@ -12,7 +12,7 @@ ghost use Rattle.opa_session.specs.Store.Stores.{kept_of, staged_of};
 
 use crate::infer::session::Session;
 use crate::infer::settling::prepare_answer;
-use crate::settle::same_are_current;
+use crate::settlement::same_are_current;
 use crate::store::Store;
 use opa_case::{Case, InstanceId};
 use opa_io::{NoMemory, Steps};

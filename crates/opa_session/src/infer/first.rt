@@ -8,8 +8,8 @@ ghost use Rattle.opa_mean.specs.Given.{base_of, facts_of};
 ghost use Rattle.opa_mean.specs.Rulebases.{IsOf};
 ghost use Rattle.opa_session.specs.Store.Stores.{kept_of, staged_of};
 
-use crate::changes::live_slots;
 use crate::store::Store;
+use crate::telling::live_slots;
 use opa_case::{Case, InstanceId};
 use opa_code::Code;
 use opa_io::{NoMemory, Steps};

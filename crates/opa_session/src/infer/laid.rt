@@ -11,9 +11,9 @@ ghost use Rattle.opa_mean.specs.Rulebases.{IsOf};
 ghost use Rattle.opa_session.specs.Store.Stores.{kept_of, staged_of};
 ghost use Rattle.opa_value.specs.contracts.value.Value as each;
 
-use crate::changes::Lined;
 use crate::infer::told::told_line;
 use crate::store::{Next, Store};
+use crate::telling::Lined;
 use opa_case::{Case, InstanceId};
 use opa_io::{List, Txt};
 use opa_line::Line;

@@ -23,7 +23,7 @@ ghost use Rattle.opa_session.specs.Store.Stores.{kept_of, staged_of};
 
 use crate::infer::ready::{Ready, made_ready};
 use crate::readers::{Index, Renewal, begin_list, lists_told};
-use crate::settle::settle;
+use crate::settlement::settle;
 use crate::store::{Owners, Store};
 use opa_case::{
     Case, InstanceId, Refusal, Relisted, models_are_shapes, step_fits, step_keeps_containers,

@@ -9,9 +9,9 @@ ghost use Rattle.opa_session.specs.Store.Stores.{kept_of, staged_of};
 ghost use Rattle.opa_session.specs.Infer.Ready.{IsReady};
 ghost use Rattle.opa_session.specs.Infer.Sessions.{AreChanges};
 
-use crate::changes::{changes_over, dirty_have_changes};
 use crate::infer::laid::{Kept, Laid};
 use crate::store::{Next, Store};
+use crate::telling::{changes_over, dirty_have_changes};
 use opa_case::Case;
 use opa_io::NoMemory;
 use opa_listen::{Change, Listener, copies, ready_all};

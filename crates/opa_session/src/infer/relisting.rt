@@ -19,7 +19,7 @@ ghost use Rattle.opa_session.specs.Store.Stores.{kept_of, staged_of};
 use crate::infer::listing::{Prepared, prepare_list};
 use crate::infer::session::Session;
 use crate::readers::{Index, same_are_readers};
-use crate::settle::same_are_current;
+use crate::settlement::same_are_current;
 use crate::store::{Owners, Store, dropped_are_current};
 use opa_case::{Case, InstanceId, Refusal};
 use opa_io::{List, NoMemory, Steps, Txt};

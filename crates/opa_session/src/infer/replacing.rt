@@ -11,7 +11,7 @@ ghost use Rattle.opa_session.specs.Store.Stores.{kept_of, staged_of};
 use crate::infer::session::Session;
 use crate::infer::settling::prepare_change;
 use crate::readers::{Index, are_by_answers, begin, begin_answers};
-use crate::settle::same_are_current;
+use crate::settlement::same_are_current;
 use crate::store::Store;
 use opa_case::Case;
 use opa_io::{NoMemory, Steps};

@@ -6,7 +6,7 @@ ghost use Rattle.opa_mean.specs.Reached.Settling.{AreCurrent, AreReaders, AreSet
 ghost use Rattle.opa_listen.specs.Hearing.{hearer};
 ghost use Rattle.opa_mean.specs.Rulebases.{IsOf};
 ghost use Rattle.opa_session.specs.Readers.Indexes.{readers_in};
-ghost use Rattle.opa_session.specs.Settle.Tasks.{AreRanked, slots_of};
+ghost use Rattle.opa_session.specs.Settlement.Tasks.{AreRanked, slots_of};
 ghost use Rattle.opa_session.specs.Store.Nexts.{answered, case_with};
 ghost use Rattle.opa_session.specs.Store.Stores.{kept_of, staged_of};
 ghost use Rattle.opa_tree.specs.Rules.{rule_of};
@@ -15,7 +15,7 @@ ghost use Rattle.opa_session.specs.Infer.Sessions.{reached};
 
 use crate::infer::ready::{Ready, made_ready};
 use crate::readers::Index;
-use crate::settle::{Tasks, settle, settle_answer};
+use crate::settlement::{Tasks, settle, settle_answer};
 use crate::store::{Answered, Store};
 use opa_case::{Case, InstanceId};
 use opa_code::Code;

@@ -3,12 +3,12 @@ ghost use Rattle.std.specs.Prelude.{◌≡◌, true, IfOk};
 ghost use Rattle.opa_mean.specs.Reached.Settling.{AreReaders, IsBegun, IsByAnswers, shift};
 ghost use Rattle.opa_mean.specs.Rulebases.{IsOf};
 ghost use Rattle.opa_session.specs.Readers.Indexes.{readers_in};
-ghost use Rattle.opa_session.specs.Settle.Tasks.{AreRanked, slots_of};
+ghost use Rattle.opa_session.specs.Settlement.Tasks.{AreRanked, slots_of};
 
 use crate::readers::fresh::fresh_slots;
 use crate::readers::given::{answers_told, given_changes};
 use crate::readers::index::Index;
-use crate::settle::{Tasks, start_change};
+use crate::settlement::{Tasks, start_change};
 use opa_case::Case;
 use opa_io::NoMemory;
 use opa_mean::nothing_is_fresh;

@@ -1,13 +1,13 @@
 // The index of a case, from nothing.
 ghost use Rattle.std.specs.Prelude.{IfOk};
-ghost use Rattle.opa_session.specs.Changes.Reaching.{AreSlots};
+ghost use Rattle.opa_session.specs.Telling.Reaching.{AreSlots};
 ghost use Rattle.opa_mean.specs.Reached.Settling.{AreReaders};
 ghost use Rattle.opa_mean.specs.Rulebases.{IsOf};
 ghost use Rattle.opa_session.specs.Readers.Indexes.{readers_in, AreReadersAmong};
 
-use crate::changes::live_slots;
 use crate::readers::fill::{add_reader, no_readers};
 use crate::readers::index::Index;
+use crate::telling::live_slots;
 use opa_case::{Case, InstanceId};
 use opa_io::NoMemory;
 use opa_model::AttrId;

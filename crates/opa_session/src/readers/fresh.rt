@@ -1,6 +1,6 @@
 // The slots that another case makes new.
 ghost use Rattle.std.specs.Prelude.{◌≡◌, ◌∷◌, ◌++◌, [], true, IfOk, OnOk};
-ghost use Rattle.opa_session.specs.Changes.Reaching.{AreSlots};
+ghost use Rattle.opa_session.specs.Telling.Reaching.{AreSlots};
 ghost use Rattle.opa_mean.specs.Reached.Slots.{pairs_of};
 ghost use Rattle.opa_mean.specs.Changes.{slots as slots_of};
 ghost use Rattle.opa_mean.specs.Given.{base_of, facts_of};
@@ -8,7 +8,7 @@ ghost use Rattle.opa_mean.specs.Rulebases.{IsOf};
 ghost use Rattle.opa_mean.specs.Slots as place;
 ghost use Rattle.opa_session.specs.Readers.Renewing.{fresh_among as those};
 
-use crate::changes::{is_fresh, live_slots};
+use crate::telling::{is_fresh, live_slots};
 use opa_case::{Case, InstanceId};
 use opa_io::{List, NoMemory};
 use opa_mean::Slot;

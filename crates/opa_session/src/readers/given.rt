@@ -4,8 +4,8 @@ ghost use Rattle.opa_mean.specs.Rulebases.{IsOf};
 ghost use Rattle.opa_session.specs.Readers.Indexes.{readers_in};
 ghost use Rattle.opa_session.specs.Readers.Renewing.{answer_told, list_told, newly_told, AreAnswersTold, AreGiven};
 
-use crate::changes::{answer_differs, list_differs};
 use crate::readers::index::Index;
+use crate::telling::{answer_differs, list_differs};
 use opa_case::{Case, InstanceId, Question};
 use opa_io::{List, NoMemory};
 use opa_line::Line;

@@ -5,11 +5,11 @@ ghost use Rattle.opa_mean.specs.Reached.ByLists.{AreListsTold, IsByLists};
 ghost use Rattle.opa_mean.specs.Reached.Settling.{AreReaders, IsBegun, shift};
 ghost use Rattle.opa_session.specs.Readers.Indexes.{readers_in};
 ghost use Rattle.opa_session.specs.Readers.Waits.{IsLiveReader, IsOwnSlot, IsSlotOfOne, IsThisSlot, WaitsBesides};
-ghost use Rattle.opa_session.specs.Settle.Tasks.{AreRanked, slots_of};
+ghost use Rattle.opa_session.specs.Settlement.Tasks.{AreRanked, slots_of};
 ghost use Rattle.opa_session.specs.Store.Owners.{AreOwners};
 
 use crate::readers::index::Index;
-use crate::settle::{Reading, Tasks, mark_live, mark_one};
+use crate::settlement::{Reading, Tasks, mark_live, mark_one};
 use crate::store::{Owners, has_slot};
 use opa_case::{InstanceId, Question, Relisted};
 use opa_io::NoMemory;

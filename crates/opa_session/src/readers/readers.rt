@@ -6,7 +6,7 @@ ghost use Rattle.opa_mean.specs.Reached.Slots.{pairs_of, slots_in};
 ghost use Rattle.opa_session.specs.Readers.Indexes.{readers_in};
 
 use crate::readers::index::Index;
-use crate::settle::Reading;
+use crate::settlement::Reading;
 use opa_case::{InstanceId, Question};
 use opa_mean::{Readers, Slot};
 use opa_model::{AttrId, RelId};

@@ -7,14 +7,14 @@ ghost use Rattle.opa_mean.specs.Slots as place;
 ghost use Rattle.opa_session.specs.Readers.Indexes.{readers_in};
 ghost use Rattle.opa_session.specs.Readers.Renewals.{IsRenewal, relisting};
 ghost use Rattle.opa_session.specs.Readers.Touches.{AreRenewed, IsRenewed, reads_in};
-ghost use Rattle.opa_session.specs.Settle.Tasks.{slots_of};
+ghost use Rattle.opa_session.specs.Settlement.Tasks.{slots_of};
 ghost use Rattle.opa_session.specs.Store.Owners.{AreOwners};
 
 use crate::readers::difference::without;
 use crate::readers::index::Index;
 use crate::readers::renewal::{Renewal, Renewed};
 use crate::readers::touched::slots_touched;
-use crate::settle::Tasks;
+use crate::settlement::Tasks;
 use crate::store::Owners;
 use opa_case::{Case, InstanceId, Question, Relisted};
 use opa_io::{List, NoMemory};

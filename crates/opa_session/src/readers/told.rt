@@ -5,7 +5,7 @@ ghost use Rattle.opa_mean.specs.Reached.ByLists.{AreListsTold};
 ghost use Rattle.opa_mean.specs.Reached.Settling.{shift};
 ghost use Rattle.opa_session.specs.Readers.Renewing.{list_told};
 
-use crate::changes::same_names;
+use crate::telling::same_names;
 use opa_case::{Case, InstanceId, Question, Relisted};
 use opa_io::{List, NoMemory};
 use opa_model::RelId;

@@ -5,12 +5,12 @@ ghost use Rattle.opa_mean.specs.Reached.Slots.{pairs_of};
 ghost use Rattle.opa_session.specs.Readers.Indexes.{readers_in};
 ghost use Rattle.opa_session.specs.Readers.Renewals.{relisting};
 ghost use Rattle.opa_session.specs.Readers.Touches.{AreTouched, HaveTurned, slots_at_each};
-ghost use Rattle.opa_session.specs.Settle.Starts.{MarksReaders};
-ghost use Rattle.opa_session.specs.Settle.Tasks.{slots_of};
+ghost use Rattle.opa_session.specs.Settlement.Starts.{MarksReaders};
+ghost use Rattle.opa_session.specs.Settlement.Tasks.{slots_of};
 ghost use Rattle.opa_session.specs.Store.Owners.{AreOwners};
 
 use crate::readers::index::Index;
-use crate::settle::{Reading, Tasks, mark, mark_set};
+use crate::settlement::{Reading, Tasks, mark, mark_set};
 use crate::store::Owners;
 use opa_case::{InstanceId, Question, Relisted};
 use opa_io::{List, NoMemory};

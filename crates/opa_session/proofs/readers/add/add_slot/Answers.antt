@@ -1,4 +1,4 @@
-use Rattle.opa_session.proofs.settle.Adding.{no_ok}
+use Rattle.opa_session.proofs.settlement.Adding.{no_ok}
 use Rattle.opa_session.proofs.readers.SlotSets.{set_added_ok}
 use Rattle.opa_session.proofs.readers.add.add_slot.Goals as goal
 use Rattle.opa_session.proofs.readers.add.add_slot.Goals.{in-Ok, in-Err}

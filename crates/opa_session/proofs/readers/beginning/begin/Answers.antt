@@ -1,7 +1,7 @@
 use Rattle.std.proofs.Common.{List, ap, sym, ◌∙◌, subst}
 use Rattle.opa_case.specs.declared.question.Question.{Question}
 use Rattle.opa_mean.specs.Reached.Slots.{pairs_of}
-use Rattle.opa_session.specs.Settle.Starts.{AreTold}
+use Rattle.opa_session.specs.Settlement.Starts.{AreTold}
 use Rattle.opa_session.specs.Readers.Indexes.{readers_in}
 use Rattle.opa_session.proofs.readers.beginning.begin.Goals as goal
 

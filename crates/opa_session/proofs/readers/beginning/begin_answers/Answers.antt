@@ -1,6 +1,6 @@
 use Rattle.std.proofs.Common.{List, sym, subst}
 use Rattle.opa_case.specs.declared.question.Question.{Question}
-use Rattle.opa_session.specs.Settle.Starts.{AreTold}
+use Rattle.opa_session.specs.Settlement.Starts.{AreTold}
 use Rattle.opa_session.specs.Readers.Indexes.{readers_in}
 use Rattle.opa_session.proofs.readers.ByAnswers.{answers_tell, nothing_fresh}
 use Rattle.opa_session.proofs.readers.beginning.begin_answers.Goals as goal

@@ -1,6 +1,6 @@
 use Rattle.std.proofs.Common.{subst}
 use Rattle.opa_io.proofs.Places.{take_whole}
-use Rattle.opa_session.proofs.changes.Placed.{slot_at}
+use Rattle.opa_session.proofs.telling.Placed.{slot_at}
 use Rattle.opa_session.specs.Readers.Indexes.{readers_in, AreReadersAmong}
 use Rattle.opa_session.proofs.readers.Indexed.{among_none, among_next}
 use Rattle.opa_session.proofs.readers.build.among.Goals as goal

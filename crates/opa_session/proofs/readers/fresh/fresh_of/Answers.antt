@@ -1,6 +1,6 @@
 use Rattle.std.proofs.Common.{◌∙◌, ap}
 use Rattle.opa_io.proofs.Places.{take_whole}
-use Rattle.opa_session.proofs.changes.Placed.{slot_at}
+use Rattle.opa_session.proofs.telling.Placed.{slot_at}
 use Rattle.opa_session.specs.Readers.Renewing.{fresh_among}
 use Rattle.opa_session.proofs.readers.Renewed.{fresh_next}
 use Rattle.opa_session.proofs.readers.fresh.fresh_of.Goals as goal

@@ -1,5 +1,5 @@
 use Rattle.std.proofs.Common.{◌∙◌, ap}
-use Rattle.opa_session.proofs.changes.Walked.{are_slots}
+use Rattle.opa_session.proofs.telling.Walked.{are_slots}
 use Rattle.opa_session.specs.Readers.Renewing.{fresh_among}
 use Rattle.opa_session.proofs.readers.fresh.fresh_slots.Goals as goal
 

@@ -1,7 +1,7 @@
 use Rattle.std.proofs.Common.{ap}
 use Rattle.opa_case.specs.Overlays.{relisted_case}
 use Rattle.opa_mean.specs.Reached.Settling.{shift}
-use Rattle.opa_session.specs.Settle.Tasks.{slots_of}
+use Rattle.opa_session.specs.Settlement.Tasks.{slots_of}
 use Rattle.opa_session.specs.Readers.Indexes.{pair_of}
 use Rattle.opa_session.proofs.readers.AllRenewed.{renewed_next}
 use Rattle.opa_session.proofs.readers.renew.renewed_each.Goals as goal

@@ -2,7 +2,7 @@ use Rattle.std.proofs.Common.{length}
 use Rattle.opa_case.specs.Overlays.{relisted_case}
 use Rattle.opa_mean.specs.Reached.Settling.{shift}
 use Rattle.opa_session.specs.Readers.Touches.{AreRenewed}
-use Rattle.opa_session.specs.Settle.Tasks.{slots_of}
+use Rattle.opa_session.specs.Settlement.Tasks.{slots_of}
 use Rattle.opa_session.proofs.readers.renew.renewed_each.Given as goal
 
 abbrev pub invariant-loop-task : goal.invariant-loop-task

@@ -2,8 +2,8 @@ use Rattle.std.proofs.Common.{subst}
 use Rattle.std.specs.Option.{option_copied}
 use Rattle.opa_io.proofs.Places.{take_whole}
 use Rattle.opa_mean.specs.Reached.Slots.{slots_in}
-use Rattle.opa_session.specs.Settle.Starts.{MarksReaders}
-use Rattle.opa_session.proofs.settle.Changed.{readers_start, readers_one, readers_next}
+use Rattle.opa_session.specs.Settlement.Starts.{MarksReaders}
+use Rattle.opa_session.proofs.settlement.Changed.{readers_start, readers_one, readers_next}
 use Rattle.opa_session.specs.Readers.Indexes.{readers_in}
 use Rattle.opa_session.proofs.readers.touched.mark_readers.Goals as goal
 

@@ -1,5 +1,5 @@
 use Rattle.std.proofs.Common.{take}
-use Rattle.opa_session.specs.Settle.Starts.{MarksReaders}
+use Rattle.opa_session.specs.Settlement.Starts.{MarksReaders}
 use Rattle.opa_session.specs.Readers.Indexes.{readers_in}
 use Rattle.opa_session.proofs.readers.touched.mark_readers.Given as goal
 

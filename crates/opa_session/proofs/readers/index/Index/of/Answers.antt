@@ -1,6 +1,6 @@
 use Rattle.std.proofs.Common.{◌∙◌}
 use Rattle.opa_mean.proofs.SlotsAre.{slots_are_live}
-use Rattle.opa_session.proofs.changes.Walked.{are_slots}
+use Rattle.opa_session.proofs.telling.Walked.{are_slots}
 use Rattle.opa_session.specs.Readers.Indexes.{readers_in}
 use Rattle.opa_session.proofs.readers.Indexed.{readers_are}
 use Rattle.opa_session.proofs.readers.index.Index.of.Goals as goal

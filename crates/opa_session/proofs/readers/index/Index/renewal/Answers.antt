@@ -4,7 +4,7 @@ use Rattle.opa_case.specs.Overlays.{relisted_case}
 use Rattle.opa_mean.specs.Reached.Settling.{shift}
 use Rattle.opa_session.specs.Readers.Indexes.{readers_in}
 use Rattle.opa_session.specs.Readers.Touches.{AreRenewed}
-use Rattle.opa_session.specs.Settle.Tasks.{slots_of}
+use Rattle.opa_session.specs.Settlement.Tasks.{slots_of}
 use Rattle.opa_session.proofs.readers.AllRenewed.{renewal_is}
 use Rattle.opa_session.proofs.readers.index.Index.renewal.Goals as goal
 

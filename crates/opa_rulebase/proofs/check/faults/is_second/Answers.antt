@@ -1,5 +1,0 @@
-use Rattle.opa_rulebase.proofs.check.MarkLaws.{marks_more}
-use Rattle.opa_rulebase.proofs.check.faults.is_second.Goals as goal
-
-pub returns-clause-marked : goal.returns-clause-marked
-returns-clause-marked c count before are = marks_more count before c.args.rule.now c.args.marks.now.items are

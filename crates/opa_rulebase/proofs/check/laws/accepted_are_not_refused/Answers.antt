@@ -1,5 +1,0 @@
-use Rattle.opa_rulebase.proofs.check.AcceptedLaws.{accepted_are_not_refused_holds}
-use Rattle.opa_rulebase.proofs.check.laws.accepted_are_not_refused.Goals as goal
-
-pub returns : goal.returns
-returns c = accepted_are_not_refused_holds

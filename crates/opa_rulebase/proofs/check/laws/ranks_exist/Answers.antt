@@ -1,5 +1,0 @@
-use Rattle.opa_rulebase.proofs.check.ExistLaws.{ranks_exist_holds}
-use Rattle.opa_rulebase.proofs.check.laws.ranks_exist.Goals as goal
-
-pub returns : goal.returns
-returns c = ranks_exist_holds

@@ -1,6 +1,0 @@
-use Rattle.std.proofs.Common.{◌≡◌, ◌∙◌, ◌<◌, ℕ, length, arith}
-use Rattle.opa_rulebase.proofs.check.TakeLaws.{none_found}
-use Rattle.opa_rulebase.proofs.check.ranks.Ranking.none.Goals as goal
-
-pub returns : goal.returns
-returns c = none_found c.args.uses.now c.loop.ranks.items (omega (arith, c.loop.invariant.0, c.loop-test.false, c.loop.auto.counter-end)) (λ n lt. c.loop.invariant.1 n (omega (arith, lt, c.loop-test.false)))

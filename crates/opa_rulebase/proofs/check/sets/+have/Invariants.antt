@@ -1,5 +1,0 @@
-use Rattle.std.proofs.Common.{length}
-use Rattle.opa_rulebase.proofs.check.sets.+have.Given as goal
-
-abbrev pub decreases-have : goal.decreases-have
-decreases-have l = length l.kinds.now

@@ -1,6 +1,0 @@
-use Rattle.std.proofs.Common.{take}
-use Rattle.opa_session.specs.Changes.Among.{AreMarked}
-use Rattle.opa_session.proofs.changes.marks.marks_of.Given as goal
-
-abbrev pub invariant-loop-slot : goal.invariant-loop-slot
-invariant-loop-slot l = AreMarked (take l.slot-index l.slots) l.marks

@@ -1,4 +1,0 @@
-use Rattle.opa_session.proofs.changes.wanted.+add_upward.Given as goal
-
-abbrev pub decreases-add_upward : goal.decreases-add_upward
-decreases-add_upward g l = l.steps

@@ -1,6 +1,0 @@
-use Rattle.std.proofs.Common.{take}
-use Rattle.opa_session.specs.Settle.Starts.{MarksReaders}
-use Rattle.opa_session.proofs.settle.changing.mark_readers.Given as goal
-
-abbrev pub invariant-loop-question : goal.invariant-loop-question
-invariant-loop-question g l = MarksReaders l.base (g.R.Reading.reading l.reading) (take l.question-index l.told) l.fn.tasks l.tasks

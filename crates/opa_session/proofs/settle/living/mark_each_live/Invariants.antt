@@ -1,5 +1,0 @@
-use Rattle.opa_session.proofs.settle.MarkingLive.{LiveOnward}
-use Rattle.opa_session.proofs.settle.living.mark_each_live.Given as goal
-
-abbrev pub invariant-loop-slot : goal.invariant-loop-slot
-invariant-loop-slot g l = LiveOnward l.base (g.N.Next.next l.next) l.slots.keys l.slot-iterator l.fn.tasks l.tasks

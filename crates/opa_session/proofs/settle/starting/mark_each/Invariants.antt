@@ -1,5 +1,0 @@
-use Rattle.opa_session.proofs.settle.Marking.{MarksOnward}
-use Rattle.opa_session.proofs.settle.starting.mark_each.Given as goal
-
-abbrev pub invariant-loop-slot : goal.invariant-loop-slot
-invariant-loop-slot l = MarksOnward l.base l.slots.keys l.slot-iterator l.fn.tasks l.tasks

@@ -1,7 +1,0 @@
-// Lines that stay the same.
-ghost use Rattle.opa_session.specs.Settle.Sames.{SameAreCurrent};
-
-/// The same lines are current.
-pub fn same_are_current()
-    ensures { SameAreCurrent }
-{}

@@ -1,0 +1,103 @@
+// Wanted instances: those of slots, and whatever contains them.
+ghost use Rattle.std.specs.Prelude.{◌≡◌, ◌≢◌, ◌≤◌, ◌||◌, ℕ, Bool, false, List as Seq, IfOk, OnOk};
+ghost use Rattle.opa_case.specs.Homes.{has_name};
+ghost use Rattle.opa_cells.specs.Instances.{is_same, named};
+ghost use Rattle.opa_cells.specs.declared.instance.InstanceId.{InstanceId as InstanceView};
+ghost use Rattle.opa_session.specs.Telling.Wanted.{has_wanted, AddsUpward, AreWanted, IsClosedBut};
+
+use crate::telling::lined::Lined;
+use opa_case::InstanceId;
+use opa_io::{NoMemory, Txt};
+use opa_mean::Slot;
+use std::alloc::Global;
+use std::collections::BTreeMap;
+
+/// A set of instances, as a set of names for each entity: a name is looked up where it stands.
+#[derive(Drop)]
+pub(crate) struct Wanted {
+    names: BTreeMap<u32, BTreeMap<Txt, ()>>,
+}
+
+impl Wanted {
+    fn new(alloc: Global) -> Wanted
+        ensures { (i : InstanceView) → has_wanted result i ≡ false }
+    {
+        Wanted {
+            names: BTreeMap::new(alloc),
+        }
+    }
+
+    /// Whether the instance of an entity with a name is wanted.
+    pub(crate) fn has(&self, entity: u32, name: &Txt) -> bool
+        ensures { result ≡ has_wanted self.now (named entity name.now) }
+    {
+        match self.names.get(&entity) {
+            Some(names) => names.contains_key(name),
+            None => false,
+        }
+    }
+
+    fn insert(&mut self, alloc: Global, inst: &InstanceId) -> Result<(), NoMemory>
+        ensures { OnOk result ((i : InstanceView) → has_wanted self.new i ≡ (is_same i inst.now || has_wanted self.old i)) }
+    {
+        let entity = inst.entity.0;
+        let mut names = self.take_names(alloc, entity);
+        let name = inst.name.copy(alloc)?;
+        names.insert(name, ())?;
+        self.names.insert(entity, names)?;
+        Ok(())
+    }
+
+    /// Takes out the names of an entity.
+    fn take_names(&mut self, alloc: Global, entity: u32) -> BTreeMap<Txt, ()>
+        ensures taken { (n : Seq ℕ) → has_name result n ≡ has_wanted self.old (named entity n) }
+        ensures others { (i : InstanceView) → i.entity.0 ≢ entity → has_wanted self.new i ≡ has_wanted self.old i }
+    {
+        match self.names.remove(&entity) {
+            Some(names) => names,
+            None => BTreeMap::new(alloc),
+        }
+    }
+}
+
+/// The instances of slots, and whatever contains them.
+pub(crate) fn wanted_by<K: Lined>(
+    alloc: Global,
+    held: &K,
+    slots: &[Slot],
+) -> Result<Wanted, NoMemory>
+    ensures { IfOk result (λ wanted. AreWanted (K.over held.now).live slots.now (has_wanted wanted)) }
+{
+    let mut wanted = Wanted::new(alloc);
+    for slot in slots {
+        let steps = slot.inst.entity.0;
+        add_upward(alloc, held, &slot.inst, steps, &mut wanted)?;
+    }
+    Ok(wanted)
+}
+
+/// Adds an instance and whatever contains it. Each container is of an earlier entity.
+fn add_upward<K: Lined>(
+    alloc: Global,
+    held: &K,
+    inst: &InstanceId,
+    steps: u32,
+    wanted: &mut Wanted,
+) -> Result<(), NoMemory>
+    requires enough { inst.now.entity.0 ≤ steps }
+    requires closed { IsClosedBut (K.over held.now).live (has_wanted wanted.old) inst.now }
+    ensures { OnOk result (AddsUpward (K.over held.now).live (has_wanted wanted.old) (has_wanted wanted.new) inst.now) }
+{
+    if wanted.has(inst.entity.0, &inst.name) {
+        return Ok(());
+    }
+    wanted.insert(alloc, inst)?;
+    let _base = held.base();
+    match held.container_of(inst) {
+        Some(container) => {
+            add_upward(alloc, held, container, steps - 1, wanted)?;
+            Ok(())
+        }
+        None => Ok(()),
+    }
+}
