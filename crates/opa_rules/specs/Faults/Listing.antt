@@ -11,7 +11,7 @@ use Rattle.opa_decl.specs.Declarations.{Declares, IsFirstFault}
 use Rattle.opa_parse.specs.Memberships.{AreInferences, AreRefused as IsMemberFault}
 use Rattle.opa_parse.specs.declared.tables.whole.TableFile.{TableFile}
 use Rattle.opa_parse.specs.Tables.Whole.{AreAllRules, AreAllRefused}
-use Rattle.opa_rulebase.specs.Check.Refused.{IsRefused as IsCheckFault}
+use Rattle.opa_rulebase.specs.Checking.Refused.{IsRefused as IsCheckFault}
 use Rattle.opa_rulebase.specs.declared.fault.Refusal.{Refusal}
 use Rattle.opa_rulebase.specs.declared.fault.Unaccepted.{Unaccepted}
 use Rattle.opa_rulebase.specs.declared.fault.Unaccepted.TheVariants as unaccepted
