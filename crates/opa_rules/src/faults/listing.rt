@@ -45,7 +45,13 @@ fn push_errors(
         Ok(()) => Ok(()),
         Err(Unaccepted::NoMemory) => Err(NoMemory),
         Err(Unaccepted::Refused(wrong)) => {
-            push_from(alloc, out, files, tables, blocks, most - 1, &wrong)
+            push_error_in(alloc, out, files, blocks.as_slice(), &wrong)?;
+            if goes_on(blocks.as_slice(), &wrong) {
+                let left = without(blocks, wrong.fault.file, wrong.fault.line);
+                push_errors(alloc, out, files, tables, left, most - 1)
+            } else {
+                Ok(())
+            }
         }
     }
 }
