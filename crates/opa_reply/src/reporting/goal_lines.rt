@@ -74,7 +74,7 @@ fn state_line(alloc: Global, phrase: &Txt, what: &Txt, state: GoalState) -> Resu
         what.as_str(),
         state_text(state)
     )?;
-    Txt::from_str(alloc, text.as_str())
+    Ok(Txt::from_string(text))
 }
 
 fn state_text(state: GoalState) -> &'static str

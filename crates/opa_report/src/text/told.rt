@@ -157,5 +157,5 @@ pub(crate) fn first_line(
     let point = point_text(alloc, phrase, inst)?;
     let date = date_text(alloc, day)?;
     let text = format!(in alloc; "report {} at {}\n", point.as_str(), date.as_str())?;
-    Txt::from_str(alloc, text.as_str())
+    Ok(Txt::from_string(text))
 }

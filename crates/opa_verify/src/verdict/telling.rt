@@ -48,7 +48,7 @@ fn numbered(alloc: Global, number: u8, line: u32) -> Result<Txt, NoMemory>
     ensures { IfOk result (λ t. t ≡ refused_report number line) }
 {
     let text = format!(in alloc; "refused: report {number} {line}\n")?;
-    Txt::from_str(alloc, text.as_str())
+    Ok(Txt::from_string(text))
 }
 
 /// `supported: POINT at DATE is VALUE`
@@ -119,5 +119,5 @@ fn joined(alloc: Global, point: &Txt, date: &Txt, said: &Txt) -> Result<Txt, NoM
         date.as_str(),
         said.as_str()
     )?;
-    Txt::from_str(alloc, text.as_str())
+    Ok(Txt::from_string(text))
 }
