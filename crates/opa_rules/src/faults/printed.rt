@@ -14,7 +14,7 @@ use std::alloc::Global;
 
 /// Where the line begins, counted from 1: two blanks or a tab are one level of indentation.
 fn column(line: Option<&BlockLine>) -> u64
-    ensures { result ≡ column_of (option_copied line) }
+    ensures { result ≡ column_of (option_copied line.entry) }
 {
     match line {
         None => 1,
@@ -24,7 +24,7 @@ fn column(line: Option<&BlockLine>) -> u64
 
 /// Puts the line behind a text, with a mark below its first character.
 fn push_source(alloc: Global, out: &mut String, line: Option<&BlockLine>) -> Result<(), NoMemory>
-    ensures { OnOk result (string_bytes out.new ≡ string_bytes out.old ++ source_of (option_copied line)) }
+    ensures { OnOk result (string_bytes out.new ≡ string_bytes out.old ++ source_of (option_copied line.entry)) }
 {
     match line {
         None => Ok(()),
@@ -56,7 +56,7 @@ pub(crate) fn push_error(
     wrong: &Refusal,
     line: Option<&BlockLine>,
 ) -> Result<(), NoMemory>
-    ensures { OnOk result (string_bytes out.new ≡ string_bytes out.old ++ error_text name.now wrong.now.fault wrong.now.circle (option_copied line)) }
+    ensures { OnOk result (string_bytes out.new ≡ string_bytes out.old ++ error_text name.now wrong.now.fault wrong.now.circle (option_copied line.entry)) }
 {
     let name = printed_name(alloc, name)?;
     let circle = circle_lines(alloc, wrong.circle.as_slice())?;
