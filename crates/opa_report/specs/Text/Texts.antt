@@ -60,8 +60,11 @@ abbrev pub member_line : ℕ → List ℕ → InstanceId → InstanceId → List
 member_line n phrase container i = decimal n ++ (codes " member " ++ (point_text phrase container ++ (codes ": " ++ (quoted i.name ++ 10 ∷ []))))
 
 -- `report POINT at DATE`
+abbrev pub heading : List ℕ → List ℕ → List ℕ
+heading point date = codes "report " ++ (point ++ (codes " at " ++ (date ++ 10 ∷ [])))
+
 abbrev pub first_line : List ℕ → InstanceId → ℕ → List ℕ
-first_line phrase i d = codes "report " ++ (point_text phrase i ++ (codes " at " ++ (day_text d ++ 10 ∷ [])))
+first_line phrase i d = heading (point_text phrase i) (day_text d)
 
 -- what a line says is declared, and its days are of the calendar
 abbrev pub IsPrintable : Lists → ReportLine → Type 0

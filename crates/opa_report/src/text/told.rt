@@ -156,6 +156,12 @@ pub(crate) fn first_line(
 {
     let point = point_text(alloc, phrase, inst)?;
     let date = date_text(alloc, day)?;
+    heading(alloc, &point, &date)
+}
+
+fn heading(alloc: Global, point: &Txt, date: &Txt) -> Result<Txt, NoMemory>
+    ensures { IfOk result (λ t. t ≡ meant.heading point.now date.now) }
+{
     let text = format!(in alloc; "report {} at {}\n", point.as_str(), date.as_str())?;
     Ok(Txt::from_string(text))
 }
