@@ -69,9 +69,13 @@ pub record AreLater (files : List SourceFile) (most : ℕ) (blocks : List Block)
   pub last : goes_on blocks w ≡ false → more ≡ []
   pub left : goes_on blocks w ≡ true → AreListed files most (without w.fault.file w.fault.line blocks) more
 
+-- no file has more than 1 MiB
+abbrev pub are_short : List SourceFile → Bool
+are_short files = list_all (λ f. nat_le (length f.text) 1048576) files
+
 -- how many errors are listed at most behind the first: fewer where a file is long, since all is read anew for each
 abbrev pub most_listed : List SourceFile → ℕ
-most_listed files = if list_all (λ f. nat_le (length f.text) 1048576) files then 99 else 9
+most_listed files = if are_short files then 99 else 9
 
 -- The text of the errors of files: the first one as it is found in loading, and then later ones.
 pub data AreErrors (files : List SourceFile) : List ℕ → Type 0 where

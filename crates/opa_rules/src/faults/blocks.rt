@@ -1,5 +1,6 @@
 // The block in which an error is, whether others can be read without it, and what is left.
 ghost use Rattle.std.specs.Prelude.{◌≡◌, find};
+ghost use Rattle.std.specs.List.{list_any};
 ghost use Rattle.std.specs.Option.{option_copied};
 ghost use Rattle.opa_rules.specs.Faults.Blocks.{declares as declares_of, has_line as has_line_of, has_number, is_declaration as is_declaration_of, line_at as line_at_of, without as without_block};
 
@@ -10,7 +11,13 @@ use opa_words::{Block, BlockLine};
 fn has_line(block: &Block, file: u32, line: u32) -> bool
     ensures { result ≡ has_line_of file line block.now }
 {
-    block.file == file && block.lines.as_slice().iter().any(|laid| laid.line == line)
+    block.file == file && has_number_in(block.lines.as_slice(), line)
+}
+
+fn has_number_in(lines: &[BlockLine], line: u32) -> bool
+    ensures { result ≡ list_any (has_number line) lines.now }
+{
+    lines.iter().any(|laid| laid.line == line)
 }
 
 fn line_in(lines: &[BlockLine], line: u32) -> Option<&BlockLine>

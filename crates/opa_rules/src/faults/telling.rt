@@ -8,7 +8,7 @@ ghost use Rattle.opa_parse.specs.Fronts.{AreShort};
 ghost use Rattle.opa_rulebase.specs.Loading.{AreBlocks, IsRefused};
 ghost use Rattle.opa_rulebase.specs.declared.files.source.SourceFile.{SourceFile as FileView};
 ghost use Rattle.opa_rules.specs.Faults.Finding.{AreAccepted, Finds};
-ghost use Rattle.opa_rules.specs.Faults.Listing.{AreErrors, most_listed as most_listed_of};
+ghost use Rattle.opa_rules.specs.Faults.Listing.{AreErrors, are_short as are_short_files, most_listed as most_listed_of};
 ghost use Rattle.opa_rules.specs.Faults.Printed.{error_in, error_text};
 ghost use Rattle.opa_rules.specs.Promises.{outside, Faults};
 
@@ -27,11 +27,13 @@ use std::alloc::Global;
 fn most_listed(files: &[SourceFile]) -> usize
     ensures { result ≡ most_listed_of files.now }
 {
-    if files.iter().all(|file| file.text.as_str().len() <= 1048576) {
-        99
-    } else {
-        9
-    }
+    if are_short(files) { 99 } else { 9 }
+}
+
+fn are_short(files: &[SourceFile]) -> bool
+    ensures { result ≡ are_short_files files.now }
+{
+    files.iter().all(|file| file.text.as_str().len() <= 1048576)
 }
 
 /// The text of the errors of files that are laid out, of which the first is known.
