@@ -1,6 +1,6 @@
 -- What is found of blocks, phase by phase and one after another.
 use Rattle.std.proofs.lemmas.List.Elements.{All-nil, All-append, All-head, All-tail, All-filter}
-use Rattle.std.proofs.Common.{◌≡◌, ℕ, ◌+◌, ◌++◌, append-nil, Bool, true, false, List, [], ◌∷◌, All, not, Unit, Result, Ok, Err, IfOk, IfErr, refl, sym, ap, ◌∙◌, subst}
+use Rattle.std.proofs.Common.{◌≡◌, ℕ, ◌+◌, ◌-◌, ◌++◌, append-nil, append_assoc, arith, true, false, List, [], ◌∷◌, All, not, Result, Ok, Err, IfErr, refl, sym, ap, ◌∙◌, subst}
 use Rattle.opa_model.specs.declared.lists.Lists.{Lists as Model}
 use Rattle.opa_words.specs.declared.layout.block.Block.{Block}
 use Rattle.opa_words.specs.Layout.Blocks.{lines_of}
@@ -9,7 +9,6 @@ use Rattle.opa_tree.specs.declared.faults.RbError.TheVariants as errors
 use Rattle.opa_tree.specs.declared.faults.RbFault.{RbFault}
 use Rattle.opa_tree.specs.declared.rules.Inferred.{Inferred}
 use Rattle.opa_tree.specs.declared.rules.Rule.{Rule}
-use Rattle.opa_tree.specs.Accepted.{AreAccepted}
 use Rattle.opa_decl.specs.Declarations.{Declares}
 use Rattle.opa_parse.specs.Fronts.{AreShort}
 use Rattle.opa_parse.specs.Memberships.{AreInferences}
@@ -22,7 +21,7 @@ use Rattle.opa_rulebase.specs.declared.fault.Unaccepted.TheVariants as unaccepte
 use Rattle.opa_rulebase.specs.declared.files.source.SourceFile.{SourceFile}
 use Rattle.opa_rulebase.specs.Loading.{IsPlain, IsCircleRefusal, table_files}
 use Rattle.opa_rules.specs.Faults.Blocks.{has_line, without}
-use Rattle.opa_rules.specs.Faults.Listing.{IsFirst, HasFirst, goes_on, AreListed, AreLater, AreFree}
+use Rattle.opa_rules.specs.Faults.Listing.{IsFirst, HasFirst, AreFree, goes_on, AreListed}
 use Rattle.opa_rules.specs.Faults.Printed.{error_in}
 
 -- the lines of blocks of short lines are short
@@ -39,21 +38,41 @@ module _ (tables : List TableFile) (blocks : List Block) where
   plain_first errors.NoMemory u p h = subst (HasFirst tables blocks) (sym p) tt
 
   module _ (m : Model) (inferences : List Inferred) (rules : List Rule) (d : Declares blocks m) (i : AreInferences m blocks inferences) (r : AreAllRules m inferences blocks tables rules) where
-    pub free_by : AreAccepted m rules → AreFree tables blocks
-    free_by a = record { model = m; inferences = inferences; rules = rules; declares_it = d; infers = i; are_rules = r; accepted = a }
-
     pub circle_first : (u : Unaccepted) → IsCircleRefusal m rules u → HasFirst tables blocks u
     circle_first (unaccepted.Refused w) h = IsFirst.at_check m inferences rules d i r h.0 h.1
     circle_first unaccepted.NoMemory h = tt
 
-module _ (files : List SourceFile) (most : ℕ) (blocks : List Block) (w : Refusal) (more : List ℕ) (first : IsFirst (table_files 0 files) blocks w) (later : AreLater files most blocks w more) where
-  nothing_behind : more ≡ [] → error_in files blocks w ≡ error_in files blocks w ++ more
-  nothing_behind e = sym (append-nil (error_in files blocks w)) ∙ ap (λ t. error_in files blocks w ++ t) (sym e)
+    pub checked_first : {X : Type 0} (r : Result X Unaccepted) → IfErr r (IsCircleRefusal m rules) → IfErr r (HasFirst tables blocks)
+    checked_first (Ok x) h = tt
+    checked_first (Err u) h = circle_first u h
 
-  by_going : (b : Bool) → goes_on blocks w ≡ b → AreListed files (most + 1) blocks (error_in files blocks w ++ more)
-  by_going true e = AreListed.left most blocks w more first e (later.left e)
-  by_going false e = subst (AreListed files (most + 1) blocks) (nothing_behind (later.last e)) (AreListed.last most blocks w first e)
+-- some text is put behind another one, and it lists errors
+abbrev pub Puts : List SourceFile → ℕ → List Block → List ℕ → List ℕ → Type 0
+Puts files most blocks before after = (more : List ℕ) × (after ≡ before ++ more) × AreListed files most blocks more
 
-  -- an error, and what is listed behind it
-  pub first_then : AreListed files (most + 1) blocks (error_in files blocks w ++ more)
-  first_then = by_going (goes_on blocks w) refl
+pub none_listed : (files : List SourceFile) (most : ℕ) (blocks : List Block) (text : List ℕ) → most ≡ 0 → Puts files most blocks text text
+none_listed files most blocks text e = ([], sym (append-nil text), subst (λ n. AreListed files n blocks []) (sym e) (AreListed.enough blocks))
+
+-- one less, and one more
+pub less_one : (most : ℕ) → (most ≡ 0 → ⊥) → most - 1 + 1 ≡ most
+less_one most n = omega (arith, n)
+
+module _ (files : List SourceFile) (most : ℕ) (some : most ≡ 0 → ⊥) (tables : List TableFile) (taken blocks : List Block) (t : tables ≡ table_files 0 files) (e : taken ≡ blocks) where
+  pub free_listed : (text : List ℕ) → AreFree tables taken → Puts files most blocks text text
+  free_listed text f =
+      ([], sym (append-nil text), subst (λ n. AreListed files n blocks []) (less_one most some) (AreListed.free (most - 1) blocks (subst (AreFree (table_files 0 files)) e (subst (λ x. AreFree x taken) t f))))
+
+  module _ (u : Unaccepted) (w : Refusal) (is : u ≡ unaccepted.Refused w) (has : HasFirst tables taken u) where
+    found : IsFirst (table_files 0 files) blocks w
+    found = subst (λ b. IsFirst (table_files 0 files) b w) e (subst (λ x. IsFirst x taken w) t (subst (HasFirst tables taken) is has))
+
+    pub last_listed : (before after : List ℕ) → after ≡ before ++ error_in files blocks w → goes_on blocks w ≡ false → Puts files most blocks before after
+    last_listed before after p g = (error_in files blocks w, p, subst (λ n. AreListed files n blocks (error_in files blocks w)) (less_one most some) (AreListed.last (most - 1) blocks w found g))
+
+    pub left_listed : (before between after : List ℕ) (left : List Block) → between ≡ before ++ error_in files blocks w → goes_on blocks w ≡ true → left ≡ without w.fault.file w.fault.line blocks
+        → Puts files (most - 1) left between after → Puts files most blocks before after
+    left_listed before between after left p g l k = (
+      error_in files blocks w ++ k.0,
+      k.1 ∙ ap (λ x. x ++ k.0) p ∙ append_assoc before (error_in files blocks w) k.0,
+      subst (λ n. AreListed files n blocks (error_in files blocks w ++ k.0)) (less_one most some) (AreListed.left (most - 1) blocks w k.0 found g (subst (λ b. AreListed files (most - 1) b k.0) l k.2)),
+    )

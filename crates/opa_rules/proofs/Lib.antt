@@ -1,2 +1,3 @@
 pub mod DescribeLaws
 mod FaultLaws
+mod FindLaws
