@@ -149,6 +149,15 @@ class Faults(unittest.TestCase):
                 self.put(HEAD + rules)
                 self.assertEqual(self.faults(), ("".join(text_of(*each) for each in wanted), 1 if wanted else 0))
 
+    def test_the_example_of_the_pages(self) -> None:
+        """The list that GUIDE and REFERENCE print, of the library card with an `or` missing and a phrase wrong."""
+        rules = (EXAMPLES / "library.txt").read_text()
+        self.put(rules.replace("age > 65 or", "age > 65").replace("(the date of birth)", "(the day of birth)"), "library.txt")
+        listed, status = self.faults("library.txt")
+        self.assertEqual((status, listed.count(": error: ")), (1, 2))
+        for page in ("GUIDE", "REFERENCE"):
+            self.assertIn("".join(f"    {line}\n" for line in listed.splitlines()), (TOP / "docs" / f"{page}.md").read_text())
+
     def test_what_editors_are_tried_over(self) -> None:
         self.put(RULEBASE, "card.txt")
         self.assertEqual(self.faults("card.txt"), (OUTPUT, 1))
