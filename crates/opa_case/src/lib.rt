@@ -1,4 +1,4 @@
-//! What is held of one claimant: answers, known lists, and the instances that they make live.
+//! What is held of one claimant: answers, known lists, and the instances that they make live: for all that uses cases.
 #![tactic(auto)]
 
 mod answer_faults;

@@ -1,4 +1,4 @@
-//! Instances, and finite maps from pairs of a number and an instance.
+//! Instances, and finite maps from pairs of a number and an instance: for cases and what is kept of their instances.
 #![tactic(auto)]
 
 mod cells;

@@ -1,4 +1,4 @@
-//! The days from 1600-01-01 to 2399-12-31 by number: day 0 is 1600-01-01, and day 292,193 is 2399-12-31.
+//! The days from 1600-01-01 (day 0) to 2399-12-31 (day 292,193) by number: for lines and for texts of dates.
 #![tactic(auto)]
 
 mod civil;

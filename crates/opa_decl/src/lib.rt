@@ -1,4 +1,4 @@
-//! Declarations: the model that the blocks of rule files declare, or the first fault.
+//! Declarations: the model that the blocks of rule files declare, or the first fault: for loading.
 #![tactic(auto)]
 
 mod cut;

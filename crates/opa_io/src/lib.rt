@@ -1,4 +1,5 @@
-//! What the engine reads, writes and keeps, and the texts, lists and boxes that its contracts speak of.
+//! What the engine reads, writes and keeps, all limits, and the texts, lists and boxes that contracts speak of: for
+//! every crate.
 #![tactic(auto)]
 
 mod boxed;

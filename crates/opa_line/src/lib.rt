@@ -1,4 +1,4 @@
-//! Values over the days of the calendar, kept as their change points.
+//! Values over the days of the calendar, kept as their change points: for what is worked out over many days at once.
 #![tactic(auto)]
 
 mod builder;

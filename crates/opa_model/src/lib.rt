@@ -1,4 +1,5 @@
-//! What a rulebase declares: entities, attributes, relations, verbs, screens and goals.
+//! What a rulebase declares: entities, attributes, relations, verbs, screens and goals: for all crates that speak of a
+//! rulebase.
 #![tactic(auto)]
 
 mod ids;

@@ -1,4 +1,4 @@
-//! The grammar of a line of a rule: how it is read, and how a tree is printed as one.
+//! The grammar of a line of a rule, how it is read, and how a tree is printed as one: for loading and `opa_wording`.
 #![tactic(auto)]
 
 mod calls;

@@ -1,4 +1,4 @@
-//! The forms of a sentence: what is said, its negative, and the question for it.
+//! The forms of a sentence: what is said, its negative, and the question for it: for rules and for what is asked.
 #![tactic(auto)]
 
 mod sentence;

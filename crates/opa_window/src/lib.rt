@@ -1,5 +1,5 @@
-//! Functions over time. Each answers a line whose value at each day is the function's at that day; the work grows with
-//! the change points of the lines that it is given and of its answer, never with the days.
+//! Functions over time, for rules that look at many days. Each answers a line whose value at each day is the function's
+//! at that day; the work grows with the change points of the lines that it is given and of its answer, never with days.
 #![tactic(auto)]
 
 mod dates;

@@ -1,4 +1,5 @@
-//! The tokens of a text with their texts, texts that are written token by token, and the phrases that stand among tokens.
+//! The tokens of a text, phrases, texts that are written token by token, and the blocks that lines are laid out in: for
+//! who reads or writes lines.
 #![tactic(auto)]
 
 mod characters;
