@@ -21,24 +21,10 @@ impl<T> Line<T> {
         requires { MayJoin F.Fn f DAYS self.now other.now }
         ensures { IfOk result (EachDay (Joins F.Fn f self.now other.now) DAYS) }
     {
-        let xs = self.segments();
-        let ys = other.segments();
-        let mut out = Builder::new(alloc);
-        let mut x = &xs[0].1;
-        let mut y = &ys[0].1;
-        let mut left = &xs[1..];
-        let mut right = &ys[1..];
-        while let Some(day) = next_day(left, right) {
-            let value = f(x, y)?;
-            out.until(day, value)?;
-            x = reached_value(day, x, left);
-            y = reached_value(day, y, right);
-            left = reached_rest(day, left);
-            right = reached_rest(day, right);
+        match (self.only(), other.only()) {
+            (Some(x), Some(y)) => Line::constant(alloc, f(x, y)?),
+            _ => joined(alloc, self, other, f),
         }
-        let last = f(x, y)?;
-        out.until(DAYS, last)?;
-        Ok(out.finish())
     }
 }
 
@@ -54,18 +40,67 @@ impl<T> Line<T> {
         requires { MayMap F.Fn f DAYS self.now }
         ensures { IfOk result (EachDay (Maps F.Fn f self.now) DAYS) }
     {
-        let pairs = self.segments();
-        let mut out = Builder::new(alloc);
-        let mut value = &pairs[0].1;
-        let mut rest = &pairs[1..];
-        while let [next, after @ ..] = rest {
-            let answer = f(value)?;
-            out.until(next.0, answer)?;
-            value = &next.1;
-            rest = after;
+        match self.only() {
+            Some(value) => Line::constant(alloc, f(value)?),
+            None => mapped(alloc, self, f),
         }
-        let last = f(value)?;
-        out.until(DAYS, last)?;
-        Ok(out.finish())
     }
+}
+
+/// The same, day by day.
+fn joined<T, U, V: Same + Drop, F: Fn(&T, &U) -> Result<V, NoMemory>>(
+    alloc: Global,
+    first: &Line<T>,
+    second: &Line<U>,
+    f: F,
+) -> Result<Line<V>, NoMemory>
+where
+    F: Drop,
+    requires { MayJoin F.Fn f DAYS first.now second.now }
+    ensures { IfOk result (EachDay (Joins F.Fn f first.now second.now) DAYS) }
+{
+    let xs = first.segments();
+    let ys = second.segments();
+    let mut out = Builder::new(alloc);
+    let mut x = &xs[0].1;
+    let mut y = &ys[0].1;
+    let mut left = &xs[1..];
+    let mut right = &ys[1..];
+    while let Some(day) = next_day(left, right) {
+        let value = f(x, y)?;
+        out.until(day, value)?;
+        x = reached_value(day, x, left);
+        y = reached_value(day, y, right);
+        left = reached_rest(day, left);
+        right = reached_rest(day, right);
+    }
+    let last = f(x, y)?;
+    out.until(DAYS, last)?;
+    Ok(out.finish())
+}
+
+/// The same, pair by pair.
+fn mapped<T, U: Same + Drop, F: Fn(&T) -> Result<U, NoMemory>>(
+    alloc: Global,
+    line: &Line<T>,
+    f: F,
+) -> Result<Line<U>, NoMemory>
+where
+    F: Drop,
+    requires { MayMap F.Fn f DAYS line.now }
+    ensures { IfOk result (EachDay (Maps F.Fn f line.now) DAYS) }
+{
+    let pairs = line.segments();
+    let mut out = Builder::new(alloc);
+    let mut value = &pairs[0].1;
+    let mut rest = &pairs[1..];
+    while let [next, after @ ..] = rest {
+        let answer = f(value)?;
+        out.until(next.0, answer)?;
+        value = &next.1;
+        rest = after;
+    }
+    let last = f(value)?;
+    out.until(DAYS, last)?;
+    Ok(out.finish())
 }

@@ -1,5 +1,5 @@
 // A line: its form, its pairs and its values.
-ghost use Rattle.std.specs.Prelude.{◌≡◌, ◌<◌, ◌∷◌, [], Some, IfOk};
+ghost use Rattle.std.specs.Prelude.{◌≡◌, ◌<◌, ◌∷◌, [], ℕ, Some, IfOk, IfSome};
 ghost use Rattle.opa_line.specs.Lines.{at, IsLine, StandsFor};
 
 use opa_date::DAYS;
@@ -57,6 +57,16 @@ impl<T> Line<T> {
         match &self.held {
             Held::One(pair) => pair,
             Held::Many(pairs) => pairs.as_slice(),
+        }
+    }
+
+    /// The value at every day, where the line has no change point.
+    pub fn only(&self) -> Option<&T>
+        ensures { IfSome result (λ v. (d : ℕ) → at self.now d ≡ Some v.now) }
+    {
+        match self.segments() {
+            [pair] => Some(&pair.1),
+            _ => None,
         }
     }
 

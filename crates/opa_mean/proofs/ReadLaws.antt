@@ -1,5 +1,5 @@
 -- What each sort of tree can look at.
-use Rattle.std.proofs.Common.{◌≡◌, ℕ, Bool, List, [], ◌∷◌, ◌++◌, Option, None, Some, refl, sym, ◌∙◌, ap}
+use Rattle.std.proofs.Common.{◌≡◌, ℕ, Bool, List, [], ◌∷◌, ◌++◌, Option, None, Some, length, refl, sym, ◌∙◌, ap, arith}
 use Rattle.std.specs.Prelude.{map, flat_map}
 use Rattle.opa_value.specs.declared.value.Value.{Value}
 use Rattle.opa_model.specs.declared.ids.AttrId.{AttrId}
@@ -93,5 +93,11 @@ module _ (s : Shape) (members : Lists) (container : InstanceId → Option Instan
 
   pub reads-Table : (rs : List Row) (last : Expr) (enclosing : List InstanceId) → reads s members container (V.Table rs last) enclosing ≡ rows_reads s members container rs enclosing ++ reads s members container last enclosing
   reads-Table rs last enclosing = at (Table rs last) _ (V.rolls-Table rs last) enclosing ∙ ap (λ qs. qs ++ reads s members container last enclosing) (rows rs enclosing)
+
+  -- no tree looks at anything, whatever is listed
+  pub no_tree_reads : (es : List Expr) (t : ℕ) (names : List (List ℕ)) (enclosing : List InstanceId) → length es ≡ 0 → flat_map (λ n. trees_reads s members container es (named t n ∷ enclosing)) names ≡ []
+  no_tree_reads [] t [] enclosing none = refl
+  no_tree_reads [] t (n ∷ names) enclosing none = no_tree_reads [] t names enclosing none
+  no_tree_reads (e ∷ es) t names enclosing none = absurd (omega (arith, none))
 
 pub ruleset read_laws = (reads-Const, reads-Attr, reads-All, reads-Any, reads-Not, reads-Op, reads-Certain, reads-Known, reads-Over, reads-Window, reads-Rolling, reads-Table)

@@ -87,7 +87,7 @@ fn gather_all<K: Look>(
     Ok(())
 }
 
-/// Adds what several trees can look at for each listed instance.
+/// Adds what several trees can look at for each listed instance. Where there is no tree, no instance is looked at.
 #[cycle(walk)]
 fn gather_listed<K: Look>(
     alloc: Global,
@@ -101,6 +101,9 @@ fn gather_listed<K: Look>(
 ) -> Result<(), NoMemory>
     ensures { OnOk result (found.new ≡ found.old ++ flat_map (λ n. trees_reads (shape_of model.now) (K.looks look.now).members (K.looks look.now).container trees.now (named target n ∷ enclosing.now)) names.now) }
 {
+    if trees.is_empty() {
+        return Ok(());
+    }
     for name in names {
         let inner = within(alloc, target, name, enclosing)?;
         gather_all(alloc, model, look, found, trees, inner.as_slice())?;

@@ -1,13 +1,14 @@
-use Rattle.std.proofs.Common.{◌∙◌, ap, sym, ◌++◌, ◌∷◌, []}
+use Rattle.std.proofs.Common.{◌≡◌, ◌∙◌, ap, sym, ◌++◌, ◌∷◌, [], length, arith}
 use Rattle.std.specs.Prelude.{flat_map}
 use Rattle.std.proofs.lemmas.List.{append-nil, append_assoc}
+use Rattle.std.proofs.lemmas.Grind.{pieces}
 use Rattle.std.proofs.lemmas.Result.{on_ok_weaker}
 use Rattle.opa_cells.specs.Instances.{named}
 use Rattle.opa_case.specs.Shapes.{shape_of}
 use Rattle.opa_case.specs.declared.question.Question.TheVariants as question
 use Rattle.opa_mean.specs.Places.{place}
 use Rattle.opa_mean.specs.Reads.{reads, at_place_reads, listed_reads, trees_reads, rows_reads}
-use Rattle.opa_mean.proofs.ReadLaws.{reads-Const, reads-Attr, reads-Over, reads-Table}
+use Rattle.opa_mean.proofs.ReadLaws.{reads-Const, reads-Attr, reads-Over, reads-Table, no_tree_reads}
 use Rattle.opa_mean.proofs.read.+walk.Goals as goal
 
 pub gather-returns-in-Const : goal.gather-returns-in-Const
@@ -53,3 +54,9 @@ gather-returns-in_ok-gather_rows-in-Table g t c =
     ∙ ap (λ x. (c.args.found.now ++ rows_reads s m up c.in-Table.rows enclosing) ++ reads s m up x enclosing) c.get.ensures
     ∙ append_assoc c.args.found.now (rows_reads s m up c.in-Table.rows enclosing) (reads s m up c.in-Table.last enclosing)
     ∙ ap (λ qs. c.args.found.now ++ qs) (sym (ap (λ e. reads s m up e enclosing) c.in-Table.is ∙ reads-Table s m up c.in-Table.rows c.in-Table.last enclosing))) c.gather.ensures
+
+pub gather_listed-returns-then-is_empty : goal.gather_listed-returns-then-is_empty
+gather_listed-returns-then-is_empty g t c =
+    let s = shape_of c.args.model.now in let m = (g.K.Look.looks c.args.look.now).members in let up = (g.K.Look.looks c.args.look.now).container in
+    let none : length c.args.trees.now ≡ 0 = search (pieces, arith) in
+    sym (ap (λ qs. c.args.found.now ++ qs) (no_tree_reads s m up c.args.trees.now c.args.target c.args.names.now c.args.enclosing.now none) ∙ append-nil c.args.found.now)
