@@ -15,12 +15,11 @@ use Rattle.std.proofs.lemmas.Bool.{or_right, or_left}
 use Rattle.opa_cells.specs.declared.instance.InstanceId.{InstanceId}
 use Rattle.opa_cells.specs.Instances.{is_same, is_text, named}
 use Rattle.opa_cells.proofs.Orders.{same_is, same_itself}
-use Rattle.opa_case.specs.Homes.{has_name}
 use Rattle.opa_case.specs.Live.{Population, container_of}
 use Rattle.opa_mean.specs.declared.reached.slot.Slot.{Slot}
 use Rattle.opa_tree.proofs.Members.{none_in}
 use Rattle.opa_cells.proofs.Rowed.{parts}
-use Rattle.opa_session.specs.Telling.Wanted.{has_wanted, AddsUpward, AreWanted, IsClosed, IsClosedBut}
+use Rattle.opa_session.specs.Telling.Wanted.{has_name, has_wanted, AddsUpward, AreWanted, IsClosed, IsClosedBut}
 use Rattle.opa_session.specs.declared.telling.wanted.Wanted.{Wanted}
 use Rattle.opa_session.proofs.telling.Taking.{only_one}
 

@@ -1,15 +1,20 @@
 -- Wanted instances: those of slots, and whatever contains them.
-use Rattle.std.specs.Prelude.{◌≡◌, ◌<◌, ◌⊎◌, ℕ, Bool, true, false, List, [], filter, map, flat_map, length, unwrap_or, slice_index_or, Option, None, Some, Contains}
+use Rattle.std.specs.Prelude.{◌≡◌, ◌<◌, ◌⊎◌, ℕ, Bool, true, false, List, [], filter, map, flat_map, length, unwrap_or, slice_index_or, Option, None, Some, is_some, Contains}
 use Rattle.std.specs.Option.{option_map_or}
+use Rattle.std.specs.BTreeMap.{BTreeMap}
 use Rattle.std.specs.BTreeMap as tree
+use Rattle.std.specs.Cmp.Lexicographic.{slice_cmp}
 use Rattle.std.specs.Ordering.{nat_cmp}
 use Rattle.opa_model.specs.declared.ids.RelId.{RelId}
 use Rattle.opa_cells.specs.Instances.{named}
 use Rattle.opa_cells.specs.declared.instance.InstanceId.{InstanceId}
-use Rattle.opa_case.specs.Homes.{has_name}
 use Rattle.opa_case.specs.Live.{Lists, Population, members, container_of}
 use Rattle.opa_mean.specs.declared.reached.slot.Slot.{Slot}
 use Rattle.opa_session.specs.declared.telling.wanted.Wanted.{Wanted}
+
+-- a set of names has this one
+abbrev pub has_name : BTreeMap (List ℕ) (Unit {0}) → List ℕ → Bool
+has_name names n = is_some (tree.get (slice_cmp nat_cmp) names n)
 
 abbrev pub has_wanted : Wanted → InstanceId → Bool
 has_wanted w i = option_map_or (λ names. has_name names i.name) (tree.get nat_cmp w.names i.entity.0) false

@@ -1,9 +1,8 @@
 // Wanted instances: those of slots, and whatever contains them.
 ghost use Rattle.std.specs.Prelude.{◌≡◌, ◌≢◌, ◌≤◌, ◌||◌, ℕ, Bool, false, List as Seq, IfOk, OnOk};
-ghost use Rattle.opa_case.specs.Homes.{has_name};
 ghost use Rattle.opa_cells.specs.Instances.{is_same, named};
 ghost use Rattle.opa_cells.specs.declared.instance.InstanceId.{InstanceId as InstanceView};
-ghost use Rattle.opa_session.specs.Telling.Wanted.{has_wanted, AddsUpward, AreWanted, IsClosedBut};
+ghost use Rattle.opa_session.specs.Telling.Wanted.{has_name, has_wanted, AddsUpward, AreWanted, IsClosedBut};
 
 use crate::telling::lined::Lined;
 use opa_case::InstanceId;
