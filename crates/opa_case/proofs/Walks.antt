@@ -103,6 +103,19 @@ same_every s shape l l' agree inside (suc n) = λ k.
     le_of : {a b : ℕ} → a < b → a ≤ b
     le_of h = omega (arith, h)
 
+-- names of instances
+abbrev pub each_name : List InstanceId → Names
+each_name = map (λ i. i.name)
+
+-- the names of the instances that names give are these names
+pub names_again : (e : ℕ) (o : Option Names) → o ≡ option_map each_name (option_map (map (named e)) o)
+names_again e None = refl
+names_again e (Some names) = ap Some (each names)
+  where
+    each : (ns : Names) → ns ≡ each_name (map (named e) ns)
+    each [] = refl
+    each (n ∷ ns) = λ k. n ∷ each ns k
+
 module _ (s : Shape) (l : Lists) where
   abbrev pub onward : ℕ → List InstanceId → Option (List InstanceId)
   onward e cs = option_map (map (named e)) (gathered (map (l (s.contained e)) cs))

@@ -1,10 +1,11 @@
--- How live instances are kept: the container of each, and how many there are, of each entity and of all.
-use Rattle.std.specs.Prelude.{◌≡◌, ◌==◌, ◌+◌, ◌-◌, ℕ, Bool, List, Option, unwrap_or, is_some, length, filter}
+-- How live instances are kept: the container of each, and how many there are, of each entity and of all. And sets of names.
+use Rattle.std.specs.Prelude.{◌≡◌, ◌==◌, ◌+◌, ◌-◌, ℕ, Bool, List, Option, unwrap_or, is_some, length, filter, bytes_eq}
 use Rattle.std.specs.FinMap.{FinMap, get}
 use Rattle.std.specs.BTreeMap.{BTreeMap}
 use Rattle.std.specs.BTreeMap as tree
-use Rattle.std.specs.Cmp.Lexicographic.{slice_cmp}
+use Rattle.std.specs.HashMap.{HashMap, get_by}
 use Rattle.std.specs.Ordering.{nat_cmp}
+use denote.Ref.{Bor}
 use Rattle.opa_cells.specs.Keys.{cell_cmp}
 use Rattle.opa_cells.specs.declared.instance.InstanceId.{InstanceId}
 use Rattle.opa_case.specs.Live.{Population, container_of}
@@ -33,5 +34,5 @@ abbrev pub AreHomes : FinMap cell_cmp InstanceId → Population → Type 0
 AreHomes homes live = (i : InstanceId) → home_of homes i ≡ container_of live i
 
 -- a set of names has this one
-abbrev pub has_name : BTreeMap (List ℕ) (Unit {0}) → List ℕ → Bool
-has_name names n = is_some (tree.get (slice_cmp nat_cmp) names n)
+abbrev pub has_name : {S : Type 0} → HashMap (Bor (List ℕ)) (Unit {0}) S → List ℕ → Bool
+has_name names n = is_some (get_by (λ k. bytes_eq n k.now) names)

@@ -174,14 +174,72 @@ fn add_every<L: Lists>(
     if is_short(model, lists, counts, model.entity_count(), bond.target) {
         return Ok(());
     }
-    match walk(alloc, model, lists, model.entity_count(), bond.target)? {
+    match names_of(alloc, model, lists, model.entity_count(), bond.target)? {
         None => Ok(()),
-        Some(instances) => {
-            let names = names_of(alloc, &instances)?;
+        Some(names) => {
             let key = InstanceId::global(alloc)?;
             every.insert(number, key, names)
         }
     }
+}
+
+/// The names of all instances of an entity, where all lists that lead to them are known.
+fn names_of<L: Lists>(
+    alloc: Global,
+    model: &Model,
+    lists: &L,
+    steps: u32,
+    entity: u32,
+) -> Result<Option<List<Txt>>, NoMemory>
+    ensures { IfOk result (λ names. names ≡ option_map (map (λ i. i.name)) (live.walk (shape_of model.now) (L.lists lists.now) steps entity)) }
+{
+    if steps == 0 {
+        return Ok(Some(root_name(alloc)?));
+    }
+    if entity == 0 {
+        return Ok(Some(root_name(alloc)?));
+    }
+    let nest = nest_of(model, entity);
+    match walk(alloc, model, lists, steps - 1, nest.parent)? {
+        None => Ok(None),
+        Some(containers) => gather_names(alloc, lists, nest.contained, &containers),
+    }
+}
+
+fn root_name(alloc: Global) -> Result<List<Txt>, NoMemory>
+    ensures { IfOk result (λ names. names ≡ [] ∷ []) }
+{
+    let mut names = List::new(alloc);
+    names.push(Txt::from_str(alloc, "")?)?;
+    Ok(names)
+}
+
+/// The lists of the containers, one after the other, where all are known.
+fn gather_names<L: Lists>(
+    alloc: Global,
+    lists: &L,
+    rel: RelId,
+    containers: &[InstanceId],
+) -> Result<Option<List<Txt>>, NoMemory>
+    ensures { IfOk result (λ names. names ≡ live.gathered (map (L.lists lists.now rel) containers.now)) }
+{
+    let mut found = List::new(alloc);
+    for container in containers {
+        match lists.list(rel, container) {
+            None => return Ok(None),
+            Some(names) => add_names(alloc, names.as_slice(), &mut found)?,
+        }
+    }
+    Ok(Some(found))
+}
+
+fn add_names(alloc: Global, names: &[Txt], found: &mut List<Txt>) -> Result<(), NoMemory>
+    ensures { OnOk result (found.new ≡ found.old ++ names.now) }
+{
+    for name in names {
+        found.push(name.copy(alloc)?)?;
+    }
+    Ok(())
 }
 
 /// All instances of an entity, where all lists that lead to them are known.
@@ -213,16 +271,6 @@ fn root(alloc: Global) -> Result<Vec<InstanceId>, NoMemory>
     let mut found = Vec::new(alloc);
     found.push(InstanceId::global(alloc)?)?;
     Ok(found)
-}
-
-fn names_of(alloc: Global, instances: &[InstanceId]) -> Result<List<Txt>, NoMemory>
-    ensures { IfOk result (λ names. names ≡ map (λ i. i.name) instances.now) }
-{
-    let mut names = List::new(alloc);
-    for inst in instances {
-        names.push(inst.name.copy(alloc)?)?;
-    }
-    Ok(names)
 }
 
 /// What the containers have of an entity, where all their lists are known.

@@ -16,7 +16,7 @@ use opa_io::limits::MOST_INSTANCE_NAME;
 use opa_io::{NoMemory, Txt};
 use opa_model::{EntityId, Model, RelId};
 use std::alloc::Global;
-use std::collections::BTreeMap;
+use std::collections::HashMap;
 
 /// Why the list can't be set, but for the numbers of what it makes live.
 pub fn list_fault<S: Standing>(
@@ -65,7 +65,7 @@ pub(crate) fn is_misplaced<S: Standing>(
 fn are_names(alloc: Global, names: &[Txt]) -> Result<bool, NoMemory>
     ensures { IfOk result (λ are. are ≡ are_names names.now) }
 {
-    let mut later = BTreeMap::new(alloc);
+    let mut later = HashMap::with_capacity(alloc, names.len())?;
     let mut at = names.len();
     while 0 < at {
         at -= 1;
@@ -73,16 +73,23 @@ fn are_names(alloc: Global, names: &[Txt]) -> Result<bool, NoMemory>
         if !is_new(&later, name) {
             return Ok(false);
         }
-        add_name(alloc, &mut later, name)?;
+        add_name(&mut later, name)?;
     }
     Ok(true)
 }
 
 /// Whether a name isn't empty and isn't among the later ones.
-fn is_new(later: &BTreeMap<Txt, ()>, name: &Txt) -> bool
+fn is_new(later: &HashMap<&str, ()>, name: &Txt) -> bool
     ensures { result ≡ (not (is_empty name.now) && not (has_name later.now name.now)) }
 {
-    !is_empty(name) && !later.contains_key(name)
+    !is_empty(name) && !has_name(later, name)
+}
+
+/// Whether a set of names has this one.
+pub(crate) fn has_name(names: &HashMap<&str, ()>, name: &Txt) -> bool
+    ensures { result ≡ has_name names.now name.now }
+{
+    names.contains_key(name.as_str())
 }
 
 fn is_empty(name: &Txt) -> bool
@@ -91,16 +98,11 @@ fn is_empty(name: &Txt) -> bool
     name.as_str().is_empty()
 }
 
-/// Adds a name to a set.
-pub(crate) fn add_name(
-    alloc: Global,
-    later: &mut BTreeMap<Txt, ()>,
-    name: &Txt,
-) -> Result<(), NoMemory>
+/// Adds a name to a set, which borrows it.
+pub(crate) fn add_name<'a>(later: &mut HashMap<&'a str, ()>, name: &'a Txt) -> Result<(), NoMemory>
     ensures { OnOk result ((q : List ℕ) → has_name later.new q ≡ (is_text q name.now || has_name later.old q)) }
 {
-    let key = name.copy(alloc)?;
-    later.insert(key, ())?;
+    later.insert(name.as_str(), ())?;
     Ok(())
 }
 

@@ -5,10 +5,10 @@ ghost use Rattle.opa_cells.specs.Instances.{is_text};
 ghost use Rattle.opa_case.specs.Homes.{has_name};
 ghost use Rattle.opa_case.specs.Turns.{names_without};
 
-use crate::list_faults::add_name;
+use crate::list_faults::{add_name, has_name};
 use opa_io::{List, NoMemory, Txt};
 use std::alloc::Global;
-use std::collections::BTreeMap;
+use std::collections::HashMap;
 
 /// The names that aren't among the others. It goes through both once, over a set of the others.
 pub(crate) fn names_without(
@@ -26,12 +26,12 @@ pub(crate) fn names_without(
     Ok(left)
 }
 
-fn set_of(alloc: Global, names: &[Txt]) -> Result<BTreeMap<Txt, ()>, NoMemory>
+fn set_of<'a>(alloc: Global, names: &'a [Txt]) -> Result<HashMap<&'a str, ()>, NoMemory>
     ensures { IfOk result (λ found. (q : Seq ℕ) → has_name found q ≡ list_any (is_text q) names.now) }
 {
-    let mut found = BTreeMap::new(alloc);
+    let mut found = HashMap::with_capacity(alloc, names.len())?;
     for name in names {
-        add_name(alloc, &mut found, name)?;
+        add_name(&mut found, name)?;
     }
     Ok(found)
 }
@@ -40,12 +40,12 @@ fn set_of(alloc: Global, names: &[Txt]) -> Result<BTreeMap<Txt, ()>, NoMemory>
 fn add_other(
     alloc: Global,
     left: &mut List<Txt>,
-    found: &BTreeMap<Txt, ()>,
+    found: &HashMap<&str, ()>,
     name: &Txt,
 ) -> Result<(), NoMemory>
     ensures { OnOk result (left.new ≡ cond (has_name found.now name.now) left.old (left.old ++ name.now ∷ [])) }
 {
-    if found.contains_key(name) {
+    if has_name(found, name) {
         return Ok(());
     }
     left.push(name.copy(alloc)?)
