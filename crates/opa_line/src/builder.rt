@@ -19,11 +19,12 @@ enum Begun<T> {
     Many(Vec<(u32, T)>),
 }
 
-/// A line that is made from its first day on, and the day up to which it goes.
+/// A line that is made from its first day on, and the day up to which it goes. Its vector begins with room for so many pairs.
 #[derive(Debug, Drop)]
 pub struct Builder<T> {
     alloc: Global,
     upto: u32,
+    room: usize,
     pairs: Begun<T>,
 }
 
@@ -47,9 +48,17 @@ impl<T> Builder<T> {
     pub fn new(alloc: Global) -> Builder<T>
         ensures { result ≡ (0, []) }
     {
+        Builder::with_room(alloc, 4)
+    }
+
+    /// The same, where so many pairs are likely.
+    pub fn with_room(alloc: Global, room: usize) -> Builder<T>
+        ensures { result ≡ (0, []) }
+    {
         Builder {
             alloc,
             upto: 0,
+            room,
             pairs: Begun::Nothing,
         }
     }
@@ -62,6 +71,7 @@ impl<T> Builder<T> {
         let Builder {
             alloc,
             upto: _,
+            room: _,
             pairs,
         } = self;
         Line {
@@ -73,6 +83,7 @@ impl<T> Builder<T> {
 impl<T: Same + Drop> Builder<T> {
     /// The value holds up to that day, which isn't in it; up to a day that the line already reaches nothing changes.
     /// Without memory nothing is left of the line.
+    #[inline(always)]
     pub fn until(&mut self, day: u32, value: T) -> Result<(), NoMemory>
         requires { day ≤ DAYS }
         ensures { OnOk result (Grown self.old day value self.new) }
@@ -88,7 +99,7 @@ impl<T: Same + Drop> Builder<T> {
         }
         self.upto = 0;
         let before = mem::replace(&mut self.pairs, Begun::Nothing);
-        let after = entered(self.alloc, before, upto, value)?;
+        let after = entered(self.alloc, self.room, before, upto, value)?;
         self.pairs = after;
         self.upto = day;
         Ok(())
@@ -105,6 +116,7 @@ fn held<T>(alloc: Global, pairs: Begun<T>) -> Held<T>
     }
 }
 
+#[inline(always)]
 fn put<T: Drop>(pairs: &mut Vec<(u32, T)>, day: u32, value: T) -> Result<(), NoMemory>
     ensures ok { OnOk result (pairs.new.items ≡ pairs.old.items ++ (day, value) ∷ []) }
     ensures err { OnErr result (pairs.new.items ≡ pairs.old.items) }
@@ -113,6 +125,7 @@ fn put<T: Drop>(pairs: &mut Vec<(u32, T)>, day: u32, value: T) -> Result<(), NoM
     Ok(())
 }
 
+#[inline(always)]
 fn ends_with<T: Same>(pairs: &[(u32, T)], value: &T) -> bool
     requires { 0 < length pairs.now }
     ensures { IsTrue result ↔ (value.now ≡ last_value value.now pairs.now) }
@@ -121,6 +134,7 @@ fn ends_with<T: Same>(pairs: &[(u32, T)], value: &T) -> bool
     value.same(&pairs[last].1)
 }
 
+#[inline(always)]
 fn add<T: Same + Drop>(pairs: &mut Vec<(u32, T)>, day: u32, value: T) -> Result<(), NoMemory>
     requires { 0 < length pairs.now.items }
     ensures ok { OnOk result (Added pairs.old.items day value pairs.new.items) }
@@ -133,6 +147,7 @@ fn add<T: Same + Drop>(pairs: &mut Vec<(u32, T)>, day: u32, value: T) -> Result<
     }
 }
 
+#[inline(always)]
 fn enter<T: Same + Drop>(pairs: &mut Vec<(u32, T)>, day: u32, value: T) -> Result<(), NoMemory>
     ensures ok { OnOk result (Entered pairs.old.items day value pairs.new.items) }
     ensures err { OnErr result (pairs.new.items ≡ pairs.old.items) }
@@ -147,6 +162,7 @@ fn enter<T: Same + Drop>(pairs: &mut Vec<(u32, T)>, day: u32, value: T) -> Resul
 /// The pairs with a second one, if it has a new value.
 fn after_first<T: Same + Drop>(
     alloc: Global,
+    room: usize,
     first: (u32, T),
     day: u32,
     value: T,
@@ -156,7 +172,7 @@ fn after_first<T: Same + Drop>(
     if value.same(&first.1) {
         return Ok(Begun::One(first));
     }
-    let mut pairs = Vec::new(alloc);
+    let mut pairs = Vec::with_capacity(alloc, room)?;
     pairs.push(first)?;
     pairs.push((day, value))?;
     Ok(Begun::Many(pairs))
@@ -164,6 +180,7 @@ fn after_first<T: Same + Drop>(
 
 fn entered<T: Same + Drop>(
     alloc: Global,
+    room: usize,
     pairs: Begun<T>,
     day: u32,
     value: T,
@@ -172,7 +189,7 @@ fn entered<T: Same + Drop>(
 {
     match pairs {
         Begun::Nothing => Ok(Begun::One((day, value))),
-        Begun::One(first) => after_first(alloc, first, day, value),
+        Begun::One(first) => after_first(alloc, room, first, day, value),
         Begun::Many(mut pairs) => {
             enter(&mut pairs, day, value)?;
             Ok(Begun::Many(pairs))

@@ -61,7 +61,7 @@ where
 {
     let xs = first.segments();
     let ys = second.segments();
-    let mut out = Builder::new(alloc);
+    let mut out = Builder::with_room(alloc, xs.len().max(ys.len()));
     let mut x = &xs[0].1;
     let mut y = &ys[0].1;
     let mut left = &xs[1..];
@@ -91,7 +91,7 @@ where
     ensures { IfOk result (EachDay (Maps F.Fn f line.now) DAYS) }
 {
     let pairs = line.segments();
-    let mut out = Builder::new(alloc);
+    let mut out = Builder::with_room(alloc, pairs.len());
     let mut value = &pairs[0].1;
     let mut rest = &pairs[1..];
     while let [next, after @ ..] = rest {

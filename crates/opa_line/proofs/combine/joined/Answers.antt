@@ -27,7 +27,7 @@ returns g c =
 pub loop-day-init : goal.loop-day-init
 loop-day-init g c =
     rw (c.segments-xs.ensures.value, c.segments-ys.ensures.value)
-    (joined_start g.F.Fn c.args.f DAYS c.args.first.now c.args.second.now c.index-xs-0.result c.index-ys-0.result c.new-out.result c.segments-xs.ensures.form c.segments-ys.ensures.form (omega arith) c.new-out.ensures)
+    (joined_start g.F.Fn c.args.f DAYS c.args.first.now c.args.second.now c.index-xs-0.result c.index-ys-0.result c.with_room-out.result c.segments-xs.ensures.form c.segments-ys.ensures.form (omega arith) c.with_room-out.ensures)
 
 pub until-requires : goal.until-requires
 until-requires g c =
