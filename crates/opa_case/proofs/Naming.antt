@@ -62,3 +62,11 @@ without_more names others i x left next found lt is step has so =
     either : (b : Bool) (l : Names) → cond b l (l ++ x ∷ []) ≡ l ++ cond (not b) (x ∷ []) []
     either true l = sym (append-nil l)
     either false l = refl
+
+-- a name that the others have may be passed over
+pub passed : (name : List ℕ) (behind others : Names) → list_any (is_text name) others ≡ true → names_without behind others ≡ names_without (name ∷ behind) others
+passed name behind others has = ap (λ b. cond (not b) (name ∷ names_without behind others) (names_without behind others)) (sym has)
+
+-- the first name is good, or bad
+pub first_tells : (names rest behind : Names) (name : List ℕ) (is good : Bool) → are_names names ≡ are_names rest → rest ≡ name ∷ behind → is ≡ (not (is_empty name) && not (list_any (is_text name) behind)) → is ≡ good → are_names names ≡ (good && are_names behind)
+first_tells names rest behind name is good so split says test = so ∙ ap are_names split ∙ ap (λ t. t && are_names behind) (sym says ∙ test)

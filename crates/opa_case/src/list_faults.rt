@@ -10,10 +10,11 @@ ghost use Rattle.opa_case.specs.Steps as step;
 
 use crate::change::Refusal;
 use crate::declared::bond_of;
+use crate::names::{MANY, is_among};
 use crate::standing::Standing;
 use opa_cells::InstanceId;
 use opa_io::limits::MOST_INSTANCE_NAME;
-use opa_io::{NoMemory, Txt};
+use opa_io::{NoMemory, Txt, front};
 use opa_model::{EntityId, Model, RelId};
 use std::alloc::Global;
 use std::collections::HashMap;
@@ -61,8 +62,40 @@ pub(crate) fn is_misplaced<S: Standing>(
     bond.every || !case.live(inst) || !(inst.entity.0 == bond.source)
 }
 
-/// Whether no name is empty or stands twice. It goes from the last name to the first, over a set of those behind.
+/// Whether no name is empty or stands twice.
 fn are_names(alloc: Global, names: &[Txt]) -> Result<bool, NoMemory>
+    ensures { IfOk result (λ are. are ≡ are_names names.now) }
+{
+    if names.len() < MANY {
+        return Ok(are_few_names(names));
+    }
+    let are = are_many_names(alloc, names)?;
+    Ok(are)
+}
+
+/// It goes through the names behind, for each name.
+fn are_few_names(names: &[Txt]) -> bool
+    ensures { result ≡ are_names names.now }
+{
+    let mut rest = names;
+    while let Some((name, behind)) = front(rest) {
+        if !is_fresh(name, behind) {
+            return false;
+        }
+        rest = behind;
+    }
+    true
+}
+
+/// Whether a name isn't empty and isn't among those behind it.
+fn is_fresh(name: &Txt, behind: &[Txt]) -> bool
+    ensures { result ≡ (not (is_empty name.now) && not (list_any (is_text name.now) behind.now)) }
+{
+    !is_empty(name) && !is_among(name, behind)
+}
+
+/// It goes from the last name to the first, over a set of those behind.
+fn are_many_names(alloc: Global, names: &[Txt]) -> Result<bool, NoMemory>
     ensures { IfOk result (λ are. are ≡ are_names names.now) }
 {
     let mut later = HashMap::with_capacity(alloc, names.len())?;

@@ -3,7 +3,7 @@ use Rattle.std.specs.List.{list_any}
 use Rattle.opa_cells.specs.Instances.{is_text}
 use Rattle.opa_case.specs.Homes.{has_name}
 use Rattle.opa_case.proofs.Naming.{from_place, bad_at, good_at}
-use Rattle.opa_case.proofs.list_faults.are_names.Goals as goal
+use Rattle.opa_case.proofs.list_faults.are_many_names.Goals as goal
 
 pub returns-then-not-is_new : goal.returns-then-not-is_new
 returns-then-not-is_new c =
