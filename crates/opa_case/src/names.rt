@@ -1,20 +1,20 @@
 // Names of a list that another list doesn't have.
-ghost use Rattle.std.specs.Prelude.{◌≡◌, ◌∷◌, ◌++◌, [], cond, true, ℕ, List as Seq, IfOk, OnOk, IfSome};
+ghost use Rattle.std.specs.Prelude.{◌≡◌, ◌≤◌, ◌∷◌, ◌++◌, [], cond, true, ℕ, List as Seq, Some, IfOk, OnOk, length, take, slice_get};
 ghost use Rattle.std.specs.List.{list_any};
 ghost use Rattle.opa_cells.specs.Instances.{is_text};
 ghost use Rattle.opa_case.specs.Homes.{has_name};
 ghost use Rattle.opa_case.specs.Turns.{names_without};
 
 use crate::list_faults::{add_name, has_name};
-use opa_io::{List, NoMemory, Txt, front};
+use opa_io::{List, NoMemory, Same, Txt};
 use std::alloc::Global;
 use std::collections::HashMap;
 
 /// From so many names on, a set of them costs less than going through them again and again.
 pub(crate) const MANY: usize = 8;
 
-/// The names that aren't among the others. Those with which both lists begin are passed over, since most changes come at
-/// the end. For those behind it goes through the others once, into a set, unless few are left or few are the others.
+/// The names that aren't among the others. Those with which both lists begin are passed over, so that
+/// a list that grows at its end costs little. For those behind it goes through the others once, into a set, unless few are left or few are the others.
 pub(crate) fn names_without(
     alloc: Global,
     names: &[Txt],
@@ -35,31 +35,31 @@ pub(crate) fn names_without(
 fn behind_shared<'a>(names: &'a [Txt], others: &[Txt]) -> &'a [Txt]
     ensures { names_without result.now others.now ≡ names_without names.now others.now }
 {
-    let mut rest = names;
-    let mut over = others;
-    while let Some((name, behind)) = front(rest) {
-        match behind_name(over, name) {
-            None => return rest,
-            Some(more) => over = more,
-        }
-        rest = behind;
-    }
+    let (_, rest) = names.split_at(shared(names, others));
     rest
 }
 
-/// What stands behind the name, where the others begin with it.
-fn behind_name<'a>(others: &'a [Txt], name: &Txt) -> Option<&'a [Txt]>
-    ensures has { IfSome result (λ more. list_any (is_text name.now) others.now ≡ true) }
-    ensures more { IfSome result (λ more. (q : Seq ℕ) → list_any (is_text q) more.now ≡ true → list_any (is_text q) others.now ≡ true) }
+/// With how many names both lists begin.
+pub(crate) fn shared(names: &[Txt], others: &[Txt]) -> usize
+    ensures within { result ≤ length names.now }
+    ensures same { take result names.now ≡ take result others.now }
 {
-    match front(others) {
-        None => None,
-        Some((other, more)) => {
-            if !is_name(name, other) {
-                return None;
-            }
-            Some(more)
+    let mut at = 0;
+    while at < names.len() {
+        if !stands_at(others, at, &names[at]) {
+            return at;
         }
+        at += 1;
+    }
+    at
+}
+
+fn stands_at(others: &[Txt], at: usize, name: &Txt) -> bool
+    ensures { result ≡ true → slice_get others.now at ≡ Some name.now }
+{
+    match others.get(at) {
+        Some(other) => other.same(name),
+        None => false,
     }
 }
 
