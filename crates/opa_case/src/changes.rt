@@ -20,7 +20,7 @@ use crate::declared::bond_of;
 use crate::dropping::{drop_answers, drop_lists};
 use crate::every::every_then;
 use crate::homes::{add_homes, drop_homes};
-use crate::list_faults::{is_misplaced, list_fault};
+use crate::list_faults::is_misplaced;
 use crate::listed::Listed;
 use crate::slots::is_full;
 use crate::turn::{Turn, turn_of};
@@ -97,7 +97,7 @@ impl Case {
         ensures unchanged { OnErr result (self.new ≡ self.old) }
         ensures fits { OnOk result (Fits (shape_of model.now) ruled.now self.new) }
     {
-        if let Some(fault) = list_fault(self.alloc, self, model, rel, inst, names.as_slice())? {
+        if let Some(fault) = self.fault_of_list(self.alloc, model, rel, inst, names.as_slice())? {
             return Err(fault);
         }
         if bond_of(model, rel.0).contains {

@@ -1,5 +1,5 @@
 // Why a list can't be set or forgotten.
-ghost use Rattle.std.specs.Prelude.{◌≡◌, cond, ◌&&◌, ◌||◌, not, ℕ, List, length, nat_lt, Option, IfOk, OnOk};
+ghost use Rattle.std.specs.Prelude.{◌≡◌, true, cond, ◌&&◌, ◌||◌, not, ℕ, List, length, nat_lt, Option, IfOk, OnOk};
 ghost use Rattle.std.specs.List.{list_any};
 ghost use Rattle.opa_cells.specs.Instances.{is_text};
 ghost use Rattle.opa_case.specs.Homes.{has_name};
@@ -8,12 +8,15 @@ ghost use Rattle.opa_case.specs.Shapes.{shape_of};
 ghost use Rattle.opa_case.specs.Cases.{CaseView, are_names, is_empty};
 ghost use Rattle.opa_case.specs.Steps as step;
 
+use crate::case::Case;
 use crate::change::Refusal;
 use crate::declared::bond_of;
+use crate::listed::known_names;
+use crate::names::{MANY, is_among, shared};
 use crate::standing::Standing;
 use opa_cells::InstanceId;
 use opa_io::limits::MOST_INSTANCE_NAME;
-use opa_io::{NoMemory, Txt};
+use opa_io::{NoMemory, Txt, front};
 use opa_model::{EntityId, Model, RelId};
 use std::alloc::Global;
 use std::collections::HashMap;
@@ -30,10 +33,48 @@ pub fn list_fault<S: Standing>(
     ensures { IfOk result (λ fault. fault ≡
         step.list_fault (shape_of model.now) (S.case case.now) rel inst.now names.now) }
 {
+    let fault = list_fault_over(alloc, case, model, rel, inst, names, &[])?;
+    Ok(fault)
+}
+
+impl Case {
+    /// The same of a case, whose own list tells that the names with which both begin are no fault.
+    pub(crate) fn fault_of_list(
+        &self,
+        alloc: Global,
+        model: &Model,
+        rel: RelId,
+        inst: &InstanceId,
+        names: &[Txt],
+    ) -> Result<Option<Refusal>, NoMemory>
+        ensures { IfOk result (λ fault. fault ≡
+            step.list_fault (shape_of model.now) self.now rel inst.now names.now) }
+    {
+        let _lists = self.lists();
+        let known = known_names(self.stored_of(rel, inst));
+        let fault = list_fault_over(alloc, self, model, rel, inst, names, known)?;
+        Ok(fault)
+    }
+}
+
+/// The same, beside names that are none of them empty or twice.
+fn list_fault_over<S: Standing>(
+    alloc: Global,
+    case: &S,
+    model: &Model,
+    rel: RelId,
+    inst: &InstanceId,
+    names: &[Txt],
+    known: &[Txt],
+) -> Result<Option<Refusal>, NoMemory>
+    requires { are_names known.now ≡ true }
+    ensures { IfOk result (λ fault. fault ≡
+        step.list_fault (shape_of model.now) (S.case case.now) rel inst.now names.now) }
+{
     if is_misplaced(case, model, rel, inst) {
         return Ok(Some(Refusal::Name));
     }
-    if !are_names(alloc, names)? {
+    if !are_names(alloc, names, known)? {
         return Ok(Some(Refusal::Name));
     }
     if cant_name_one(alloc, case, model, rel, inst, names)? {
@@ -61,8 +102,55 @@ pub(crate) fn is_misplaced<S: Standing>(
     bond.every || !case.live(inst) || !(inst.entity.0 == bond.source)
 }
 
-/// Whether no name is empty or stands twice. It goes from the last name to the first, over a set of those behind.
-fn are_names(alloc: Global, names: &[Txt]) -> Result<bool, NoMemory>
+/// Whether no name is empty or stands twice. What both lists begin with is known to be so.
+fn are_names(alloc: Global, names: &[Txt], known: &[Txt]) -> Result<bool, NoMemory>
+    requires { are_names known.now ≡ true }
+    ensures { IfOk result (λ are. are ≡ are_names names.now) }
+{
+    let (front, rest) = names.split_at(shared(names, known));
+    if rest.len() < MANY {
+        return Ok(are_behind(front, rest));
+    }
+    let are = are_many_names(alloc, names)?;
+    Ok(are)
+}
+
+/// Whether no name of the rest is empty or stands twice, nor stands in front.
+fn are_behind(front: &[Txt], rest: &[Txt]) -> bool
+    ensures { result ≡ (are_names rest.now && not (list_any (λ n. list_any (is_text n) rest.now) front.now)) }
+{
+    are_few_names(rest) && !is_one_among(front, rest)
+}
+
+fn is_one_among(names: &[Txt], others: &[Txt]) -> bool
+    ensures { result ≡ list_any (λ n. list_any (is_text n) others.now) names.now }
+{
+    names.iter().any(|name| is_among(name, others))
+}
+
+/// It goes through the names behind, for each name.
+fn are_few_names(names: &[Txt]) -> bool
+    ensures { result ≡ are_names names.now }
+{
+    let mut rest = names;
+    while let Some((name, behind)) = front(rest) {
+        if !is_fresh(name, behind) {
+            return false;
+        }
+        rest = behind;
+    }
+    true
+}
+
+/// Whether a name isn't empty and isn't among those behind it.
+fn is_fresh(name: &Txt, behind: &[Txt]) -> bool
+    ensures { result ≡ (not (is_empty name.now) && not (list_any (is_text name.now) behind.now)) }
+{
+    !is_empty(name) && !is_among(name, behind)
+}
+
+/// It goes from the last name to the first, over a set of those behind.
+fn are_many_names(alloc: Global, names: &[Txt]) -> Result<bool, NoMemory>
     ensures { IfOk result (λ are. are ≡ are_names names.now) }
 {
     let mut later = HashMap::with_capacity(alloc, names.len())?;

@@ -164,7 +164,7 @@ impl Listed {
 }
 
 /// The names of a list, and none of one that isn't known.
-fn known_names(known: Option<&List<Txt>>) -> &[Txt]
+pub(crate) fn known_names(known: Option<&List<Txt>>) -> &[Txt]
     ensures { result.now ≡ unwrap_or (option_copied known.entry) [] }
 {
     match known {

@@ -11,7 +11,7 @@ use crate::answer_faults::{answer_fault, is_unanswerable};
 use crate::case::Case;
 use crate::change::Refusal;
 use crate::declared::bond_of;
-use crate::list_faults::{is_misplaced, list_fault};
+use crate::list_faults::is_misplaced;
 use crate::slots::is_full;
 use opa_cells::InstanceId;
 use opa_io::{List, NoMemory, Txt};
@@ -69,7 +69,7 @@ impl Case {
         ensures { IfOk result (λ refusal. refusal ≡ refusal_of
             (step.set_list (shape_of model.now) ruled.now self.now rel inst.now names.now)) }
     {
-        if let Some(fault) = list_fault(alloc, self, model, rel, inst, names.as_slice())? {
+        if let Some(fault) = self.fault_of_list(alloc, model, rel, inst, names.as_slice())? {
             return Ok(Some(fault));
         }
         let full = self.is_full_with(model, ruled, rel, inst, names)?;

@@ -17,7 +17,7 @@ use crate::change::Refusal;
 use crate::declared::bond_of;
 use crate::going_names::names_of;
 use crate::homes::add_homes;
-use crate::list_faults::{is_misplaced, list_fault};
+use crate::list_faults::is_misplaced;
 use crate::relisted::Relisted;
 use crate::slots::is_full;
 use crate::turn::Turn;
@@ -45,7 +45,7 @@ impl Case {
         ensures case { IfOk result (λ next. next.case.now ≡ self.now) }
         ensures inst { IfOk result (λ next. next.inst.now ≡ inst.now) }
     {
-        if let Some(fault) = list_fault(self.alloc, self, model, rel, inst, names.as_slice())? {
+        if let Some(fault) = self.fault_of_list(self.alloc, model, rel, inst, names.as_slice())? {
             return Err(fault);
         }
         if bond_of(model, rel.0).contains {

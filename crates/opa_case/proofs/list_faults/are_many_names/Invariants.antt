@@ -3,7 +3,7 @@ use Rattle.std.specs.List.{list_any}
 use Rattle.opa_cells.specs.Instances.{is_text}
 use Rattle.opa_case.specs.Cases.{are_names}
 use Rattle.opa_case.specs.Homes.{has_name}
-use Rattle.opa_case.proofs.list_faults.are_names.Given as goal
+use Rattle.opa_case.proofs.list_faults.are_many_names.Given as goal
 
 abbrev pub invariant-loop-at : goal.invariant-loop-at
 invariant-loop-at l = record {

@@ -1,0 +1,8 @@
+use Rattle.std.proofs.Common.{arith}
+use Rattle.opa_case.proofs.Naming.{without_more}
+use Rattle.opa_case.proofs.names.few_without.Goals as goal
+
+pub loop-name-preserved : goal.loop-name-preserved
+loop-name-preserved c =
+    let x = c.name-item.result in
+    without_more c.args.names.now c.args.others.now c.loop-name.name-index x c.loop-name.left c.add_unless.new.left c.is_among.result (omega (arith, c.loop-name-test.true)) c.name-item.is c.in_ok-add_unless.ensures c.is_among.ensures c.loop-name.invariant
