@@ -1,13 +1,13 @@
 -- Changes keep what fits.
-use Rattle.std.specs.Prelude.{◌≡◌, ◌≤◌, ◌<◌, ℕ, nat_lt, Bool, true, false, cond, not, ◌||◌, ◌&&◌, List, [], ◌∷◌, Option, None, Some, Result, Ok, Err, length, refl}
-use Rattle.std.specs.List.{list_any}
+use Rattle.std.specs.Prelude.{◌≡◌, ◌≤◌, ◌<◌, ℕ, nat_lt, Bool, true, false, cond, not, ◌||◌, ◌&&◌, List, [], ◌∷◌, zero, suc, take, drop, unwrap_or, Option, None, Some, Result, Ok, Err, length, refl}
+use Rattle.std.specs.List.{list_any, list_all}
 use Rattle.std.specs.Option.{option_map_or}
 use Rattle.std.specs.FinMap.{FinMap, get, insert, remove, get-insert, get-remove}
 use Rattle.std.specs.Ordering.{eq_by_cmp}
 use Rattle.std.proofs.Common.{arith, ap, sym, subst, ◌∙◌, ◌⊎◌, inl, inr}
 use mathlib.Core.Bool.{true≢false}
 use Rattle.std.proofs.lemmas.Map.Views.{tells_apart, exact_unsigned_eq}
-use Rattle.std.proofs.lemmas.Bool.{or_parts, ltb-false, not-false}
+use Rattle.std.proofs.lemmas.Bool.{and_parts, or_parts, or_left, or_right, ltb-false, not-false}
 use Rattle.std.proofs.lemmas.Option.{same_Some}
 use Rattle.opa_model.specs.declared.ids.RelId.{RelId}
 use Rattle.opa_cells.specs.declared.instance.InstanceId.{InstanceId}
@@ -20,8 +20,9 @@ use Rattle.opa_case.specs.Live.{Names, Population, live_of, is_live, container_o
 use Rattle.opa_case.specs.Cases.{CaseView, stored, are_names}
 use Rattle.opa_case.specs.Steps.{stands_elsewhere, is_misplaced, cant_name, within, is_full, rel, with_list, list_fault, unless, without_list}
 use Rattle.opa_case.specs.Fits.{Known, AreSound, Fits}
-use Rattle.opa_cells.proofs.Orders.{cell_exact, cell_total, same_is}
-use Rattle.opa_case.proofs.Stands.{has_live, container_found, text_is}
+use Rattle.opa_cells.proofs.Orders.{cell_exact, cell_total, same_is, same_itself}
+use Rattle.opa_case.proofs.Naming.{first_of, rest_of}
+use Rattle.opa_case.proofs.Stands.{has_live, container_found, text_is, text_itself}
 use Rattle.opa_case.proofs.Settled.{settled_fits}
 
 -- A containment list names its container's instances.
@@ -36,6 +37,35 @@ stands s ruled shape c fits r j ms n con known listed =
     let found = container_found s (stored c.lists) (named e n) inside.0 here in
     let one : found.0 ≡ j = fits.sound.once r found.0 j found.2.names ms n con (ap (λ q. stored c.lists q found.0) rel ∙ found.2.known) known found.2.listed listed in
     ap (λ (live : Population). container_of live (named e n)) fits.live ∙ found.1 ∙ ap Some one
+
+listed_all : (p : List ℕ → Bool) (n : List ℕ) (ns : Names) → list_all p ns ≡ true → list_any (is_text n) ns ≡ true → p n ≡ true
+listed_all p n [] all has = absurd (true≢false (sym has))
+listed_all p n (m ∷ ns) all has =
+    let parts = and_parts (p m) (list_all p ns) all in
+    elim (is_text n m) as (λ b. is_text n m ≡ b → (b || list_any (is_text n) ns) ≡ true → p n ≡ true) [
+      | true ↦ λ e _. ap p (text_is n m e) ∙ parts.0
+      | false ↦ λ _ g. listed_all p n ns parts.1 g
+    ] refl has
+
+-- What a list names may stand in it.
+pub kept_name : (s : Shape) (ruled : List Bool) → IsShape s → (c : CaseView) → Fits s ruled c → (r : RelId) (i : InstanceId) (names : Option Names) → get c.lists (r.0, i) ≡ names → (n : List ℕ) → list_any (is_text n) (unwrap_or names []) ≡ true
+    → cant_name s c r i n ≡ false
+kept_name s ruled shape c fits r i None known n listed = absurd (true≢false (sym listed))
+kept_name s ruled shape c fits r i (Some names) known n listed = go (s.contains r) refl
+  where
+    go : (b : Bool) → s.contains r ≡ b → cond b (stands_elsewhere c.live i (named (s.target r) n)) (not (is_live c.live (named (s.target r) n))) ≡ false
+    go true con = ap (λ o. option_map_or (λ d. not (is_same d i)) o false) (stands s ruled shape c fits r i names n con known listed) ∙ ap not (same_itself i)
+    go false con = ap not (listed_all (λ m. is_live c.live (named (s.target r) m)) n names (fits.referred r i names known con) listed)
+
+-- what both lists begin with needn't be tried, where it fails of what the others have
+pub any_behind : (p : List ℕ → Bool) (names others : Names) (k : ℕ) → take k names ≡ take k others → ((n : List ℕ) → list_any (is_text n) others ≡ true → p n ≡ false) → list_any p (drop k names) ≡ list_any p names
+any_behind p ns os zero same fails = refl
+any_behind p [] os (suc k) same fails = refl
+any_behind p (n ∷ ns) [] (suc k) same fails = absurd (cc same)
+any_behind p (n ∷ ns) (o ∷ os) (suc k) same fails =
+    let first : n ≡ o = ap first_of same in
+    any_behind p ns os k (ap rest_of same) (λ q h. fails q (or_right (is_text q o) _ h))
+    ∙ ap (λ b. b || list_any p ns) (sym (fails n (or_left (is_text n o) _ (ap (is_text n) (sym first) ∙ text_itself n))))
 
 -- the test of one name
 pub passes : {A : Type 0} (p : A → Bool) (q : A → Bool) (x : A) → ((y : A) → q y ≡ true → y ≡ x) → (ys : List A) → list_any p ys ≡ false → list_any q ys ≡ true → p x ≡ false

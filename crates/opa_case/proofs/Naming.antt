@@ -8,7 +8,7 @@ use Rattle.std.proofs.Common.{arith, ap, sym, ◌∙◌}
 use Rattle.std.proofs.lemmas.List.{drop_more, append-nil, take_more}
 use Rattle.std.proofs.lemmas.List.Elements.{filter_more}
 use Rattle.std.proofs.lemmas.List.Folds.{list_any_more, list_any-append}
-use Rattle.std.proofs.lemmas.Bool.{and_from, and_right, and_left, or_parts, or_from, or_left, or_right}
+use Rattle.std.proofs.lemmas.Bool.{and_from, and_parts, and_right, and_left, or_parts, or_from, or_left, or_right}
 use Rattle.std.proofs.lemmas.Option.{same_Some}
 use Rattle.opa_case.proofs.Stands.{text_itself}
 use Rattle.opa_cells.specs.Instances.{is_text}
@@ -78,11 +78,11 @@ shared_more names others i x lt is stands same = let on : suc i ≡ i + 1 = omeg
     next (n ∷ ns) zero h = ap (λ m. m ∷ []) (same_Some x n (sym h))
     next (n ∷ ns) (suc k) h = ap (λ ms. n ∷ ms) (next ns k h)
 
-abbrev first_of : Names → List ℕ
+abbrev pub first_of : Names → List ℕ
 first_of [] = []
 first_of (n ∷ ns) = n
 
-abbrev rest_of : Names → Names
+abbrev pub rest_of : Names → Names
 rest_of [] = []
 rest_of (n ∷ ns) = ns
 
@@ -100,10 +100,6 @@ shared_passed names others k same = pass k names others others same (λ q h. h)
         pass k ns os others (ap rest_of same) (λ q h. over q (or_right (is_text q o) _ h))
         ∙ ap (λ b. cond (not b) (n ∷ names_without ns others) (names_without ns others)) (sym has)
 
-both : (x y : Bool) → (x && y) ≡ true → (x ≡ true) × (y ≡ true)
-both true y h = (refl, h)
-both false y h = absurd (cc h)
-
 not_true : (x : Bool) → not x ≡ true → x ≡ false
 not_true true h = absurd (cc h)
 not_true false h = refl
@@ -113,8 +109,8 @@ pub names_before : (k : ℕ) (names : Names) → are_names names ≡ true → ar
 names_before zero names h = refl
 names_before (suc k) [] h = h
 names_before (suc k) (n ∷ ns) h =
-    let parts = both (not (is_empty n) && not (list_any (is_text n) ns)) (are_names ns) h in
-    let fresh = both (not (is_empty n)) (not (list_any (is_text n) ns)) parts.0 in
+    let parts = and_parts (not (is_empty n) && not (list_any (is_text n) ns)) (are_names ns) h in
+    let fresh = and_parts (not (is_empty n)) (not (list_any (is_text n) ns)) parts.0 in
     and_from _ (are_names (take k ns)) (and_from _ (not (list_any (is_text n) (take k ns))) fresh.0 (ap not (fewer n k ns (not_true _ fresh.1)))) (names_before k ns parts.1)
   where
     fewer : (n : List ℕ) (k : ℕ) (ns : Names) → list_any (is_text n) ns ≡ false → list_any (is_text n) (take k ns) ≡ false
@@ -130,8 +126,8 @@ joined_names [] rest h = and_true (are_names rest)
     and_true true = refl
     and_true false = refl
 joined_names (n ∷ ns) rest h =
-    let parts = both (not (is_empty n) && not (list_any (is_text n) ns)) (are_names ns) h in
-    let fresh = both (not (is_empty n)) (not (list_any (is_text n) ns)) parts.0 in
+    let parts = and_parts (not (is_empty n) && not (list_any (is_text n) ns)) (are_names ns) h in
+    let fresh = and_parts (not (is_empty n)) (not (list_any (is_text n) ns)) parts.0 in
     turn (are_names rest) (list_any (is_text n) rest) (list_any (λ m. list_any (is_text m) rest) ns)
     ∙ (λ k. sym fresh.0 k && not (sym (not_true _ fresh.1) k || list_any (is_text n) rest) && joined_names ns rest parts.1 k)
     ∙ ap (λ b. not (is_empty n) && not b && are_names (ns ++ rest)) (sym (list_any-append (is_text n) ns rest))

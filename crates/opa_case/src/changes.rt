@@ -97,7 +97,14 @@ impl Case {
         ensures unchanged { OnErr result (self.new ≡ self.old) }
         ensures fits { OnOk result (Fits (shape_of model.now) ruled.now self.new) }
     {
-        if let Some(fault) = self.fault_of_list(self.alloc, model, rel, inst, names.as_slice())? {
+        if let Some(fault) = self.fault_of_list(
+            self.alloc,
+            model,
+            ruled,
+            rel,
+            inst,
+            names.as_slice(),
+        )? {
             return Err(fault);
         }
         if bond_of(model, rel.0).contains {

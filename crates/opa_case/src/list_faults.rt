@@ -1,8 +1,9 @@
 // Why a list can't be set or forgotten.
-ghost use Rattle.std.specs.Prelude.{◌≡◌, true, cond, ◌&&◌, ◌||◌, not, ℕ, List, length, nat_lt, Option, IfOk, OnOk};
+ghost use Rattle.std.specs.Prelude.{◌≡◌, true, false, cond, ◌&&◌, ◌||◌, not, ℕ, List, length, nat_lt, Option, IfOk, OnOk};
 ghost use Rattle.std.specs.List.{list_any};
 ghost use Rattle.opa_cells.specs.Instances.{is_text};
 ghost use Rattle.opa_case.specs.Homes.{has_name};
+ghost use Rattle.opa_case.specs.Fits.{Fits};
 ghost use Rattle.opa_case.specs.Live.{is_live};
 ghost use Rattle.opa_case.specs.Shapes.{shape_of};
 ghost use Rattle.opa_case.specs.Cases.{CaseView, are_names, is_empty};
@@ -17,7 +18,7 @@ use crate::standing::Standing;
 use opa_cells::InstanceId;
 use opa_io::limits::MOST_INSTANCE_NAME;
 use opa_io::{NoMemory, Txt, front};
-use opa_model::{EntityId, Model, RelId};
+use opa_model::{EntityId, Model, RelId, Ruled};
 use std::alloc::Global;
 use std::collections::HashMap;
 
@@ -43,21 +44,25 @@ impl Case {
         &self,
         alloc: Global,
         model: &Model,
+        ruled: &Ruled,
         rel: RelId,
         inst: &InstanceId,
         names: &[Txt],
     ) -> Result<Option<Refusal>, NoMemory>
+        requires { Fits (shape_of model.now) ruled.now self.now }
         ensures { IfOk result (λ fault. fault ≡
             step.list_fault (shape_of model.now) self.now rel inst.now names.now) }
     {
+        // The facts are its lists', and its model's.
         let _lists = self.lists();
+        let _bond = bond_of(model, rel.0);
         let known = known_names(self.stored_of(rel, inst));
         let fault = list_fault_over(alloc, self, model, rel, inst, names, known)?;
         Ok(fault)
     }
 }
 
-/// The same, beside names that are none of them empty or twice.
+/// The same, beside names that may stand in the list.
 fn list_fault_over<S: Standing>(
     alloc: Global,
     case: &S,
@@ -67,7 +72,8 @@ fn list_fault_over<S: Standing>(
     names: &[Txt],
     known: &[Txt],
 ) -> Result<Option<Refusal>, NoMemory>
-    requires { are_names known.now ≡ true }
+    requires names { are_names known.now ≡ true }
+    requires free { (n : List ℕ) → list_any (is_text n) known.now ≡ true → step.cant_name (shape_of model.now) (S.case case.now) rel inst.now n ≡ false }
     ensures { IfOk result (λ fault. fault ≡
         step.list_fault (shape_of model.now) (S.case case.now) rel inst.now names.now) }
 {
@@ -77,7 +83,7 @@ fn list_fault_over<S: Standing>(
     if !are_names(alloc, names, known)? {
         return Ok(Some(Refusal::Name));
     }
-    if cant_name_one(alloc, case, model, rel, inst, names)? {
+    if cant_name_new(alloc, case, model, rel, inst, names, known)? {
         return Ok(Some(Refusal::Name));
     }
     if bond_of(model, rel.0).one && 1 < names.len() {
@@ -200,6 +206,24 @@ fn is_one_long(names: &[Txt]) -> bool
     names
         .iter()
         .any(|name| MOST_INSTANCE_NAME < name.as_str().len())
+}
+
+/// Whether a name can't stand in the list. What both lists begin with is known to.
+fn cant_name_new<S: Standing>(
+    alloc: Global,
+    case: &S,
+    model: &Model,
+    rel: RelId,
+    inst: &InstanceId,
+    names: &[Txt],
+    known: &[Txt],
+) -> Result<bool, NoMemory>
+    requires { (n : List ℕ) → list_any (is_text n) known.now ≡ true → step.cant_name (shape_of model.now) (S.case case.now) rel inst.now n ≡ false }
+    ensures { IfOk result (λ cant. cant ≡ list_any (step.cant_name (shape_of model.now) (S.case case.now) rel inst.now) names.now) }
+{
+    let (_, rest) = names.split_at(shared(names, known));
+    let cant = cant_name_one(alloc, case, model, rel, inst, rest)?;
+    Ok(cant)
 }
 
 fn cant_name_one<S: Standing>(

@@ -69,7 +69,7 @@ impl Case {
         ensures { IfOk result (λ refusal. refusal ≡ refusal_of
             (step.set_list (shape_of model.now) ruled.now self.now rel inst.now names.now)) }
     {
-        if let Some(fault) = self.fault_of_list(alloc, model, rel, inst, names.as_slice())? {
+        if let Some(fault) = self.fault_of_list(alloc, model, ruled, rel, inst, names.as_slice())? {
             return Ok(Some(fault));
         }
         let full = self.is_full_with(model, ruled, rel, inst, names)?;

@@ -45,7 +45,14 @@ impl Case {
         ensures case { IfOk result (λ next. next.case.now ≡ self.now) }
         ensures inst { IfOk result (λ next. next.inst.now ≡ inst.now) }
     {
-        if let Some(fault) = self.fault_of_list(self.alloc, model, rel, inst, names.as_slice())? {
+        if let Some(fault) = self.fault_of_list(
+            self.alloc,
+            model,
+            ruled,
+            rel,
+            inst,
+            names.as_slice(),
+        )? {
             return Err(fault);
         }
         if bond_of(model, rel.0).contains {

@@ -123,6 +123,9 @@ fn gone_with<L: Lists>(
 ) -> Result<Vec<(InstanceId, InstanceId)>, NoMemory>
     ensures { IfOk result (λ gone. gone.items ≡ gone_upto (shape_of model.now) (L.lists lists.now) target seeds.now ((shape_of model.now).count - 1)) }
 {
+    if seeds.is_empty() {
+        return Ok(Vec::new(alloc));
+    }
     let count = model.entity_count();
     let mut gone = Vec::new(alloc);
     let mut entity = 0;
