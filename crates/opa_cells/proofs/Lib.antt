@@ -7,3 +7,4 @@ pub mod Walked
 pub mod Copied
 pub mod Counted
 pub mod Fronts
+pub mod Numbered

@@ -2,6 +2,7 @@
 ghost use Rattle.std.specs.Prelude.{◌≡◌, map as items, slice_get, IfOk, OnOk, OnErr, is_some, not, Some, None};
 ghost use Rattle.std.specs.Option.{option_copied, option_map};
 ghost use Rattle.std.specs.FinMap as map;
+ghost use Rattle.opa_cells.specs.Instances.{instance_cmp};
 ghost use Rattle.opa_cells.specs.Rows.{kept_if, insert_each, tree_map, least, lesser, seen_in};
 ghost use Rattle.opa_cells.specs.declared.instance.InstanceId.{InstanceId as InstanceView};
 
@@ -107,7 +108,7 @@ fn add_each<'a, V>(
     tree: &mut BTreeMap<&'a InstanceId, &'a V>,
     cells: &'a HashMap<InstanceId, V>,
 ) -> Result<(), NoMemory>
-    ensures { OnOk result (tree_map tree.new.entries ≡ insert_each (tree_map tree.old.entries) cells.now.entries) }
+    ensures { OnOk result (tree_map instance_cmp tree.new.entries ≡ insert_each (tree_map instance_cmp tree.old.entries) cells.now.entries) }
 {
     for (inst, value) in cells {
         tree.insert(inst, value)?;
