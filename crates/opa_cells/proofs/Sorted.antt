@@ -60,6 +60,14 @@ module _ {K V : Type 0} (R : K → K → Ordering) where
   sorted_seen [] h = tt
   sorted_seen (t ∷ ts) h = both _ _ (below_seen t.0 ts h.0) (sorted_seen ts h.1)
 
+  pub put_seen : (i : Bor K) (v : Bor V) (ts : List (Bor K × Bor V)) → map seen_in (insert_entry (seen_cmp R) ts i v) ≡ put R i.now v.now (map seen_in ts)
+  put_seen i v [] = refl
+  put_seen i v (t ∷ ts) = elim (R i.now t.0.now) as (λ o. map seen_in (match_ordering o ((i, v) ∷ t ∷ ts) ((t.0, v) ∷ ts) (t ∷ insert_entry (seen_cmp R) ts i v)) ≡ by_order o ((i.now, v.now) ∷ map seen_in (t ∷ ts)) ((t.0.now, v.now) ∷ map seen_in ts) (seen_in t ∷ put R i.now v.now (map seen_in ts))) [
+    | Less ↦ refl
+    | Equal ↦ refl
+    | Greater ↦ ap (λ es. seen_in t ∷ es) (put_seen i v ts)
+  ]
+
   module _ (total : IsTotalOrder R) (exact : CmpEqualImpliesEq R) where
     get_each : (m : FinMap R V) (es : List (K × V)) → IsDistinct (eq_by_cmp R) (keys_of es) → (q : K) → get (insert_each m es) q ≡ option_or (find R q es) (get m q)
     get_each m [] d q = refl
@@ -76,14 +84,6 @@ module _ {K V : Type 0} (R : K → K → Ordering) where
     all_each es d = same_map total exact _ _ (λ q.
         get_each empty es d q ∙ ap (option_or (find R q es)) (get-empty R q) ∙ or_none (find R q es) ∙ sym (get-from_entries total es q))
 
-    put_seen : (i : Bor K) (v : Bor V) (ts : List (Bor K × Bor V)) → map seen_in (insert_entry (seen_cmp R) ts i v) ≡ put R i.now v.now (map seen_in ts)
-    put_seen i v [] = refl
-    put_seen i v (t ∷ ts) = elim (R i.now t.0.now) as (λ o. map seen_in (match_ordering o ((i, v) ∷ t ∷ ts) ((t.0, v) ∷ ts) (t ∷ insert_entry (seen_cmp R) ts i v)) ≡ by_order o ((i.now, v.now) ∷ map seen_in (t ∷ ts)) ((t.0.now, v.now) ∷ map seen_in ts) (seen_in t ∷ put R i.now v.now (map seen_in ts))) [
-      | Less ↦ refl
-      | Equal ↦ refl
-      | Greater ↦ ap (λ es. seen_in t ∷ es) (put_seen i v ts)
-    ]
-
     pub tree_put : (ts ts' : List (Bor K × Bor V)) (i : Bor K) (v : Bor V) → ts' ≡ insert_entry (seen_cmp R) ts i v → tree_map R ts' ≡ insert (tree_map R ts) i.now v.now
     tree_put ts ts' i v is = ap (tree_map R) is ∙ same_map total exact _ _ (λ q.
         get-from_entries total (map seen_in (insert_entry (seen_cmp R) ts i v)) q ∙ ap (find R q) (put_seen i v ts) ∙ find-put R total q i.now v.now (map seen_in ts)
@@ -99,7 +99,7 @@ module _ {V : Type 0} where
   pub row_each : (es : List (InstanceId × V)) → IsDistinct equal (keys_of es) → insert_each empty es ≡ from_entries {R = instance_cmp} es
   row_each es d = all_each instance_cmp instance_total instance_exact es (hash_distinct es d)
 
-  put_lesser : (es : List (InstanceId × V)) (e : InstanceId × V) → lesser (slice_get es 0) e ≡ slice_get (put instance_cmp e.0 e.1 es) 0
+  pub put_lesser : (es : List (InstanceId × V)) (e : InstanceId × V) → lesser (slice_get es 0) e ≡ slice_get (put instance_cmp e.0 e.1 es) 0
   put_lesser [] e = refl
   put_lesser (x ∷ es) e = elim (instance_cmp e.0 x.0) as (λ o. instance_cmp e.0 x.0 ≡ o → cond (is_gt o) (Some x) (Some e) ≡ slice_get (by_order o (e ∷ x ∷ es) ((x.0, e.1) ∷ es) (x ∷ put instance_cmp e.0 e.1 es)) 0) [
     | Less ↦ λ _. refl

@@ -1,13 +1,13 @@
 -- A map that is kept as a row for each number, and in it a cell for each instance.
-use Rattle.std.specs.Prelude.{◌≡◌, ◌+◌, ℕ, Bool, cond, ◌==◌, not, List, [], ◌∷◌, ◌++◌, map, Option, None, Some, slice_get}
+use Rattle.std.specs.Prelude.{◌≡◌, ◌+◌, ℕ, Bool, false, cond, ◌==◌, not, List, [], ◌∷◌, ◌++◌, map, Option, None, Some, slice_get}
 use denote.Ref.{Bor}
-use Rattle.std.specs.FinMap.{FinMap, empty, entries, from_entries, get, insert, len, retain_keys}
+use Rattle.std.specs.FinMap.{FinMap, empty, entries, from_entries, get, insert, remove, len, retain_keys}
 use Rattle.std.specs.BTreeMap.{is_at}
 use Rattle.std.specs.Map.{lookup}
 use Rattle.std.specs.Ordering.{nat_cmp, is_gt}
 use Rattle.std.specs.declared.cmp.Ordering.{Ordering}
 use Rattle.opa_cells.specs.declared.instance.InstanceId.{InstanceId}
-use Rattle.opa_cells.specs.Instances.{instance_cmp}
+use Rattle.opa_cells.specs.Instances.{instance_cmp, is_same}
 use Rattle.opa_cells.specs.Keys.{cell_cmp}
 
 -- what there is, if it passes
@@ -32,6 +32,26 @@ module _ {V : Type 0} where
   -- The new row has w at the instance, and at each other what the old one has.
   abbrev pub SetsCell : FinMap instance_cmp V → FinMap instance_cmp V → InstanceId → Option V → Type 0
   SetsCell old new i w = (j : InstanceId) → get new j ≡ cond (is_at (instance_cmp i) j) w (get old j)
+
+-- a row with a cell more
+abbrev pub with_one : {V : Type 0} → Option (InstanceId × V) → FinMap instance_cmp V → FinMap instance_cmp V
+with_one None m = m
+with_one (Some e) m = insert m e.0 e.1
+
+-- there is a cell, and it is of the instance
+abbrev pub holds : {V : Type 0} → Option (InstanceId × V) → InstanceId → Bool
+holds None i = false
+holds (Some e) i = is_same i e.0
+
+-- a row without the instance of a cell
+abbrev pub without : {V : Type 0} → FinMap instance_cmp V → Option (InstanceId × V) → FinMap instance_cmp V
+without m None = m
+without m (Some e) = remove m e.0
+
+-- the cell, if it passes
+abbrev pub one_kept : {V : Type 0} → (InstanceId → V → Bool) → Option (InstanceId × V) → Option (InstanceId × V)
+one_kept p None = None
+one_kept p (Some e) = cond (p e.0 e.1) (Some e) None
 
 -- each row's cells as entries, in order of keys
 abbrev pub row_entries : {V : Type 0} → ℕ → List (InstanceId × V) → List ((ℕ × InstanceId) × V)

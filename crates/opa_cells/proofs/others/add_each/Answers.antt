@@ -4,7 +4,7 @@ use Rattle.opa_cells.specs.Instances.{instance_cmp}
 use Rattle.opa_cells.proofs.Orders.{instance_exact, instance_total}
 use Rattle.opa_cells.specs.Rows.{insert_each, tree_map}
 use Rattle.opa_cells.proofs.Sorted.{tree_put}
-use Rattle.opa_cells.proofs.row.add_each.Goals as goal
+use Rattle.opa_cells.proofs.others.add_each.Goals as goal
 
 pub loop-inst-preserved : goal.loop-inst-preserved
 loop-inst-preserved g c =
