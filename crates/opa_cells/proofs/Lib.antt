@@ -7,3 +7,5 @@ pub mod Walked
 pub mod Copied
 pub mod Counted
 pub mod Fronts
+pub mod Numbered
+pub mod Ones

@@ -1,4 +1,4 @@
--- The cells of a row in order, and the first of them.
+-- What is found by hash, in order; and the first cell of a row.
 use Rattle.std.specs.Prelude.{◌≡◌, Bool, true, false, cond, ◌&&◌, T, List, [], ◌∷◌, map, length, None, Some, slice_get, refl}
 use denote.Ref.{Bor}
 use Rattle.std.specs.Option.{option_or}
@@ -14,18 +14,21 @@ use Rattle.std.specs.FinMap.Entries.{by_order, below_all, same_entries, find-put
 use Rattle.std.proofs.Common.{arith, ap, sym, ◌∙◌}
 use Rattle.std.proofs.lemmas.Map.Keys.{IsDistinct-head, IsDistinct-tail}
 use Rattle.opa_cells.specs.declared.instance.InstanceId.{InstanceId}
-use Rattle.opa_cells.specs.Instances.{instance_cmp, is_same}
-use Rattle.opa_cells.specs.Rows.{cell, insert_each, lesser, least, seen_in, tree_map}
-use Rattle.opa_cells.proofs.Orders.{instance_exact, instance_total, same_is}
-use Rattle.opa_cells.proofs.Rowed.{none_after, or_none}
-use Rattle.opa_cells.proofs.Inner.{equal, got, hash_distinct}
+use Rattle.opa_cells.specs.Instances.{instance_cmp}
+use Rattle.std.specs.Cmp.{IsTotalOrder}
+use Rattle.std.proofs.lemmas.Map.Lookups.{CmpEqualImpliesEq}
+use Rattle.std.proofs.lemmas.Map.Views.{tells_apart}
+use Rattle.opa_cells.specs.Rows.{insert_each, lesser, least, seen_in, tree_map}
+use Rattle.opa_cells.proofs.Orders.{instance_exact, instance_total}
+use Rattle.opa_cells.proofs.Rowed.{or_none}
+use Rattle.opa_cells.proofs.Inner.{equal, hash_distinct}
 
 no_length : {A : Type 0} (xs : List A) → length xs ≡ 0 → xs ≡ []
 no_length [] h = refl
 no_length (x ∷ xs) h = absurd (omega (arith, h))
 
-abbrev pub seen_cmp : Bor InstanceId → Bor InstanceId → Ordering
-seen_cmp i j = instance_cmp i.now j.now
+abbrev pub seen_cmp : {K : Type 0} → (K → K → Ordering) → Bor K → Bor K → Ordering
+seen_cmp R i j = R i.now j.now
 
 lesser_so : (o : Ordering) → o ≡ Less → T (is_lt o)
 lesser_so Less h = tt
@@ -36,53 +39,67 @@ both : (a b : Bool) → T a → T b → T (a && b)
 both true b x y = y
 both false b x y = absurd x
 
-module _ {V : Type 0} where
-  empty_entries : entries (empty {X = V} {R = instance_cmp}) ≡ []
-  empty_entries = no_length (entries (empty {X = V} {R = instance_cmp})) (sym (len-entries (empty {X = V} {R = instance_cmp})) ∙ len-empty instance_cmp V)
+module _ {K V : Type 0} (R : K → K → Ordering) where
+  pub empty_entries : entries (empty {X = V} {R = R}) ≡ []
+  empty_entries = no_length (entries (empty {X = V} {R = R})) (sym (len-entries (empty {X = V} {R = R})) ∙ len-empty R V)
 
-  get_each : (m : FinMap instance_cmp V) (es : List (InstanceId × V)) → IsDistinct (eq_by_cmp instance_cmp) (keys_of es) → (q : InstanceId) → get (insert_each m es) q ≡ option_or (cell es q) (get m q)
-  get_each m [] d q = refl
-  get_each m (e ∷ es) d q =
-      get_each (insert m e.0 e.1) es (IsDistinct-tail (eq_by_cmp instance_cmp) e.0 (keys_of es) d) q
-      ∙ ap (option_or (cell es q)) (get-insert instance_total m e.0 e.1 q)
-      ∙ elim (is_same q e.0) as (λ b. is_same q e.0 ≡ b → option_or (cell es q) (cond b (Some e.1) (get m q)) ≡ option_or (cond b (Some e.1) (cell es q)) (get m q)) [
-        | true ↦ λ h. ap (λ o. option_or o (Some e.1)) (ap (cell es) (same_is q e.0 h) ∙ none_after e.0 es (IsDistinct-head (eq_by_cmp instance_cmp) e.0 (keys_of es) d))
-        | false ↦ λ _. refl
-      ] refl
+  none_found : (k : K) (es : List (K × V)) → AllByRecursion (λ y. eq_by_cmp R k y ≡ false) (keys_of es) → find R k es ≡ None
+  none_found k [] h = refl
+  none_found k (e ∷ es) h = ap (λ b. cond b (Some e.1) (find R k es)) h.0 ∙ none_found k es h.1
 
-  -- a row, as its cells come one after another
-  pub row_each : (es : List (InstanceId × V)) → IsDistinct equal (keys_of es) → insert_each empty es ≡ from_entries {R = instance_cmp} es
-  row_each es d = same_map instance_total instance_exact _ _ (λ q.
-      get_each empty es (hash_distinct es d) q ∙ ap (option_or (cell es q)) (get-empty instance_cmp q) ∙ or_none (cell es q) ∙ sym (got es q))
+  -- no entry has the key of the first
+  pub none_like : (e : K × V) (es : List (K × V)) → IsDistinct (eq_by_cmp R) (keys_of (e ∷ es)) → find R e.0 es ≡ None
+  none_like e es d = none_found e.0 es (IsDistinct-head (eq_by_cmp R) e.0 (keys_of es) d)
 
-  put_seen : (i : Bor InstanceId) (v : Bor V) (ts : List (Bor InstanceId × Bor V)) → map seen_in (insert_entry seen_cmp ts i v) ≡ put instance_cmp i.now v.now (map seen_in ts)
+  below_seen : (i : Bor K) (ts : List (Bor K × Bor V)) → AllByRecursion (λ j. seen_cmp R i j ≡ Less) (keys_of ts) → T (below_all R i.now (map seen_in ts))
+  below_seen i [] h = tt
+  below_seen i (t ∷ ts) h = both _ _ (lesser_so (R i.now t.0.now) h.0) (below_seen i ts h.1)
+
+  sorted_seen : (ts : List (Bor K × Bor V)) → IsStrictlySortedBy (seen_cmp R) (keys_of ts) → T (is_sorted R (map seen_in ts))
+  unfolding IsStrictlySortedBy
+  sorted_seen [] h = tt
+  sorted_seen (t ∷ ts) h = both _ _ (below_seen t.0 ts h.0) (sorted_seen ts h.1)
+
+  pub put_seen : (i : Bor K) (v : Bor V) (ts : List (Bor K × Bor V)) → map seen_in (insert_entry (seen_cmp R) ts i v) ≡ put R i.now v.now (map seen_in ts)
   put_seen i v [] = refl
-  put_seen i v (t ∷ ts) = elim (instance_cmp i.now t.0.now) as (λ o. map seen_in (match_ordering o ((i, v) ∷ t ∷ ts) ((t.0, v) ∷ ts) (t ∷ insert_entry seen_cmp ts i v)) ≡ by_order o ((i.now, v.now) ∷ map seen_in (t ∷ ts)) ((t.0.now, v.now) ∷ map seen_in ts) (seen_in t ∷ put instance_cmp i.now v.now (map seen_in ts))) [
+  put_seen i v (t ∷ ts) = elim (R i.now t.0.now) as (λ o. map seen_in (match_ordering o ((i, v) ∷ t ∷ ts) ((t.0, v) ∷ ts) (t ∷ insert_entry (seen_cmp R) ts i v)) ≡ by_order o ((i.now, v.now) ∷ map seen_in (t ∷ ts)) ((t.0.now, v.now) ∷ map seen_in ts) (seen_in t ∷ put R i.now v.now (map seen_in ts))) [
     | Less ↦ refl
     | Equal ↦ refl
     | Greater ↦ ap (λ es. seen_in t ∷ es) (put_seen i v ts)
   ]
 
-  pub tree_put : (ts ts' : List (Bor InstanceId × Bor V)) (i : Bor InstanceId) (v : Bor V) → ts' ≡ insert_entry seen_cmp ts i v → tree_map ts' ≡ insert (tree_map ts) i.now v.now
-  tree_put ts ts' i v is = ap tree_map is ∙ same_map instance_total instance_exact _ _ (λ q.
-      get-from_entries instance_total (map seen_in (insert_entry seen_cmp ts i v)) q ∙ ap (find instance_cmp q) (put_seen i v ts) ∙ find-put instance_cmp instance_total q i.now v.now (map seen_in ts)
-      ∙ ap (cond (is_same q i.now) (Some v.now)) (sym (get-from_entries instance_total (map seen_in ts) q)) ∙ sym (get-insert instance_total (tree_map ts) i.now v.now q))
+  module _ (total : IsTotalOrder R) (exact : CmpEqualImpliesEq R) where
+    get_each : (m : FinMap R V) (es : List (K × V)) → IsDistinct (eq_by_cmp R) (keys_of es) → (q : K) → get (insert_each m es) q ≡ option_or (find R q es) (get m q)
+    get_each m [] d q = refl
+    get_each m (e ∷ es) d q =
+        get_each (insert m e.0 e.1) es (IsDistinct-tail (eq_by_cmp R) e.0 (keys_of es) d) q
+        ∙ ap (option_or (find R q es)) (get-insert total m e.0 e.1 q)
+        ∙ elim (eq_by_cmp R q e.0) as (λ b. eq_by_cmp R q e.0 ≡ b → option_or (find R q es) (cond b (Some e.1) (get m q)) ≡ option_or (cond b (Some e.1) (find R q es)) (get m q)) [
+          | true ↦ λ h. ap (λ o. option_or o (Some e.1)) (ap (λ k. find R k es) (tells_apart exact q e.0 h) ∙ none_like e es d)
+          | false ↦ λ _. refl
+        ] refl
 
-  below_seen : (i : Bor InstanceId) (ts : List (Bor InstanceId × Bor V)) → AllByRecursion (λ j. seen_cmp i j ≡ Less) (keys_of ts) → T (below_all instance_cmp i.now (map seen_in ts))
-  below_seen i [] h = tt
-  below_seen i (t ∷ ts) h = both _ _ (lesser_so (instance_cmp i.now t.0.now) h.0) (below_seen i ts h.1)
+    -- a map, as its entries come one after another
+    pub all_each : (es : List (K × V)) → IsDistinct (eq_by_cmp R) (keys_of es) → insert_each empty es ≡ from_entries {R = R} es
+    all_each es d = same_map total exact _ _ (λ q.
+        get_each empty es d q ∙ ap (option_or (find R q es)) (get-empty R q) ∙ or_none (find R q es) ∙ sym (get-from_entries total es q))
 
-  sorted_seen : (ts : List (Bor InstanceId × Bor V)) → IsStrictlySortedBy seen_cmp (keys_of ts) → T (is_sorted instance_cmp (map seen_in ts))
-  unfolding IsStrictlySortedBy
-  sorted_seen [] h = tt
-  sorted_seen (t ∷ ts) h = both _ _ (below_seen t.0 ts h.0) (sorted_seen ts h.1)
+    pub tree_put : (ts ts' : List (Bor K × Bor V)) (i : Bor K) (v : Bor V) → ts' ≡ insert_entry (seen_cmp R) ts i v → tree_map R ts' ≡ insert (tree_map R ts) i.now v.now
+    tree_put ts ts' i v is = ap (tree_map R) is ∙ same_map total exact _ _ (λ q.
+        get-from_entries total (map seen_in (insert_entry (seen_cmp R) ts i v)) q ∙ ap (find R q) (put_seen i v ts) ∙ find-put R total q i.now v.now (map seen_in ts)
+        ∙ ap (cond (eq_by_cmp R q i.now) (Some v.now)) (sym (get-from_entries total (map seen_in ts) q)) ∙ sym (get-insert total (tree_map R ts) i.now v.now q))
 
-  -- a tree has the entries of its map
-  pub tree_entries : (ts : List (Bor InstanceId × Bor V)) → IsStrictlySortedBy seen_cmp (keys_of ts) → map seen_in ts ≡ entries (tree_map ts)
-  tree_entries ts sorted = same_entries instance_cmp instance_total instance_exact (map seen_in ts) (entries (tree_map ts)) (sorted_seen ts sorted) (entries_sorted (tree_map ts)) (λ q.
-      sym (get-from_entries instance_total (map seen_in ts) q) ∙ get-entries (tree_map ts) q)
+    -- a tree has the entries of its map
+    pub tree_entries : (ts : List (Bor K × Bor V)) → IsStrictlySortedBy (seen_cmp R) (keys_of ts) → map seen_in ts ≡ entries (tree_map R ts)
+    tree_entries ts sorted = same_entries R total exact (map seen_in ts) (entries (tree_map R ts)) (sorted_seen ts sorted) (entries_sorted (tree_map R ts)) (λ q.
+        sym (get-from_entries total (map seen_in ts) q) ∙ get-entries (tree_map R ts) q)
 
-  put_lesser : (es : List (InstanceId × V)) (e : InstanceId × V) → lesser (slice_get es 0) e ≡ slice_get (put instance_cmp e.0 e.1 es) 0
+module _ {V : Type 0} where
+  -- a row, as its cells come one after another
+  pub row_each : (es : List (InstanceId × V)) → IsDistinct equal (keys_of es) → insert_each empty es ≡ from_entries {R = instance_cmp} es
+  row_each es d = all_each instance_cmp instance_total instance_exact es (hash_distinct es d)
+
+  pub put_lesser : (es : List (InstanceId × V)) (e : InstanceId × V) → lesser (slice_get es 0) e ≡ slice_get (put instance_cmp e.0 e.1 es) 0
   put_lesser [] e = refl
   put_lesser (x ∷ es) e = elim (instance_cmp e.0 x.0) as (λ o. instance_cmp e.0 x.0 ≡ o → cond (is_gt o) (Some x) (Some e) ≡ slice_get (by_order o (e ∷ x ∷ es) ((x.0, e.1) ∷ es) (x ∷ put instance_cmp e.0 e.1 es)) 0) [
     | Less ↦ λ _. refl
@@ -96,4 +113,4 @@ module _ {V : Type 0} where
 
   -- the first of a row's cells
   pub row_first : (es : List (InstanceId × V)) → IsDistinct equal (keys_of es) → least None es ≡ slice_get (entries (from_entries {R = instance_cmp} es)) 0
-  row_first es d = ap (λ b. least b es) (ap (λ xs. slice_get xs 0) (sym empty_entries)) ∙ least_each empty es ∙ ap (λ m. slice_get (entries m) 0) (row_each es d)
+  row_first es d = ap (λ b. least b es) (ap (λ xs. slice_get xs 0) (sym (empty_entries instance_cmp))) ∙ least_each empty es ∙ ap (λ m. slice_get (entries m) 0) (row_each es d)

@@ -48,19 +48,20 @@ second : (a b : Bool) → T (a && b) → T b
 second true b h = h
 second false b h = absurd h
 
-module _ {V : Type 0} where
-  below_each : (i : InstanceId) (es : List (InstanceId × V)) → T (below_all instance_cmp i es) → AllByRecursion (λ j. instance_cmp i j ≡ Less) (keys_of es)
+module _ {K X : Type 0} (R : K → K → Ordering) where
+  below_each : (i : K) (es : List (K × X)) → T (below_all R i es) → AllByRecursion (λ j. R i j ≡ Less) (keys_of es)
   below_each i [] h = tt
-  below_each i (e ∷ es) h = (less_so (instance_cmp i e.0) (first _ _ h), below_each i es (second (is_lt (instance_cmp i e.0)) _ h))
+  below_each i (e ∷ es) h = (less_so (R i e.0) (first _ _ h), below_each i es (second (is_lt (R i e.0)) _ h))
 
-  strictly : (es : List (InstanceId × V)) → T (is_sorted instance_cmp es) → IsStrictlySortedBy instance_cmp (keys_of es)
+  strictly : (es : List (K × X)) → T (is_sorted R es) → IsStrictlySortedBy R (keys_of es)
   unfolding IsStrictlySortedBy
   strictly [] h = tt
-  strictly (e ∷ es) h = (below_each e.0 es (first _ _ h), strictly es (second (below_all instance_cmp e.0 es) _ h))
+  strictly (e ∷ es) h = (below_each e.0 es (first _ _ h), strictly es (second (below_all R e.0 es) _ h))
 
-  row_sorted : (row : FinMap instance_cmp V) → IsStrictlySortedBy instance_cmp (keys_of (entries row))
-  row_sorted row = strictly (entries row) (entries_sorted row)
+  pub sorted_keys : (m : FinMap R X) → IsStrictlySortedBy R (keys_of (entries m))
+  sorted_keys m = strictly (entries m) (entries_sorted m)
 
+module _ {V : Type 0} where
   -- the first key of the entries is above k
   abbrev HeadAbove : ℕ × InstanceId → List ((ℕ × InstanceId) × V) → Type 0
   HeadAbove k [] = Unit {0}
@@ -71,7 +72,7 @@ module _ {V : Type 0} where
   put_front k v (x ∷ xs) h = ap (λ o. by_order o ((k, v) ∷ x ∷ xs) ((x.0, v) ∷ xs) (x ∷ put cell_cmp k v xs)) h
 
   -- the numbers of all entries are above n
-  abbrev Above : ℕ → List ((ℕ × InstanceId) × V) → Type 0
+  abbrev pub Above : ℕ → List ((ℕ × InstanceId) × V) → Type 0
   Above n xs = AllByRecursion (λ x. nat_cmp n x.0.0 ≡ Less) xs
 
   head_above : (n : ℕ) (i : InstanceId) (es : List (InstanceId × V)) (xs : List ((ℕ × InstanceId) × V)) → AllByRecursion (λ j. instance_cmp i j ≡ Less) (keys_of es) → Above n xs → HeadAbove (n, i) (row_entries n es ++ xs)
@@ -88,7 +89,7 @@ module _ {V : Type 0} where
       ∙ put_front (n, e.0) e.1 (row_entries n es ++ entries m) (head_above n e.0 es (entries m) sorted.0 above)
 
   -- the numbers of all rows are above n
-  abbrev RowsAbove : ℕ → List (ℕ × FinMap instance_cmp V) → Type 0
+  abbrev pub RowsAbove : ℕ → List (ℕ × FinMap instance_cmp V) → Type 0
   RowsAbove n rs = AllByRecursion (λ m. nat_cmp n m ≡ Less) (keys_of rs)
 
   no_row : (n : ℕ) (rs : List (ℕ × FinMap instance_cmp V)) → RowsAbove n rs → lookup (is_at (nat_cmp n)) rs ≡ None
@@ -103,7 +104,7 @@ module _ {V : Type 0} where
   above_row n m h [] = tt
   above_row n m h (e ∷ es) = (h, above_row n m h es)
 
-  above_all : (n : ℕ) (rs : List (ℕ × FinMap instance_cmp V)) → RowsAbove n rs → Above n (all_entries rs)
+  pub above_all : (n : ℕ) (rs : List (ℕ × FinMap instance_cmp V)) → RowsAbove n rs → Above n (all_entries rs)
   above_all n [] above = tt
   above_all n (r ∷ rs) above = above_append n (row_entries r.0 (entries r.1)) (all_entries rs) (above_row n r.0 above.0 (entries r.1)) (above_all n rs above.1)
 
@@ -119,7 +120,7 @@ module _ {V : Type 0} where
   rows_entries [] sorted = empty_entries
   rows_entries (r ∷ rs) sorted =
       ap (λ m. entries (with_cells r.0 (entries r.1) m)) (none_lost r.0 rs sorted.0)
-      ∙ cells_entries r.0 (entries r.1) (with_rows rs) (row_sorted r.1) (subst (Above r.0) (sym (rows_entries rs sorted.1)) (above_all r.0 rs sorted.0))
+      ∙ cells_entries r.0 (entries r.1) (with_rows rs) (sorted_keys instance_cmp r.1) (subst (Above r.0) (sym (rows_entries rs sorted.1)) (above_all r.0 rs sorted.0))
       ∙ ap (λ es. row_entries r.0 (entries r.1) ++ es) (rows_entries rs sorted.1)
 
   row_length : (n : ℕ) (es : List (InstanceId × V)) (xs : List ((ℕ × InstanceId) × V)) → length (row_entries n es ++ xs) ≡ length es + length xs
@@ -152,7 +153,7 @@ module _ {V : Type 0} where
               | false ↦ λ _. refl
             ] refl)
       ] refl))
-      ∙ len-entries alone ∙ ap length (cells_entries n (entries row) empty (row_sorted row) none) ∙ row_length n (entries row) (entries (empty {X = V} {R = cell_cmp}))
+      ∙ len-entries alone ∙ ap length (cells_entries n (entries row) empty (sorted_keys instance_cmp row) none) ∙ row_length n (entries row) (entries (empty {X = V} {R = cell_cmp}))
       ∙ ap (λ xs. length (entries row) + length xs) empty_entries ∙ nothing_more (length (entries row)) ∙ sym (len-entries row)
     where
       number_itself : (a b : ℕ) → a ≡ b → (a == b) ≡ true

@@ -8,6 +8,7 @@ use Rattle.opa_cells.specs.contracts.cells.Cells.{the_row as cells_row}
 use Rattle.opa_cells.specs.Instances.{instance_cmp}
 use Rattle.opa_cells.specs.contracts.rows.Rows.{the_row as rows_row}
 use Rattle.opa_cells.specs.contracts.row.Row.{the_row as row_row}
+use Rattle.opa_cells.specs.contracts.others.Others.{the_row as others_row}
 
 -- the map ends with what was left behind the reference in the place of the value at the key, and as it was where there is none
 module _ (V : RattleType) where
@@ -19,3 +20,6 @@ module _ (V : RattleType) where
 
   abbrev pub lends_in_row : MutBor (FinMap instance_cmp V.Denot) → InstanceId → Option (MutBor V.Denot) → Fml
   lends_in_row s i r = LendsIf (row_row V) V s r (λ w. insert s.now i w) s.now
+
+  abbrev pub lends_in_others : MutBor (FinMap instance_cmp V.Denot) → InstanceId → Option (MutBor V.Denot) → Fml
+  lends_in_others s i r = LendsIf (others_row V) V s r (λ w. insert s.now i w) s.now

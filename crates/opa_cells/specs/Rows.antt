@@ -1,12 +1,13 @@
 -- A map that is kept as a row for each number, and in it a cell for each instance.
-use Rattle.std.specs.Prelude.{◌≡◌, ◌+◌, ℕ, Bool, cond, ◌==◌, not, List, [], ◌∷◌, ◌++◌, map, Option, None, Some}
+use Rattle.std.specs.Prelude.{◌≡◌, ◌+◌, ℕ, Bool, false, cond, ◌==◌, not, List, [], ◌∷◌, ◌++◌, map, Option, None, Some, slice_get}
 use denote.Ref.{Bor}
-use Rattle.std.specs.FinMap.{FinMap, empty, entries, from_entries, get, insert, len, retain_keys}
+use Rattle.std.specs.FinMap.{FinMap, empty, entries, from_entries, get, insert, remove, len, retain_keys}
 use Rattle.std.specs.BTreeMap.{is_at}
 use Rattle.std.specs.Map.{lookup}
-use Rattle.std.specs.Ordering.{is_gt}
+use Rattle.std.specs.Ordering.{nat_cmp, is_gt}
+use Rattle.std.specs.declared.cmp.Ordering.{Ordering}
 use Rattle.opa_cells.specs.declared.instance.InstanceId.{InstanceId}
-use Rattle.opa_cells.specs.Instances.{instance_cmp}
+use Rattle.opa_cells.specs.Instances.{instance_cmp, is_same}
 use Rattle.opa_cells.specs.Keys.{cell_cmp}
 
 -- what there is, if it passes
@@ -32,6 +33,26 @@ module _ {V : Type 0} where
   abbrev pub SetsCell : FinMap instance_cmp V → FinMap instance_cmp V → InstanceId → Option V → Type 0
   SetsCell old new i w = (j : InstanceId) → get new j ≡ cond (is_at (instance_cmp i) j) w (get old j)
 
+-- a row with a cell more
+abbrev pub with_one : {V : Type 0} → Option (InstanceId × V) → FinMap instance_cmp V → FinMap instance_cmp V
+with_one None m = m
+with_one (Some e) m = insert m e.0 e.1
+
+-- there is a cell, and it is of the instance
+abbrev pub holds : {V : Type 0} → Option (InstanceId × V) → InstanceId → Bool
+holds None i = false
+holds (Some e) i = is_same i e.0
+
+-- a row without the instance of a cell
+abbrev pub without : {V : Type 0} → FinMap instance_cmp V → Option (InstanceId × V) → FinMap instance_cmp V
+without m None = m
+without m (Some e) = remove m e.0
+
+-- the cell, if it passes
+abbrev pub one_kept : {V : Type 0} → (InstanceId → V → Bool) → Option (InstanceId × V) → Option (InstanceId × V)
+one_kept p None = None
+one_kept p (Some e) = cond (p e.0 e.1) (Some e) None
+
 -- each row's cells as entries, in order of keys
 abbrev pub row_entries : {V : Type 0} → ℕ → List (InstanceId × V) → List ((ℕ × InstanceId) × V)
 row_entries n [] = []
@@ -54,8 +75,8 @@ cells_at m n = len (retain_keys m (λ k. k.0 == n))
 abbrev pub seen : {V : Type 0} → ℕ × Bor InstanceId × Bor V → (ℕ × InstanceId) × V
 seen c = ((c.0, c.1.now), c.2.now)
 
--- the same in a row
-abbrev pub seen_in : {V : Type 0} → Bor InstanceId × Bor V → InstanceId × V
+-- the same in a row, and a row that is lent
+abbrev pub seen_in : {K V : Type 0} → Bor K × Bor V → K × V
 seen_in e = (e.0.now, e.1.now)
 
 -- entries are inserted, one after another
@@ -63,8 +84,8 @@ abbrev pub insert_all : {V : Type 0} → FinMap cell_cmp V → List ((ℕ × Ins
 insert_all m [] = m
 insert_all m (e ∷ es) = insert_all (insert m e.0 e.1) es
 
--- the same in a row
-abbrev pub insert_each : {V : Type 0} → FinMap instance_cmp V → List (InstanceId × V) → FinMap instance_cmp V
+-- the same in a row, and of rows
+abbrev pub insert_each : {K V : Type 0} {R : K → K → Ordering} → FinMap R V → List (K × V) → FinMap R V
 insert_each m [] = m
 insert_each m (e ∷ es) = insert_each (insert m e.0 e.1) es
 
@@ -78,6 +99,17 @@ abbrev pub least : {V : Type 0} → Option (InstanceId × V) → List (InstanceI
 least b [] = b
 least b (e ∷ es) = least (lesser b e) es
 
+-- the entry of the lesser number
+abbrev pub ahead : {V : Type 0} → Option ((ℕ × InstanceId) × V) → Option ((ℕ × InstanceId) × V) → Option ((ℕ × InstanceId) × V)
+ahead None e = e
+ahead (Some b) None = Some b
+ahead (Some b) (Some e) = cond (is_gt (nat_cmp e.0.0 b.0.0)) (Some b) (Some e)
+
+-- the first entry of the least number that has one
+abbrev pub least_row : {V : Type 0} → Option ((ℕ × InstanceId) × V) → List (ℕ × FinMap instance_cmp V) → Option ((ℕ × InstanceId) × V)
+least_row b [] = b
+least_row b (r ∷ rs) = least_row (ahead b (slice_get (row_entries r.0 (entries r.1)) 0)) rs
+
 -- the map of what a tree refers to
-abbrev pub tree_map : {V : Type 0} → List (Bor InstanceId × Bor V) → FinMap instance_cmp V
-tree_map ts = from_entries (map seen_in ts)
+abbrev pub tree_map : {K V : Type 0} → (R : K → K → Ordering) → List (Bor K × Bor V) → FinMap R V
+tree_map R ts = from_entries {R = R} (map seen_in ts)

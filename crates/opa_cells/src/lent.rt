@@ -3,19 +3,35 @@ ghost use Rattle.std.specs.Prelude.{◌≡◌, Some, None, IfOk, IfErr, IsOk, On
 ghost use Rattle.std.specs.Borrow.{sem};
 ghost use Rattle.std.specs.Option.{option_copied_mut};
 ghost use Rattle.std.specs.FinMap as map;
-ghost use Rattle.opa_cells.specs.Lending.{lends_cell, lends_row_cell, lends_in_row};
+ghost use Rattle.opa_cells.specs.Lending.{lends_cell, lends_row_cell, lends_in_row, lends_in_others};
 
 use crate::cells::Cells;
 use crate::instance::InstanceId;
-use crate::row::Row;
+use crate::others::Others;
+use crate::row::{Row, is_held};
 use crate::rows::Rows;
+
+impl<V> Others<V> {
+    pub(crate) fn get_mut(&mut self, inst: &InstanceId) -> Option<&mut V>
+        ensures* writes_back { sem 𝓛 (lends_in_others V.row self.entry inst.now result) }
+        ensures value { option_copied_mut result ≡ map.get self.old inst.now }
+    {
+        self.cells.get_mut(inst)
+    }
+}
 
 impl<V> Row<V> {
     pub(crate) fn get_mut(&mut self, inst: &InstanceId) -> Option<&mut V>
         ensures* writes_back { sem 𝓛 (lends_in_row V.row self.entry inst.now result) }
         ensures value { option_copied_mut result ≡ map.get self.old inst.now }
     {
-        self.cells.get_mut(inst)
+        if is_held(&self.one, inst) {
+            match self.one.as_mut() {
+                Some((_, value)) => return Some(value),
+                None => return None,
+            }
+        }
+        self.others.get_mut(inst)
     }
 }
 

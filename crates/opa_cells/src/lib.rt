@@ -6,6 +6,7 @@ mod first;
 mod instance;
 mod keeps;
 mod lent;
+mod others;
 mod row;
 mod rows;
 

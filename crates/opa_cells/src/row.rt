@@ -1,32 +1,35 @@
-// The cells of one number.
-ghost use Rattle.std.specs.Prelude.{◌≡◌, map as items, slice_get, IfOk, OnOk, OnErr, is_some, not, Some, None};
+// The cells of one number: one of them at hand, and the others.
+ghost use Rattle.std.specs.Prelude.{◌≡◌, map as items, slice_get, IfOk, OnOk, OnErr, is_some, not};
 ghost use Rattle.std.specs.Option.{option_copied, option_map};
 ghost use Rattle.std.specs.FinMap as map;
-ghost use Rattle.opa_cells.specs.Rows.{kept_if, insert_each, tree_map, least, lesser, seen_in};
+ghost use Rattle.opa_cells.specs.Rows.{kept_if, holds, without, one_kept, seen_in};
 ghost use Rattle.opa_cells.specs.declared.instance.InstanceId.{InstanceId as InstanceView};
 
 use crate::instance::InstanceId;
 use crate::keeps::Keeps;
+use crate::others::{Others, lesser_of};
 use opa_io::NoMemory;
 use std::alloc::Global;
-use std::collections::{BTreeMap, HashMap};
+use std::collections::BTreeMap;
 use std::marker::Model;
 
-/// The cells of a number, found by the hash of their instance.
+/// The cells of a number. One is found without a hash, and takes no memory of its own: most numbers have only that one.
 #[derive(Drop)]
 pub(crate) struct Row<V> {
-    pub(crate) cells: HashMap<InstanceId, V>,
+    pub(crate) one: Option<(InstanceId, V)>,
+    pub(crate) others: Others<V>,
 }
 
 impl<V> Model for Row<V> {
     ghost use Rattle.std.specs.FinMap as map;
     ghost use Rattle.opa_cells.specs.Instances.{instance_cmp, coded_instance};
+    ghost use Rattle.opa_cells.specs.Rows.{with_one};
 
     ghost Value = { map.FinMap instance_cmp V };
 
     ghost coded = { map.code coded_instance V.code };
 
-    ghost view = { λ r. map.from_entries r.cells.entries };
+    ghost view = { λ r. with_one r.one r.others };
 }
 
 impl<V> Row<V> {
@@ -34,21 +37,54 @@ impl<V> Row<V> {
         ensures { result ≡ map.empty }
     {
         Row {
-            cells: HashMap::new(alloc),
+            one: None,
+            others: Others::new(alloc),
         }
     }
 
     pub(crate) fn get(&self, inst: &InstanceId) -> Option<&V>
         ensures { option_copied result ≡ map.get self.now inst.now }
     {
-        self.cells.get(inst)
+        if is_held(&self.one, inst) {
+            held(&self.one)
+        } else {
+            self.others.get(inst)
+        }
     }
 
     /// How many cells there are.
     pub(crate) fn len(&self) -> u64
         ensures { result ≡ map.len self.now }
     {
-        self.cells.len() as u64
+        match &self.one {
+            None => self.others.len(),
+            Some((inst, _)) => {
+                if self.others.get(inst).is_some() {
+                    self.others.len()
+                } else {
+                    self.others.len() + 1
+                }
+            }
+        }
+    }
+}
+
+/// Whether there is a cell and it is of the instance.
+pub(crate) fn is_held<V>(one: &Option<(InstanceId, V)>, inst: &InstanceId) -> bool
+    ensures { result ≡ holds one.now inst.now }
+{
+    match one {
+        Some((first, _)) => inst.equals(first),
+        None => false,
+    }
+}
+
+fn held<V>(one: &Option<(InstanceId, V)>) -> Option<&V>
+    ensures { option_copied result ≡ option_map (λ e. e.1) one.now }
+{
+    match one {
+        Some((_, value)) => Some(value),
+        None => None,
     }
 }
 
@@ -59,10 +95,16 @@ impl<V: Drop> Row<V> {
         ensures ok { OnOk result (self.new ≡ map.insert self.old inst value) }
         ensures err { OnErr result (self.new ≡ self.old) }
     {
-        match self.cells.insert(inst, value) {
-            Ok(old) => Ok(old.is_none()),
-            Err(_) => Err(NoMemory),
+        if is_held(&self.one, &inst) {
+            self.one = Some((inst, value));
+            return Ok(false);
         }
+        if self.one.is_none() {
+            let new = self.others.get(&inst).is_none();
+            self.one = Some((inst, value));
+            return Ok(new);
+        }
+        self.others.insert(inst, value)
     }
 
     /// Whether there was a cell.
@@ -70,15 +112,55 @@ impl<V: Drop> Row<V> {
         ensures was { result ≡ is_some (map.get self.old inst.now) }
         ensures removed { self.new ≡ map.remove self.old inst.now }
     {
-        self.cells.remove(inst).is_some()
+        if is_held(&self.one, inst) {
+            self.one = None;
+            self.others.remove(inst);
+            return true;
+        }
+        self.others.remove(inst)
     }
 
     /// Takes out each cell that doesn't stay. It takes no memory.
     pub(crate) fn retain<K: Keeps<V>>(&mut self, number: u32, keeper: &K)
         ensures { (i : InstanceView) → map.get self.new i ≡ kept_if (K.keeps keeper.now number i) (map.get self.old i) }
     {
-        self.cells
-            .retain(|inst, value| keeper.keeps(number, inst, value));
+        let one = self.one.take();
+        take_out(&mut self.others, &one);
+        self.others.retain(number, keeper);
+        let kept = kept(one, number, keeper);
+        let _none = std::mem::replace(&mut self.one, kept);
+    }
+}
+
+/// Takes the instance of a cell out of the others.
+fn take_out<V: Drop>(others: &mut Others<V>, one: &Option<(InstanceId, V)>)
+    ensures { others.new ≡ without others.old one.now }
+{
+    match one {
+        Some((inst, _)) => {
+            others.remove(inst);
+        }
+        None => {}
+    }
+}
+
+/// The cell, if it stays.
+fn kept<V: Drop, K: Keeps<V>>(
+    one: Option<(InstanceId, V)>,
+    number: u32,
+    keeper: &K,
+) -> Option<(InstanceId, V)>
+    ensures { result ≡ one_kept (K.keeps keeper.now number) one }
+{
+    match one {
+        Some((inst, value)) => {
+            if keeper.keeps(number, &inst, &value) {
+                Some((inst, value))
+            } else {
+                None
+            }
+        }
+        None => None,
     }
 }
 
@@ -87,59 +169,23 @@ impl<V> Row<V> {
     pub(crate) fn in_order(&self, alloc: Global) -> Result<BTreeMap<&InstanceId, &V>, NoMemory>
         ensures { IfOk result (λ tree. items seen_in tree.entries ≡ map.entries self.now) }
     {
-        let _cells = self.cells.len();
-        let mut tree = BTreeMap::new(alloc);
-        add_each(&mut tree, &self.cells)?;
-        let _count = tree.len();
-        Ok(tree)
+        let mut tree = self.others.in_order(alloc)?;
+        match &self.one {
+            None => Ok(tree),
+            Some((inst, value)) => {
+                tree.insert(inst, value)?;
+                Ok(tree)
+            }
+        }
     }
 
     /// The cell of the least instance. None where there is no cell. It takes no memory.
     pub(crate) fn first(&self) -> Option<(&InstanceId, &V)>
         ensures { option_map seen_in result ≡ slice_get (map.entries self.now) 0 }
     {
-        let _cells = self.cells.len();
-        least_of(&self.cells)
-    }
-}
-
-fn add_each<'a, V>(
-    tree: &mut BTreeMap<&'a InstanceId, &'a V>,
-    cells: &'a HashMap<InstanceId, V>,
-) -> Result<(), NoMemory>
-    ensures { OnOk result (tree_map tree.new.entries ≡ insert_each (tree_map tree.old.entries) cells.now.entries) }
-{
-    for (inst, value) in cells {
-        tree.insert(inst, value)?;
-    }
-    Ok(())
-}
-
-fn least_of<V>(cells: &HashMap<InstanceId, V>) -> Option<(&InstanceId, &V)>
-    ensures { option_map seen_in result ≡ least None cells.now.entries }
-{
-    let mut least = None;
-    for (inst, value) in cells {
-        least = lesser_of(least, inst, value);
-    }
-    least
-}
-
-fn lesser_of<'a, V>(
-    first: Option<(&'a InstanceId, &'a V)>,
-    inst: &'a InstanceId,
-    value: &'a V,
-) -> Option<(&'a InstanceId, &'a V)>
-    ensures { option_map seen_in result ≡ lesser (option_map seen_in first.entry) (inst.now, value.now) }
-{
-    match first {
-        Some((least, at)) => {
-            if inst.cmp(least).is_gt() {
-                Some((least, at))
-            } else {
-                Some((inst, value))
-            }
+        match &self.one {
+            None => self.others.first(),
+            Some((inst, value)) => lesser_of(self.others.first(), inst, value),
         }
-        None => Some((inst, value)),
     }
 }

@@ -1,9 +1,10 @@
 ghost use Rattle.std.specs.Prelude.{map as items, ◌≡◌, ◌<◌, ◌^◌, ◌++◌, length, IfOk, OnOk, OnErr, is_some, IsNone, Some, None, not, true, ℕ, Bool};
 ghost use Rattle.std.specs.Option.{option_copied};
 ghost use Rattle.std.specs.FinMap as map;
-ghost use Rattle.std.specs.BTreeMap as tree;
+ghost use Rattle.std.specs.BTreeMap.{is_at};
+ghost use Rattle.std.specs.Map.{lookup};
 ghost use Rattle.std.specs.Ordering.{nat_cmp};
-ghost use Rattle.opa_cells.specs.Rows.{with_rows, kept_if, row_entries, all_entries, cells_in, cells_at, seen, seen_in};
+ghost use Rattle.opa_cells.specs.Rows.{with_rows, kept_if, row_entries, all_entries, insert_each, tree_map, cells_in, cells_at, seen, seen_in};
 ghost use Rattle.opa_cells.specs.declared.instance.InstanceId.{InstanceId as InstanceView};
 
 use crate::instance::InstanceId;
@@ -11,14 +12,14 @@ use crate::keeps::Keeps;
 use crate::row::Row;
 use opa_io::NoMemory;
 use std::alloc::Global;
-use std::collections::BTreeMap;
+use std::collections::{BTreeMap, HashMap};
 use std::marker::Model;
 
-/// A finite map from pairs of a number and an instance, kept as a row for each number.
+/// A finite map from pairs of a number and an instance, kept as a row for each number, found by its hash.
 #[derive(Drop)]
 pub(crate) struct Rows<V> {
     alloc: Global,
-    pub(crate) rows: BTreeMap<u32, Row<V>>,
+    pub(crate) rows: HashMap<u32, Row<V>>,
 }
 
 impl<V> Model for Rows<V> {
@@ -39,7 +40,7 @@ impl<V> Rows<V> {
     {
         Rows {
             alloc,
-            rows: BTreeMap::new(alloc),
+            rows: HashMap::new(alloc),
         }
     }
 
@@ -87,12 +88,12 @@ impl<V: Drop> Rows<V> {
 /// Inserts a row with one cell, at a number that has none.
 fn put_row<V: Drop>(
     alloc: Global,
-    rows: &mut BTreeMap<u32, Row<V>>,
+    rows: &mut HashMap<u32, Row<V>>,
     number: u32,
     inst: InstanceId,
     value: V,
 ) -> Result<bool, NoMemory>
-    requires { IsNone (tree.get nat_cmp rows.old number) }
+    requires { IsNone (lookup (is_at (nat_cmp number)) rows.old.entries) }
     ensures new { IfOk result (λ new. new ≡ true) }
     ensures ok { OnOk result (with_rows rows.new.entries ≡ map.insert (with_rows rows.old.entries) (number, inst) value) }
     ensures err { OnErr result (rows.new.entries ≡ rows.old.entries) }
@@ -130,6 +131,7 @@ impl<V> Rows<V> {
     pub(crate) fn counted(&self) -> u64
         ensures { map.len self.now < 2 ^ 64 → result ≡ map.len self.now }
     {
+        let _rows = self.rows.len();
         count(&self.rows)
     }
 
@@ -144,17 +146,29 @@ impl<V> Rows<V> {
         }
     }
 
+    /// The rows in order of their numbers.
+    fn in_order(&self, alloc: Global) -> Result<BTreeMap<&u32, &Row<V>>, NoMemory>
+        ensures { IfOk result (λ tree. all_entries (items seen_in tree.entries) ≡ map.entries self.now) }
+    {
+        let _rows = self.rows.len();
+        let mut tree = BTreeMap::new(alloc);
+        add_rows(&mut tree, &self.rows)?;
+        let _count = tree.len();
+        Ok(tree)
+    }
+
     /// The cells in order of their keys.
     pub(crate) fn each(&self, alloc: Global) -> Result<Vec<(u32, &InstanceId, &V)>, NoMemory>
         ensures { IfOk result (λ cells. items seen cells.items ≡ map.entries self.now) }
     {
-        walk(alloc, &self.rows)
+        let rows = self.in_order(alloc)?;
+        let cells = walk(alloc, &rows)?;
+        Ok(cells)
     }
 }
 
-fn count<V>(rows: &BTreeMap<u32, Row<V>>) -> u64
-    ensures count { cells_in rows.now.entries < 2 ^ 64 → result ≡ cells_in rows.now.entries }
-    ensures order { tree.IsOrdered nat_cmp rows.now }
+fn count<V>(rows: &HashMap<u32, Row<V>>) -> u64
+    ensures { cells_in rows.now.entries < 2 ^ 64 → result ≡ cells_in rows.now.entries }
 {
     let mut count: u64 = 0;
     for (_, row) in rows {
@@ -163,16 +177,27 @@ fn count<V>(rows: &BTreeMap<u32, Row<V>>) -> u64
     count
 }
 
-fn walk<V>(
+fn add_rows<'a, V>(
+    tree: &mut BTreeMap<&'a u32, &'a Row<V>>,
+    rows: &'a HashMap<u32, Row<V>>,
+) -> Result<(), NoMemory>
+    ensures { OnOk result (tree_map nat_cmp tree.new.entries ≡ insert_each (tree_map nat_cmp tree.old.entries) rows.now.entries) }
+{
+    for (number, row) in rows {
+        tree.insert(number, row)?;
+    }
+    Ok(())
+}
+
+fn walk<'a, V>(
     alloc: Global,
-    rows: &BTreeMap<u32, Row<V>>,
-) -> Result<Vec<(u32, &InstanceId, &V)>, NoMemory>
-    ensures cells { IfOk result (λ cells. items seen cells.items ≡ all_entries rows.now.entries) }
-    ensures order { tree.IsOrdered nat_cmp rows.now }
+    rows: &BTreeMap<&'a u32, &'a Row<V>>,
+) -> Result<Vec<(u32, &'a InstanceId, &'a V)>, NoMemory>
+    ensures { IfOk result (λ cells. items seen cells.items ≡ all_entries (items seen_in rows.now.entries)) }
 {
     let mut cells = Vec::new(alloc);
     for (number, row) in rows {
-        add_row(alloc, *number, row, &mut cells)?;
+        add_row(alloc, **number, row, &mut cells)?;
     }
     Ok(cells)
 }

@@ -1,17 +1,27 @@
-use Rattle.std.specs.Prelude.{IsSome}
-use Rattle.std.proofs.Common.{ap, subst, ◌∙◌}
+use Rattle.std.proofs.Common.{ap, sym, ◌∙◌}
+use Rattle.std.specs.Option.{option_copied_mut, option_map}
 use Rattle.std.specs.FinMap as map
-use Rattle.opa_cells.specs.Instances.{instance_cmp}
-use Rattle.opa_cells.proofs.Inner.{got_by, cells_put}
-use Rattle.opa_cells.proofs.Lends.{lent, some_lent}
+use Rattle.opa_cells.proofs.Lends.{lent, lent_some}
+use Rattle.opa_cells.proofs.Ones.{got_held, got_other, put_other, lent_held}
 use Rattle.opa_cells.proofs.row.Row.get_mut.Goals as goal
+
+pub returns-in-Some : goal.returns-in-Some
+returns-in-Some g c =
+    let one = c.self.inside.one in
+    let m = c.self.inside.others in
+    let i = c.args.inst.now in
+    let h = sym c.is_held.ensures ∙ c.if-is_held.true in
+    let is = sym (ap option_copied_mut c.in-Some.is) ∙ c.as_mut.ensures.value in (
+      lent_some (λ w. lent_held c.in-Some.field-0.now one m i w is h ∙ ap (λ x. map.insert x i w) c.self.view_is),
+      record { writes_back = tt; value = ap (option_map (λ e. e.1)) is ∙ got_held one m i h ∙ ap (λ x. map.get x i) c.self.view_is },
+    )
 
 pub returns : goal.returns
 returns g c =
-    let es = c.self.inside.cells.entries in (
-      lent c.get_mut.result _ (λ w. map.insert c.args.self.now c.args.inst.now w) _ _
-          (λ some w. cells_put es (c.get_mut.follows.lender w).entries c.args.inst.now w (((c.get_mut.follows.holds w).3 (subst (λ o. IsSome o) c.get_mut.ensures.value (some_lent c.get_mut.result some))).0)
-          ∙ ap (λ m. map.insert m c.args.inst.now w) c.self.view_is)
-          (λ none. ap (λ m. map.from_entries {R = instance_cmp} m.entries) c.get_mut.follows.holds-at-none ∙ c.self.view_is),
-      record { writes_back = tt; value = c.get_mut.ensures.value ∙ got_by es c.args.inst.now ∙ ap (λ m. map.get m c.args.inst.now) c.self.view_is },
+    let one = c.self.inside.one in
+    let m = c.self.inside.others in
+    let i = c.args.inst.now in
+    let h = sym c.is_held.ensures ∙ c.if-is_held.false in (
+      lent c.get_mut.result _ (λ w. map.insert c.args.self.now i w) _ _ (λ some w. put_other one m i w h ∙ ap (λ x. map.insert x i w) c.self.view_is) (λ none. c.self.view_is),
+      record { writes_back = tt; value = c.get_mut.ensures.value ∙ got_other one m i h ∙ ap (λ x. map.get x i) c.self.view_is },
     )

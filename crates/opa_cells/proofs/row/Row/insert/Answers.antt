@@ -1,18 +1,24 @@
-use Rattle.std.proofs.Common.{ap, sym, ◌∙◌, Bool, true, false, ◌≡◌, not}
-use Rattle.std.specs.Prelude.{is_some}
+use Rattle.std.specs.Prelude.{is_some, not}
+use Rattle.std.proofs.Common.{ap, sym, ◌∙◌}
 use Rattle.std.specs.FinMap as map
-use Rattle.opa_cells.proofs.Inner.{got_by, cells_put}
+use Rattle.opa_cells.specs.Rows.{with_one}
+use Rattle.opa_cells.proofs.Rowed.{if_ok, on_ok}
+use Rattle.opa_cells.proofs.Ones.{got_other, held_some, put_held, put_other}
 use Rattle.opa_cells.proofs.row.Row.insert.Goals as goal
 
-other_way : (a b : Bool) → a ≡ not b → b ≡ not a
-other_way a true h = ap not (sym h)
-other_way a false h = ap not (sym h)
+pub returns-then-is_held-clause-new : goal.returns-then-is_held-clause-new
+returns-then-is_held-clause-new g c =
+    ap not (sym (held_some c.self.inside.one c.self.inside.others c.args.inst (sym c.is_held.ensures ∙ c.if-is_held.true))) ∙ ap (λ m. not (is_some (map.get m c.args.inst))) c.self.view_is
 
-pub returns-in-Ok-clause-new : goal.returns-in-Ok-clause-new
-returns-in-Ok-clause-new g c =
-    other_way _ c.is_none.result c.is_none.ensures
-    ∙ ap (λ o. not (is_some o)) (c.in-Ok.ensures.old ∙ got_by c.self.inside.cells.entries c.args.inst ∙ ap (λ m. map.get m c.args.inst) c.self.view_is)
+pub returns-then-is_held-clause-ok : goal.returns-then-is_held-clause-ok
+returns-then-is_held-clause-ok g c =
+    put_held c.self.inside.one c.self.inside.others c.args.inst c.args.value (sym c.is_held.ensures ∙ c.if-is_held.true) ∙ ap (λ m. map.insert m c.args.inst c.args.value) c.self.view_is
 
-pub returns-in-Ok-clause-ok : goal.returns-in-Ok-clause-ok
-returns-in-Ok-clause-ok g c =
-    cells_put c.self.inside.cells.entries c.insert.new.self.entries c.args.inst c.args.value c.in-Ok.ensures.updates.0 ∙ ap (λ m. map.insert m c.args.inst c.args.value) c.self.view_is
+pub returns-clause-new : goal.returns-clause-new
+returns-clause-new g c =
+    if_ok c.insert.result (λ new told. told ∙ ap (λ o. not (is_some o)) (got_other c.self.inside.one c.self.inside.others c.args.inst (sym c.is_held.ensures ∙ c.if-is_held.false) ∙ ap (λ m. map.get m c.args.inst) c.self.view_is)) c.insert.ensures.new
+
+pub returns-clause-ok : goal.returns-clause-ok
+returns-clause-ok g c =
+    on_ok c.insert.result (λ is. ap (with_one c.self.inside.one) is ∙ put_other c.self.inside.one c.self.inside.others c.args.inst c.args.value (sym c.is_held.ensures ∙ c.if-is_held.false)
+    ∙ ap (λ m. map.insert m c.args.inst c.args.value) c.self.view_is) c.insert.ensures.ok

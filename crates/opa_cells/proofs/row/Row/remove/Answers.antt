@@ -1,13 +1,22 @@
-use Rattle.std.proofs.Common.{ap, ◌∙◌}
 use Rattle.std.specs.Prelude.{is_some}
+use Rattle.std.proofs.Common.{ap, sym, ◌∙◌}
 use Rattle.std.specs.FinMap as map
-use Rattle.opa_cells.proofs.Inner.{got_by, cells_taken}
+use Rattle.opa_cells.specs.Rows.{with_one}
+use Rattle.opa_cells.proofs.Ones.{got_other, held_some, removed_held, removed_other}
 use Rattle.opa_cells.proofs.row.Row.remove.Goals as goal
+
+pub returns-then-is_held-clause-was : goal.returns-then-is_held-clause-was
+returns-then-is_held-clause-was g c =
+    sym (held_some c.self.inside.one c.self.inside.others c.args.inst.now (sym c.is_held.ensures ∙ c.if-is_held.true)) ∙ ap (λ m. is_some (map.get m c.args.inst.now)) c.self.view_is
+
+pub returns-then-is_held-clause-removed : goal.returns-then-is_held-clause-removed
+returns-then-is_held-clause-removed g c =
+    c.remove.ensures.removed ∙ removed_held c.self.inside.one c.self.inside.others c.args.inst.now (sym c.is_held.ensures ∙ c.if-is_held.true) ∙ ap (λ m. map.remove m c.args.inst.now) c.self.view_is
 
 pub returns-clause-was : goal.returns-clause-was
 returns-clause-was g c =
-    c.is_some.ensures ∙ ap is_some (c.remove.ensures.value ∙ got_by c.self.inside.cells.entries c.args.inst.now ∙ ap (λ m. map.get m c.args.inst.now) c.self.view_is)
+    c.remove-2.ensures.was ∙ ap is_some (got_other c.self.inside.one c.self.inside.others c.args.inst.now (sym c.is_held.ensures ∙ c.if-is_held.false) ∙ ap (λ m. map.get m c.args.inst.now) c.self.view_is)
 
 pub returns-clause-removed : goal.returns-clause-removed
 returns-clause-removed g c =
-    cells_taken c.self.inside.cells.entries c.remove.new.self.entries c.args.inst.now c.remove.ensures.updates.0 ∙ ap (λ m. map.remove m c.args.inst.now) c.self.view_is
+    ap (with_one c.self.inside.one) c.remove-2.ensures.removed ∙ removed_other c.self.inside.one c.self.inside.others c.args.inst.now (sym c.is_held.ensures ∙ c.if-is_held.false) ∙ ap (λ m. map.remove m c.args.inst.now) c.self.view_is

@@ -1,6 +1,0 @@
-use Rattle.std.specs.Prelude.{◌≡◌}
-use Rattle.opa_cells.specs.Rows.{insert_each, tree_map}
-use Rattle.opa_cells.proofs.row.add_each.Given as goal
-
-abbrev pub invariant-loop-inst : goal.invariant-loop-inst
-invariant-loop-inst g l = insert_each (tree_map l.tree.entries) l.inst-iterator ≡ insert_each (tree_map l.fn.tree.entries) l.cells.entries
