@@ -22,7 +22,7 @@ use Rattle.opa_code.specs.declared.over_lines.gathering.Gathering.{Gathering}
 use Rattle.opa_code.specs.declared.over_lines.items.Items.{Items}
 use Rattle.opa_code.proofs.over_lines.Adding.{few_have_room, item_one}
 use Rattle.opa_code.specs.Running.{Run, put}
-use Rattle.opa_code.specs.Steps.{Leaves, IsListed, IsFirst, IsGathered, IsItem, Collected, HasPlace, items_at, attribute_at, is_count}
+use Rattle.opa_code.specs.Steps.{Leaves, IsListed, IsFirst, IsGathered, IsItem, Collected, HasPlace, items_at, attribute_at, attribute_in, is_count}
 use Rattle.opa_code.specs.declared.node.Node.{Node}
 use Rattle.opa_code.specs.declared.node.Node.TheVariants as node
 use Rattle.opa_code.proofs.Inverting.{IsPlain, run_none, run_step}
@@ -73,6 +73,9 @@ attribute_is (node.Rolling b n ∷ []) a owner e = absurd (cc e)
 attribute_is (node.Choose ∷ []) a owner e = absurd (cc e)
 attribute_is (node.Leave how k n ∷ []) a owner e = absurd (cc e)
 attribute_is (node.Pass n ∷ []) a owner e = absurd (cc e)
+
+pub reads_attribute : (n : Node) (a : AttrId) (owner : ℕ) → attribute_in n ≡ Some (a, owner) → n ≡ node.Attr a owner
+reads_attribute n a owner e = cc (attribute_is (n ∷ []) a owner e)
 
 -- what is gathered is what the quantifier makes of the items
 gathers_is : (q : Quant) (how : Gathering) (vs : List Value) → gathers q ≡ Some how → gather_of how vs ≡ quant_of q vs

@@ -16,7 +16,7 @@ use Rattle.opa_mean.specs.Looks.{Look}
 use Rattle.opa_mean.specs.Meaning.{Meaning, each, certain_of, known_of, choose, window, rolling}
 use Rattle.opa_mean.specs.Operations.{op_of}
 use Rattle.opa_mean.proofs.Values.{window_more}
-use Rattle.opa_code.specs.OverLines.Lines.{Stand, meaning_of, values_at}
+use Rattle.opa_code.specs.OverLines.Lines.{Has as HasAll, Stand, meaning_of, values_at}
 use Rattle.opa_code.specs.Running.{put, node_meaning, operand_count, sole, chosen, IsStep}
 use Rattle.opa_code.specs.declared.node.Node.{Node}
 use Rattle.opa_code.specs.declared.node.Node.TheVariants as node
@@ -31,6 +31,10 @@ day_is l f h d lt = ap (value_or Unknown) (h d lt)
 -- a line that stands for values stands for equal ones
 pub stands_same : (l : List (ℕ × Value)) (f g : ℕ → Value) → ((d : ℕ) → d < DAYS → f d ≡ g d) → StandsFor DAYS f l → StandsFor DAYS g l
 stands_same l f g same h d lt = h d lt ∙ ap Some (same d lt)
+
+-- an operand that was made has what its line stands for
+pub has_made : (made l : List (ℕ × Value)) (f : ℕ → Value) → l ≡ made → StandsFor DAYS f made → HasAll f l
+has_made made l f is stands d lt = ap (λ k. day_value k d) is ∙ day_is made f stands d lt
 
 pub each_lines : (lines : Lines) (enclosing : List InstanceId) (d : ℕ) → each (map meaning_of lines) enclosing d ≡ values_at lines d
 each_lines [] enclosing d = refl
@@ -184,10 +188,10 @@ module _ (enclosing : List InstanceId) where
 
   -- the operands are taken from the end, and the node's line is put there
   pub put_stands : (l : Look) (n : Node) (old left : Lines) (st : List Meaning) (from : ℕ) (line : List (ℕ × Value)) → from ≡ length old - operand_count n → left ≡ take from old
-      → (IsStep n → StandsFor DAYS (node_meaning l n (map meaning_of (drop from old)) enclosing) line) → IsStep n → Stand enclosing old st → Stand enclosing (left ++ line ∷ []) (put l n st)
+      → (IsStep n → HasAll (node_meaning l n (map meaning_of (drop from old)) enclosing) line) → IsStep n → Stand enclosing old st → Stand enclosing (left ++ line ∷ []) (put l n st)
   put_stands l n old left st from line is left_is stands ok h =
       let k : from ≡ length st - operand_count n = is ∙ ap (λ n'. n' - operand_count n) (stand_length old st h) in
       subst (λ j. Stand enclosing (left ++ line ∷ []) (take j st ++ node_meaning l n (drop j st) ∷ [])) k
       (subst (λ xs. Stand enclosing (xs ++ line ∷ []) (take from st ++ node_meaning l n (drop from st) ∷ [])) (sym left_is)
-      (stand_push (take from old) (take from st) line (node_meaning l n (drop from st)) (stand_take from old st h)
-      (stands_same line _ _ (node_same l n (drop from old) (drop from st) (stand_drop from old st h)) (stands ok))))
+      (stand_more (take from old) (take from st) line (node_meaning l n (drop from st)) (stand_take from old st h)
+      (λ d lt. stands ok d lt ∙ node_same l n (drop from old) (drop from st) (stand_drop from old st h) d lt)))

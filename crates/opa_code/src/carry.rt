@@ -1,18 +1,21 @@
 // A node, carried out over the lines of its operands.
-ghost use Rattle.std.specs.Prelude.{◌≡◌, ◌≤◌, ◌∷◌, ◌++◌, [], List as Seq, map, drop, IfOk, OnOk};
+ghost use Rattle.std.specs.Prelude.{◌≡◌, ◌≤◌, ◌∷◌, ◌++◌, [], None, List as Seq, map, drop, IfOk, OnOk};
 ghost use Rattle.opa_cells.specs.declared.instance.InstanceId.{InstanceId as Instance};
 ghost use Rattle.opa_date.specs.declared.TheConstants.{DAYS};
 ghost use Rattle.opa_line.specs.Lines.{StandsFor};
 ghost use Rattle.opa_mean.specs.Meaning as meant;
 ghost use Rattle.opa_value.specs.Truth.{not_of};
+ghost use Rattle.opa_value.specs.declared.value.Value.TheVariants.{Uncertain};
 ghost use Rattle.opa_mean.specs.Places.{place};
-ghost use Rattle.opa_code.specs.OverLines.Lines.{Stand, meaning_of};
+ghost use Rattle.opa_mean.specs.Looks.{Look as Looked};
+ghost use Rattle.opa_code.specs.OverLines.Lines.{Has, Stand, meaning_of};
 ghost use Rattle.opa_code.specs.Running.{IsStep, node_meaning, operand_count as count_of, put, sole, chosen};
+ghost use Rattle.opa_code.specs.Steps.{attribute_in};
 
 use crate::node::Node;
 use crate::over_lines::{
-    Gathering, certain_line, choice_line, gathered, known_line, not_line, op_line, rolling_line,
-    same_line, window_line,
+    Gathering, Operand, certain_line, choice_line, gathered_over, known_line, not_line, op_over,
+    rolling_line, window_line,
 };
 use opa_case::InstanceId;
 use opa_io::NoMemory;
@@ -22,19 +25,19 @@ use opa_model::AttrId;
 use opa_value::Value;
 use std::alloc::Global;
 
-/// Adds a line at the end.
-pub(crate) fn add(lines: &mut Vec<Line<Value>>, line: Line<Value>) -> Result<(), NoMemory>
-    ensures { OnOk result (lines.new.items ≡ lines.old.items ++ line ∷ []) }
+/// Adds an operand at the end.
+pub(crate) fn add<'a>(operands: &mut Vec<Operand<'a>>, operand: Operand<'a>) -> Result<(), NoMemory>
+    ensures { OnOk result (operands.new.items ≡ operands.old.items ++ operand.entry ∷ []) }
 {
-    lines.push(line)?;
+    operands.push(operand)?;
     Ok(())
 }
 
 /// Takes the operands of a node from the end, and puts there what it makes of them.
-pub(crate) fn carry_out<K: Look>(
+pub(crate) fn carry_out<'a, K: Look>(
     alloc: Global,
-    look: &K,
-    stack: &mut Vec<Line<Value>>,
+    look: &'a K,
+    stack: &mut Vec<Operand<'a>>,
     node: &Node,
     enclosing: &[InstanceId],
 ) -> Result<(), NoMemory>
@@ -42,9 +45,9 @@ pub(crate) fn carry_out<K: Look>(
 {
     let from = stack.len().saturating_sub(operand_count(node));
     let operands = behind(from, stack);
-    let line = node_line(alloc, look, node, operands, enclosing)?;
+    let operand = node_operand(alloc, look, node, operands, enclosing)?;
     stack.truncate(from);
-    add(stack, line)
+    add(stack, operand)
 }
 
 /// The items behind the first ones.
@@ -66,114 +69,137 @@ fn operand_count(node: &Node) -> usize
     }
 }
 
-/// What a node makes of its operands.
-fn node_line<K: Look>(
+/// What a node makes of its operands: the line of an attribute stays where it is.
+fn node_operand<'a, K: Look>(
     alloc: Global,
-    look: &K,
+    look: &'a K,
     node: &Node,
-    operands: &[Line<Value>],
+    operands: &[Operand<'a>],
     enclosing: &[InstanceId],
-) -> Result<Line<Value>, NoMemory>
-    ensures { IfOk result (λ line. IsStep node.now → StandsFor DAYS (node_meaning (K.looks look.now) node.now (map meaning_of operands.now) enclosing.now) line) }
+) -> Result<Operand<'a>, NoMemory>
+    ensures { IfOk result (λ line. IsStep node.now → Has (node_meaning (K.looks look.now) node.now (map meaning_of operands.now) enclosing.now) line) }
+{
+    match attribute_in(node) {
+        Some((attr, owner)) => attr_operand(alloc, look, attr, owner, enclosing),
+        None => {
+            let line = made_line(alloc, node, operands)?;
+            Ok(Operand::made(line))
+        }
+    }
+}
+
+/// The attribute that a node reads.
+pub(crate) fn attribute_in(node: &Node) -> Option<(AttrId, u32)>
+    ensures { result ≡ attribute_in node.now }
+{
+    match node {
+        Node::Attr(attr, owner) => Some((*attr, *owner)),
+        _ => None,
+    }
+}
+
+/// The line that a node makes of its operands, uncertain on every day where it makes none: an attribute's is looked up.
+fn made_line(alloc: Global, node: &Node, operands: &[Operand<'_>]) -> Result<Line<Value>, NoMemory>
+    ensures { IfOk result (λ line. (l : Looked) (enclosing : Seq Instance) → attribute_in node.now ≡ None → IsStep node.now → StandsFor DAYS (node_meaning l node.now (map meaning_of operands.now) enclosing) line) }
 {
     match node {
         Node::Const(value) => Line::constant(alloc, value.copy(alloc)?),
-        Node::Attr(attr, owner) => attr_line(alloc, look, *attr, *owner, enclosing),
-        Node::All(_) => gathered(alloc, Gathering::All, operands),
-        Node::Any(_) => gathered(alloc, Gathering::Any, operands),
+        Node::All(_) => gathered_over(alloc, Gathering::All, operands),
+        Node::Any(_) => gathered_over(alloc, Gathering::Any, operands),
         Node::Not => not_sole(alloc, operands),
-        Node::Op(kind, _) => op_line(alloc, *kind, operands),
+        Node::Op(kind, _) => op_over(alloc, *kind, operands),
         Node::Certain => certain_sole(alloc, operands),
         Node::Known => known_sole(alloc, operands),
         Node::Window(kind, _) => window_line(alloc, *kind, operands),
         Node::Rolling(always, days) => rolling_sole(alloc, *always, *days, operands),
         Node::Choose => chosen_line(alloc, operands),
-        Node::Over(_, _, _, _, _) | Node::Leave(_, _, _) | Node::Pass(_) => {
+        Node::Attr(_, _) | Node::Over(_, _, _, _, _) | Node::Leave(_, _, _) | Node::Pass(_) => {
             Line::constant(alloc, Value::Uncertain)
         }
     }
 }
 
-/// The only operand, uncertain on every day where there isn't just one.
-fn sole_line(alloc: Global, operands: &[Line<Value>]) -> Result<Line<Value>, NoMemory>
-    ensures { IfOk result (λ line. (enclosing : Seq Instance) → StandsFor DAYS (sole (map meaning_of operands.now) enclosing) line) }
+/// The only operand's line, or another that is uncertain on every day where there isn't just one.
+fn sole_line<'b>(operands: &'b [Operand<'_>], other: &'b Line<Value>) -> &'b Line<Value>
+    requires { StandsFor DAYS (λ _. Uncertain) other.now }
+    ensures { (enclosing : Seq Instance) → Has (sole (map meaning_of operands.now) enclosing) result.now }
 {
     match operands {
-        [x] => same_line(alloc, x),
-        _ => Line::constant(alloc, Value::Uncertain),
+        [x] => x.line(),
+        _ => other,
     }
 }
 
-fn not_sole(alloc: Global, operands: &[Line<Value>]) -> Result<Line<Value>, NoMemory>
+fn not_sole(alloc: Global, operands: &[Operand<'_>]) -> Result<Line<Value>, NoMemory>
     ensures { IfOk result (λ line. (enclosing : Seq Instance) → StandsFor DAYS (λ d. not_of (sole (map meaning_of operands.now) enclosing d)) line) }
 {
-    let x = sole_line(alloc, operands)?;
-    not_line(alloc, &x)
+    let none = Line::constant(alloc, Value::Uncertain)?;
+    not_line(alloc, sole_line(operands, &none))
 }
 
-fn certain_sole(alloc: Global, operands: &[Line<Value>]) -> Result<Line<Value>, NoMemory>
+fn certain_sole(alloc: Global, operands: &[Operand<'_>]) -> Result<Line<Value>, NoMemory>
     ensures { IfOk result (λ line. (enclosing : Seq Instance) → StandsFor DAYS (λ d. meant.certain_of (sole (map meaning_of operands.now) enclosing d)) line) }
 {
-    let x = sole_line(alloc, operands)?;
-    certain_line(alloc, &x)
+    let none = Line::constant(alloc, Value::Uncertain)?;
+    certain_line(alloc, sole_line(operands, &none))
 }
 
-fn known_sole(alloc: Global, operands: &[Line<Value>]) -> Result<Line<Value>, NoMemory>
+fn known_sole(alloc: Global, operands: &[Operand<'_>]) -> Result<Line<Value>, NoMemory>
     ensures { IfOk result (λ line. (enclosing : Seq Instance) → StandsFor DAYS (λ d. meant.known_of (sole (map meaning_of operands.now) enclosing d)) line) }
 {
-    let x = sole_line(alloc, operands)?;
-    known_line(alloc, &x)
+    let none = Line::constant(alloc, Value::Uncertain)?;
+    known_line(alloc, sole_line(operands, &none))
 }
 
 fn rolling_sole(
     alloc: Global,
     always: bool,
     days: u32,
-    operands: &[Line<Value>],
+    operands: &[Operand<'_>],
 ) -> Result<Line<Value>, NoMemory>
     ensures { IfOk result (λ line. (enclosing : Seq Instance) → days ≤ 36600 → StandsFor DAYS (meant.rolling always days (sole (map meaning_of operands.now) enclosing)) line) }
 {
-    let x = sole_line(alloc, operands)?;
-    rolling_line(alloc, always, days, &x)
+    let none = Line::constant(alloc, Value::Uncertain)?;
+    rolling_line(alloc, always, days, sole_line(operands, &none))
 }
 
 /// A condition, a value and what stands behind them.
-fn chosen_line(alloc: Global, operands: &[Line<Value>]) -> Result<Line<Value>, NoMemory>
+fn chosen_line(alloc: Global, operands: &[Operand<'_>]) -> Result<Line<Value>, NoMemory>
     ensures { IfOk result (λ line. (enclosing : Seq Instance) → StandsFor DAYS (chosen (map meaning_of operands.now) enclosing) line) }
 {
     match operands {
-        [cond, value, rest] => choice_line(alloc, cond, value, rest),
+        [cond, value, rest] => { choice_line(alloc, cond.line(), value.line(), rest.line()) }
         _ => Line::constant(alloc, Value::Uncertain),
     }
 }
 
 /// The line of an attribute at its place.
-fn attr_line<K: Look>(
+fn attr_operand<'a, K: Look>(
     alloc: Global,
-    look: &K,
+    look: &'a K,
     attr: AttrId,
     owner: u32,
     enclosing: &[InstanceId],
-) -> Result<Line<Value>, NoMemory>
-    ensures { IfOk result (StandsFor DAYS (λ d. meant.at_place (place (K.looks look.now).container enclosing.now owner) (λ i. (K.looks look.now).value attr i d))) }
+) -> Result<Operand<'a>, NoMemory>
+    ensures { IfOk result (Has (λ d. meant.at_place (place (K.looks look.now).container enclosing.now owner) (λ i. (K.looks look.now).value attr i d))) }
 {
     match place_in(look, enclosing, owner) {
-        None => Line::constant(alloc, Value::Uncertain),
-        Some(inst) => looked_line(alloc, look, attr, inst),
+        None => Operand::constant(alloc, Value::Uncertain),
+        Some(inst) => looked_up(alloc, look, attr, inst),
     }
 }
 
 /// The line that is looked up, unknown on every day where there is none.
-fn looked_line<K: Look>(
+fn looked_up<'a, K: Look>(
     alloc: Global,
-    look: &K,
+    look: &'a K,
     attr: AttrId,
     inst: &InstanceId,
-) -> Result<Line<Value>, NoMemory>
-    ensures { IfOk result (StandsFor DAYS ((K.looks look.now).value attr inst.now)) }
+) -> Result<Operand<'a>, NoMemory>
+    ensures { IfOk result (Has ((K.looks look.now).value attr inst.now)) }
 {
     match look.line(attr, inst) {
-        None => Line::constant(alloc, Value::Unknown),
-        Some(line) => same_line(alloc, line),
+        None => Operand::constant(alloc, Value::Unknown),
+        Some(line) => Ok(Operand::seen(line)),
     }
 }

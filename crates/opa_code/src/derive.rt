@@ -7,7 +7,7 @@ ghost use Rattle.opa_mean.specs.Meaning.{first_value};
 ghost use Rattle.opa_code.specs.OverLines.Lines.{values_at};
 
 use crate::Code;
-use crate::over_lines::{first_line, fitted_line};
+use crate::over_lines::{Operand, fitted_line, taken_first};
 use crate::run::run;
 use opa_case::InstanceId;
 use opa_io::{List, NoMemory};
@@ -34,7 +34,7 @@ impl Derive for Code {
             Some(code) => {
                 let enclosing = alone(alloc, inst)?;
                 let lines = run(alloc, look, code.nodes.as_slice(), enclosing.as_slice())?;
-                concluded_line(alloc, code.money, &lines)
+                concluded_line(alloc, code.money, lines)
             }
         }
     }
@@ -53,10 +53,13 @@ fn alone(alloc: Global, inst: &InstanceId) -> Result<List<InstanceId>, NoMemory>
 fn concluded_line(
     alloc: Global,
     money: bool,
-    lines: &[Line<Value>],
+    operands: Vec<Operand<'_>>,
 ) -> Result<Line<Value>, NoMemory>
-    ensures { IfOk result (StandsFor DAYS (λ d. fit_of money (first_value (values_at lines.now d)))) }
+    ensures { IfOk result (StandsFor DAYS (λ d. fit_of money (first_value (values_at operands.entry.items d)))) }
 {
-    let first = first_line(alloc, lines)?;
-    fitted_line(alloc, money, &first)
+    let first = taken_first(alloc, operands)?;
+    if money {
+        return fitted_line(alloc, money, &first);
+    }
+    Ok(first)
 }

@@ -9,7 +9,7 @@ ghost use Rattle.opa_code.specs.declared.node.Node.TheVariants as nodes_of;
 
 use crate::carry::{add, behind, carry_out};
 use crate::node::{Decider, Node};
-use crate::over_lines::constant_of;
+use crate::over_lines::{Operand, constant_of, take_newest};
 use opa_case::InstanceId;
 use opa_io::NoMemory;
 use opa_line::Line;
@@ -18,14 +18,14 @@ use opa_value::Value;
 use std::alloc::Global;
 
 /// One node that is no quantifier: the nodes that are left.
-pub(crate) fn go_on<'a, K: Look>(
+pub(crate) fn go_on<'a, 'n, K: Look>(
     alloc: Global,
-    look: &K,
-    stack: &mut Vec<Line<Value>>,
+    look: &'a K,
+    stack: &mut Vec<Operand<'a>>,
     node: &Node,
-    after: &'a [Node],
+    after: &'n [Node],
     enclosing: &[InstanceId],
-) -> Result<&'a [Node], NoMemory>
+) -> Result<&'n [Node], NoMemory>
     ensures kept { over_at node.now ≡ None → IfOk result (λ rest.
         Keeps (K.looks look.now) enclosing.now stack.old.items (node.now ∷ after.now) stack.new.items rest.now) }
     ensures fewer { IfOk result (λ rest. length rest.now ≤ length after.now) }
@@ -37,14 +37,14 @@ pub(crate) fn go_on<'a, K: Look>(
 }
 
 /// One node that is neither a quantifier nor makes others needless.
-fn go_past<'a, K: Look>(
+fn go_past<'a, 'n, K: Look>(
     alloc: Global,
-    look: &K,
-    stack: &mut Vec<Line<Value>>,
+    look: &'a K,
+    stack: &mut Vec<Operand<'a>>,
     node: &Node,
-    after: &'a [Node],
+    after: &'n [Node],
     enclosing: &[InstanceId],
-) -> Result<&'a [Node], NoMemory>
+) -> Result<&'n [Node], NoMemory>
     ensures kept { over_at node.now ≡ None → leave_at node.now ≡ None → IfOk result (λ rest.
         Keeps (K.looks look.now) enclosing.now stack.old.items (node.now ∷ after.now) stack.new.items rest.now) }
     ensures fewer { IfOk result (λ rest. length rest.now ≤ length after.now) }
@@ -59,13 +59,13 @@ fn go_past<'a, K: Look>(
 }
 
 /// The nodes behind, or those that are left where they are needless.
-fn leave<'a>(
-    stack: &mut Vec<Line<Value>>,
+fn leave<'n>(
+    stack: &mut Vec<Operand<'_>>,
     how: Decider,
     dropped: usize,
     count: usize,
-    after: &'a [Node],
-) -> Result<&'a [Node], NoMemory>
+    after: &'n [Node],
+) -> Result<&'n [Node], NoMemory>
     ensures kept { IfOk result (λ rest. (l : Looked) (enclosing : Seq Instance)
         → Keeps l enclosing stack.old.items (nodes_of.Leave how dropped count ∷ after.now) stack.new.items rest.now) }
     ensures fewer { IfOk result (λ rest. length rest.now ≤ length after.now) }
@@ -86,13 +86,13 @@ fn needless(settled: bool, count: usize) -> usize
 }
 
 /// Puts the newest line back, in place of so many before it if these decide.
-fn put_back(
-    stack: &mut Vec<Line<Value>>,
+fn put_back<'a>(
+    stack: &mut Vec<Operand<'a>>,
     how: Decider,
     dropped: usize,
-    newest: Line<Value>,
+    newest: Operand<'a>,
 ) -> Result<bool, NoMemory>
-    ensures { IfOk result (λ settled. IsPutBack how dropped settled stack.old.items newest stack.new.items) }
+    ensures { IfOk result (λ settled. IsPutBack how dropped settled stack.old.items newest.entry stack.new.items) }
 {
     let from = stack.len().saturating_sub(dropped);
     if is_decided(how, behind(from, stack), &newest) {
@@ -104,58 +104,50 @@ fn put_back(
     Ok(false)
 }
 
-/// Takes the newest line away.
-fn take_newest(stack: &mut Vec<Line<Value>>) -> Option<Line<Value>>
-    ensures { MatchOption result ((stack.old.items ≡ []) × (stack.new.items ≡ []))
-        (λ x. stack.old.items ≡ stack.new.items ++ x ∷ []) }
-{
-    stack.pop()
-}
-
 /// The nodes behind a condition, or those that are left where it is false on every day.
-fn pass<'a>(
+fn pass<'n>(
     alloc: Global,
-    stack: &mut Vec<Line<Value>>,
+    stack: &mut Vec<Operand<'_>>,
     count: usize,
-    after: &'a [Node],
-) -> Result<&'a [Node], NoMemory>
+    after: &'n [Node],
+) -> Result<&'n [Node], NoMemory>
     ensures kept { IfOk result (λ rest. (l : Looked) (enclosing : Seq Instance)
         → Keeps l enclosing stack.old.items (nodes_of.Pass count ∷ after.now) stack.new.items rest.now) }
     ensures fewer { IfOk result (λ rest. length rest.now ≤ length after.now) }
 {
     if is_refuted(stack) {
-        let line = Line::constant(alloc, Value::Uncertain)?;
+        let line = Operand::constant(alloc, Value::Uncertain)?;
         add(stack, line)?;
         return Ok(behind(count, after));
     }
     Ok(after)
 }
 
-fn is_decided(how: Decider, before: &[Line<Value>], newest: &Line<Value>) -> bool
+fn is_decided(how: Decider, before: &[Operand<'_>], newest: &Operand<'_>) -> bool
     ensures { IsTrue result → AreDecided how before.now newest.now }
 {
     match how {
-        Decider::AtFalse => is_always(newest, false),
-        Decider::AtTrue => is_always(newest, true),
+        Decider::AtFalse => is_always(newest.line(), false),
+        Decider::AtTrue => is_always(newest.line(), true),
         Decider::Chosen => match before {
-            [test, ..] => is_always(test, true),
+            [test, ..] => is_always(test.line(), true),
             [] => false,
         },
     }
 }
 
 /// Whether the newest line is false on every day.
-fn is_refuted(stack: &[Line<Value>]) -> bool
+fn is_refuted(stack: &[Operand<'_>]) -> bool
     ensures { IsTrue result → IsRefuted stack.now }
 {
     match back(stack) {
-        Some(parts) => is_always(parts.0, false),
+        Some(parts) => is_always(parts.0.line(), false),
         None => false,
     }
 }
 
 /// The newest line, and those before it.
-fn back(stack: &[Line<Value>]) -> Option<(&Line<Value>, &[Line<Value>])>
+fn back<'a, 'b>(stack: &'b [Operand<'a>]) -> Option<(&'b Operand<'a>, &'b [Operand<'a>])>
     ensures { MatchOption result (stack.now ≡ []) (λ x. stack.now ≡ x.1.now ++ x.0.now ∷ []) }
 {
     match stack {

@@ -18,9 +18,9 @@ mod tree_lines;
 pub use code::Code;
 pub use laws::code_is_short;
 pub use over_lines::{
-    Gathering, Items, amount, certain_line, choice_line, constant_of, first_line, fitted_line,
-    gathered, gathering_of, item_line, known_line, not_line, op_line, quantified, rolling_line,
-    same_line, window_line,
+    Gathering, Items, Operand, amount, certain_line, choice_line, constant_of, first_line,
+    fitted_line, gathered, gathering_of, item_line, known_line, not_line, op_line, quantified,
+    rolling_line, same_line, window_line,
 };
 pub use rules::compile;
 pub use tree_lines::tree_line;

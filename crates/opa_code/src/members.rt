@@ -5,7 +5,7 @@ ghost use Rattle.opa_mean.specs.Meaning.{at_place};
 ghost use Rattle.opa_mean.specs.Places.{place};
 ghost use Rattle.opa_code.specs.OverLines.Additions.{HasRoom, IsAdded};
 
-use crate::over_lines::Items;
+use crate::over_lines::{Items, Operand};
 use opa_case::InstanceId;
 use opa_io::{List, NoMemory, Txt};
 use opa_mean::{Look, place_in};
@@ -47,13 +47,13 @@ pub(crate) fn put_first(
 }
 
 /// The line of an attribute at its place, as one item more.
-pub(crate) fn add_attribute<K: Look>(
+pub(crate) fn add_attribute<'a, K: Look>(
     alloc: Global,
-    look: &K,
+    look: &'a K,
     attr: AttrId,
     owner: u32,
     enclosing: &[InstanceId],
-    items: &mut Items,
+    items: &mut Items<'a>,
 ) -> Result<(), NoMemory>
     requires { HasRoom items.old }
     ensures { OnOk result (IsAdded (λ d. at_place (place (K.looks look.now).container enclosing.now owner) (λ i. (K.looks look.now).value attr i d)) items.old items.new) }
@@ -65,18 +65,21 @@ pub(crate) fn add_attribute<K: Look>(
 }
 
 /// The line that is looked up, unknown on every day where there is none, as one item more.
-fn add_looked_up<K: Look>(
+fn add_looked_up<'a, K: Look>(
     alloc: Global,
-    look: &K,
+    look: &'a K,
     attr: AttrId,
     inst: &InstanceId,
-    items: &mut Items,
+    items: &mut Items<'a>,
 ) -> Result<(), NoMemory>
     requires { HasRoom items.old }
     ensures { OnOk result (IsAdded ((K.looks look.now).value attr inst.now) items.old items.new) }
 {
     match look.line(attr, inst) {
         None => items.add_value(alloc, &Value::Unknown),
-        Some(line) => items.add(alloc, line),
+        Some(line) => {
+            let operand = Operand::seen(line);
+            items.add(alloc, &operand)
+        }
     }
 }

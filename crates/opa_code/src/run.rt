@@ -6,13 +6,13 @@ ghost use Rattle.opa_mean.specs.Meaning as meant;
 ghost use Rattle.opa_code.specs.OverLines.Additions.{HasRoom};
 ghost use Rattle.opa_code.specs.OverLines.Lines.{Stand, meaning_of, values_at};
 ghost use Rattle.opa_code.specs.Steps.{IsFirst, IsGathered, IsItem, IsListed, IsOver, Keeps, Leaves};
-ghost use Rattle.opa_code.specs.Steps.{attribute_at, attribute_in, is_count, over_at};
+ghost use Rattle.opa_code.specs.Steps.{attribute_at, is_count, over_at};
 
-use crate::carry::{add, behind};
+use crate::carry::{add, attribute_in, behind};
 use crate::leave::go_on;
 use crate::members::{add_attribute, put_first, with_room};
 use crate::node::Node;
-use crate::over_lines::{Gathering, Items, amount, gathering_of, item_line};
+use crate::over_lines::{Gathering, Items, Operand, amount, gathering_of, item_line};
 use opa_case::InstanceId;
 use opa_io::{NoMemory, Txt, front};
 use opa_line::Line;
@@ -24,12 +24,12 @@ use std::alloc::Global;
 
 /// The lines that nodes leave at enclosing instances.
 #[cycle(running)]
-pub(crate) fn run<K: Look>(
+pub(crate) fn run<'a, K: Look>(
     alloc: Global,
-    look: &K,
+    look: &'a K,
     nodes: &[Node],
     enclosing: &[InstanceId],
-) -> Result<Vec<Line<Value>>, NoMemory>
+) -> Result<Vec<Operand<'a>>, NoMemory>
     ensures { IfOk result (λ lines. Leaves (K.looks look.now) enclosing.now nodes.now lines.items) }
 {
     let mut stack = Vec::new(alloc);
@@ -42,14 +42,14 @@ pub(crate) fn run<K: Look>(
 
 /// One node, or one quantifier with the nodes of its operand: the nodes that are left.
 #[cycle(running)]
-fn step<'a, K: Look>(
+fn step<'a, 'n, K: Look>(
     alloc: Global,
-    look: &K,
-    stack: &mut Vec<Line<Value>>,
+    look: &'a K,
+    stack: &mut Vec<Operand<'a>>,
     node: &Node,
-    after: &'a [Node],
+    after: &'n [Node],
     enclosing: &[InstanceId],
-) -> Result<&'a [Node], NoMemory>
+) -> Result<&'n [Node], NoMemory>
     ensures kept { IfOk result (λ rest. Keeps (K.looks look.now) enclosing.now stack.old.items
         (node.now ∷ after.now) stack.new.items rest.now) }
     ensures fewer { IfOk result (λ rest. length rest.now ≤ length after.now) }
@@ -59,7 +59,8 @@ fn step<'a, K: Look>(
         Some((quant, (rel, (source, (target, count))))) => {
             let operand = up_to(count, after);
             let line = over_line(alloc, look, quant, rel, source, target, operand, enclosing)?;
-            add(stack, line)?;
+            let value = Operand::made(line);
+            add(stack, value)?;
             Ok(behind(count, after))
         }
     }
@@ -177,13 +178,13 @@ fn gathered_line<K: Look>(
 
 /// What a quantifier makes of an operand at enclosing instances, as one item more.
 #[cycle(running)]
-fn add_item<K: Look>(
+fn add_item<'a, K: Look>(
     alloc: Global,
-    look: &K,
+    look: &'a K,
     quant: Quant,
     operand: &[Node],
     enclosing: &[InstanceId],
-    items: &mut Items,
+    items: &mut Items<'a>,
 ) -> Result<(), NoMemory>
     requires { HasRoom items.old }
     ensures { OnOk result (IsItem (K.looks look.now) enclosing.now operand.now quant items.old items.new) }
@@ -210,15 +211,6 @@ fn attribute_of(nodes: &[Node]) -> Option<(AttrId, u32)>
     match nodes {
         [node] => attribute_in(node),
         [] | [_, _, ..] => None,
-    }
-}
-
-fn attribute_in(node: &Node) -> Option<(AttrId, u32)>
-    ensures { result ≡ attribute_in node.now }
-{
-    match node {
-        Node::Attr(attr, owner) => Some((*attr, *owner)),
-        _ => None,
     }
 }
 

@@ -9,7 +9,7 @@ ghost use Rattle.opa_code.specs.Runnable.{can_run as runs};
 
 use crate::gather::nodes_in;
 use crate::node::Node;
-use crate::over_lines::first_line;
+use crate::over_lines::taken_first;
 use crate::run::run;
 use opa_case::InstanceId;
 use opa_io::limits::MOST_DAYS;
@@ -76,7 +76,7 @@ fn left_line<K: Look>(
     ensures { IfOk result (IsLeft (K.looks look.now) enclosing.now nodes.now) }
 {
     let lines = run(alloc, look, nodes, enclosing)?;
-    first_line(alloc, &lines)
+    taken_first(alloc, lines)
 }
 
 /// The value at each day, one after another.

@@ -187,10 +187,10 @@ all_tallied values held l h beside d lt =
     let e = beside h.constants h.tallied d lt in (e.0, alike_tally (is_most held.gathering) (h.constants ++ values_at held.dated d) (values d) e.0 (h.alike d lt) e.1, e.2)
 
 module _ {F E : Type 0} (g : Shared F (Bor Tally × (Bor Value × Unit {0})) (Result Value E)) (f : F) where
-  pub values_told : (how : Gathering) (values : ℕ → List Value) (tallies : List (ℕ × Tally)) (first l : List (ℕ × Value)) → EachDay (λ d t. IsTally (is_most how) (values d) t) DAYS tallies → ((d : ℕ) → d < DAYS → at first d ≡ Some (first_value (values d)))
+  pub values_told : (how : Gathering) (values : ℕ → List Value) (tallies : List (ℕ × Tally)) (first l : List (ℕ × Value)) → EachDay (λ d t. IsTally (is_most how) (values d) t) DAYS tallies → ((d : ℕ) → d < DAYS → day_value first d ≡ first_value (values d))
       → ((p : Bor Tally) (q : Bor Value) (z : Value) → g.post f (p, (q, tt)) (Ok z) → z ≡ told how p.now q.now) → EachDay (Joins g f tallies first) DAYS l → StandsFor DAYS (λ d. gather_of how (values d)) l
   values_told how values tallies first l h s means each d lt =
       let e = each d lt in let j = e.1 in let k = h d lt in
-      let v : j.second.now ≡ first_value (values d) = some_same _ _ (sym j.right ∙ s d lt) in
+      let v : j.second.now ≡ first_value (values d) = ap (value_or Unknown) (sym j.right) ∙ s d lt in
       let t : IsTally (is_most how) (values d) j.first.now = subst (IsTally (is_most how) (values d)) (some_same k.0 j.first.now (sym k.2 ∙ j.left)) k.1 in
       e.2 ∙ ap Some (means j.first j.second e.0 j.says ∙ ap (told how j.first.now) v ∙ told_is how (values d) j.first.now t)

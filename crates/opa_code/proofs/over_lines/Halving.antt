@@ -6,11 +6,12 @@ use Rattle.std.proofs.lemmas.List.{map-append, length-map, take-append-drop}
 use denote.Ref.{Bor}
 use Rattle.opa_date.specs.declared.TheConstants.{DAYS}
 use Rattle.opa_value.specs.declared.value.Value.{Value}
-use Rattle.opa_line.specs.Lines.{at, StandsFor}
+use Rattle.opa_value.specs.declared.value.Value.TheVariants.{Unknown}
+use Rattle.opa_line.specs.Lines.{at, value_or, IsLine, StandsFor}
 use Rattle.opa_line.specs.Pointwise.{EachDay, Joins}
 use Rattle.opa_mean.specs.Meaning.{first_value}
 use Rattle.opa_window.specs.Days.{day_value}
-use Rattle.opa_code.specs.OverLines.Lines.{values_at}
+use Rattle.opa_code.specs.OverLines.Lines.{Has, values_at}
 use Rattle.opa_code.specs.OverLines.Tallies.{IsTally, IsBoth, AreSmall, told, gather_of, is_most}
 use Rattle.opa_code.specs.declared.over_lines.gathering.Gathering.{Gathering}
 use Rattle.opa_code.specs.declared.over_lines.tally.Tally.{Tally}
@@ -37,6 +38,11 @@ halves_join xs front back n f b = ap (λ ys. ys ++ back) f ∙ ap (λ ys. take n
 pub some_same : {X : Type 0} (x y : X) → Some x ≡ Some y → x ≡ y
 some_same x y e = cc e
 
+-- a line of the right form has a value at each day
+pub stands_whole : (l : List (ℕ × Value)) → IsLine DAYS l → StandsFor DAYS (day_value l) l
+stands_whole [] form d lt = absurd form
+stands_whole (p ∷ l) form d lt = refl
+
 -- the tally that a line has at a day
 pub tally_at : (most : Bool) (lines : Lines) (tallies : List (ℕ × Tally)) (d : ℕ) (t : Tally) → d < DAYS → Tallied most lines tallies → at tallies d ≡ Some t → IsTally most (values_at lines d) t
 tally_at most lines tallies d t lt h is = let e = h d lt in subst (IsTally most (values_at lines d)) (some_same e.0 t (sym e.2 ∙ is)) e.1
@@ -57,9 +63,9 @@ module _ {F E : Type 0} (g : Shared F (Bor Tally × (Bor Tally × Unit {0})) (Re
       )
 
 module _ {F E : Type 0} (g : Shared F (Bor Tally × (Bor Value × Unit {0})) (Result Value E)) (f : F) where
-  pub gathered_stands : (how : Gathering) (lines : Lines) (tallies : List (ℕ × Tally)) (first l : List (ℕ × Value)) → Tallied (is_most how) lines tallies → StandsFor DAYS (λ d. first_value (values_at lines d)) first
+  pub gathered_stands : (how : Gathering) (lines : Lines) (tallies : List (ℕ × Tally)) (first l : List (ℕ × Value)) → Tallied (is_most how) lines tallies → Has (λ d. first_value (values_at lines d)) first
       → ((p : Bor Tally) (q : Bor Value) (z : Value) → g.post f (p, (q, tt)) (Ok z) → z ≡ told how p.now q.now) → EachDay (Joins g f tallies first) DAYS l → StandsFor DAYS (λ d. gather_of how (values_at lines d)) l
   gathered_stands how lines tallies first l h s means each d lt =
       let e = each d lt in let j = e.1 in
-      let v : j.second.now ≡ first_value (values_at lines d) = some_same _ _ (sym j.right ∙ s d lt) in
+      let v : j.second.now ≡ first_value (values_at lines d) = ap (value_or Unknown) (sym j.right) ∙ s d lt in
       e.2 ∙ ap Some (means j.first j.second e.0 j.says ∙ ap (told how j.first.now) v ∙ told_is how (values_at lines d) j.first.now (tally_at (is_most how) lines tallies d j.first.now lt h j.left))

@@ -11,7 +11,8 @@ ghost use Rattle.opa_code.specs.OverLines.Lines.{values_at};
 ghost use Rattle.opa_code.specs.OverLines.Tallies as tallies;
 
 use crate::over_lines::gathering::Gathering;
-use crate::over_lines::lines::{first_line, is_most, item_line, same_line, tallied};
+use crate::over_lines::lines::{is_most, item_line, tallied};
+use crate::over_lines::operand::{Operand, first_of};
 use crate::over_lines::steady::{constant_of, counted, told_first};
 use crate::over_lines::tally::Tally;
 use opa_io::{List, NoMemory};
@@ -20,19 +21,19 @@ use opa_tree::Quant;
 use opa_value::Value;
 use std::alloc::Global;
 
-/// Items that came one after another. A constant one is counted at once and takes no memory; the lines of the others are
-/// kept, and so is the first item.
+/// Items that came one after another. A constant one is counted at once and takes no memory; the others are kept, and so
+/// is the first item. A line that is looked up isn't copied.
 #[derive(Debug, Drop)]
-pub struct Items {
+pub struct Items<'a> {
     gathering: Gathering,
     constant: Tally,
-    dated: List<Line<Value>>,
-    first: List<Line<Value>>,
+    dated: List<Operand<'a>>,
+    first: List<Operand<'a>>,
 }
 
-impl Items {
+impl<'a> Items<'a> {
     /// No item yet.
-    pub fn new(alloc: Global, gathering: Gathering) -> Items
+    pub fn new(alloc: Global, gathering: Gathering) -> Items<'a>
         ensures none { Gathered (λ _. []) result }
         ensures how { result.gathering ≡ gathering }
     {
@@ -45,17 +46,17 @@ impl Items {
     }
 
     /// One item more.
-    pub fn add(&mut self, alloc: Global, line: &Line<Value>) -> Result<(), NoMemory>
+    pub fn add(&mut self, alloc: Global, operand: &Operand<'a>) -> Result<(), NoMemory>
         requires { HasRoom self.old }
-        ensures { OnOk result (IsAdded (day_value line.now) self.old self.new) }
+        ensures { OnOk result (IsAdded (day_value operand.now) self.old self.new) }
     {
-        keep_first(alloc, &mut self.first, line)?;
-        match constant_of(line) {
+        keep_first(alloc, &mut self.first, operand)?;
+        match constant_of(operand.line()) {
             Some(value) => {
                 self.constant = counted(is_most(self.gathering), &self.constant, value);
                 Ok(())
             }
-            None => self.dated.push(same_line(alloc, line)?),
+            None => self.dated.push(operand.copy(alloc)?),
         }
     }
 
@@ -69,21 +70,22 @@ impl Items {
         Ok(())
     }
 
-    /// What a quantifier makes of the lines of a listed instance's operands, as one item more.
+    /// What a quantifier makes of a listed instance's operands, as one item more.
     pub fn add_item(
         &mut self,
         alloc: Global,
         quant: Quant,
-        lines: &[Line<Value>],
+        operands: &[Operand<'a>],
     ) -> Result<(), NoMemory>
         requires { HasRoom self.old }
-        ensures { OnOk result (IsAdded (λ d. meant.item quant (values_at lines.now d)) self.old self.new) }
+        ensures { OnOk result (IsAdded (λ d. meant.item quant (values_at operands.now d)) self.old self.new) }
     {
-        match lines {
-            [line] => self.add(alloc, line),
+        match operands {
+            [operand] => self.add(alloc, operand),
             _ => {
-                let line = item_line(alloc, quant, lines)?;
-                self.add(alloc, &line)
+                let line = item_line(alloc, quant, operands)?;
+                let operand = Operand::made(line);
+                self.add(alloc, &operand)
             }
         }
     }
@@ -106,9 +108,10 @@ impl Items {
         ensures { IfOk result (λ line. (values : ℕ → Seq Meant) → Gathered values self.now → StandsFor DAYS (λ d. tallies.gather_of self.now.gathering (values d)) line) }
     {
         let gathering = self.gathering;
-        let first = first_line(alloc, self.first.as_slice())?;
+        let none = Line::constant(alloc, Value::Uncertain)?;
+        let first = first_of(self.first.as_slice(), &none);
         let tallies = self.tallies(alloc)?;
-        tallies.zip(alloc, &first, move |t: &Tally, v: &Value| {
+        tallies.zip(alloc, first, move |t: &Tally, v: &Value| {
             t.told(alloc, gathering, v)
         })
     }
@@ -123,30 +126,30 @@ impl Items {
     }
 }
 
-/// The tallies of lines beside what was counted before.
+/// The tallies of operands beside what was counted before.
 fn tallied_beside(
     alloc: Global,
     most: bool,
     before: Tally,
-    lines: &[Line<Value>],
+    operands: &[Operand<'_>],
 ) -> Result<Line<Tally>, NoMemory>
     requires { tallies.AreSmall before.sums }
-    ensures { IfOk result (λ line. (values : Seq Meant) → tallies.IsTally most values before → EachDay (λ d t. tallies.IsTally most (values ++ values_at lines.now d) t) DAYS line) }
+    ensures { IfOk result (λ line. (values : Seq Meant) → tallies.IsTally most values before → EachDay (λ d t. tallies.IsTally most (values ++ values_at operands.now d) t) DAYS line) }
 {
-    let halves = tallied(alloc, most, lines)?;
+    let halves = tallied(alloc, most, operands)?;
     halves.map(alloc, move |t: &Tally| Ok(Tally::both(most, &before, t)))
 }
 
 /// Keeps the first item.
-fn keep_first(
+fn keep_first<'a>(
     alloc: Global,
-    first: &mut List<Line<Value>>,
-    line: &Line<Value>,
+    first: &mut List<Operand<'a>>,
+    operand: &Operand<'a>,
 ) -> Result<(), NoMemory>
-    ensures { OnOk result (KeepsFirst (day_value line.now) first.old first.new) }
+    ensures { OnOk result (KeepsFirst (day_value operand.now) first.old first.new) }
 {
     if first.len() == 0 {
-        first.push(same_line(alloc, line)?)
+        first.push(operand.copy(alloc)?)
     } else {
         Ok(())
     }
@@ -154,13 +157,13 @@ fn keep_first(
 
 fn keep_first_value(
     alloc: Global,
-    first: &mut List<Line<Value>>,
+    first: &mut List<Operand<'_>>,
     value: &Value,
 ) -> Result<(), NoMemory>
     ensures { OnOk result (KeepsFirst (λ _. value.now) first.old first.new) }
 {
     if first.len() == 0 {
-        first.push(Line::constant(alloc, value.copy(alloc)?)?)
+        first.push(Operand::constant(alloc, value.copy(alloc)?)?)
     } else {
         Ok(())
     }

@@ -14,6 +14,7 @@ ghost use Rattle.opa_code.specs.OverLines.Tallies.{IsOne, IsTally, gather_of, is
 
 use crate::over_lines::choice::Choice;
 use crate::over_lines::gathering::Gathering;
+use crate::over_lines::operand::{Operand, first_of, seen_each};
 use crate::over_lines::operations::{strict_one, strict_two};
 use crate::over_lines::steady::{constant_tally, told_first, truth_of};
 use crate::over_lines::sums::amount;
@@ -85,11 +86,23 @@ fn known(value: &Value) -> Value
 pub fn op_line(alloc: Global, kind: OpKind, lines: &[Line<Value>]) -> Result<Line<Value>, NoMemory>
     ensures { IfOk result (StandsFor DAYS (λ d. strict (op_of kind) (values_at lines.now d))) }
 {
-    match lines {
-        [x] => one_line(alloc, kind, x),
-        [x, y] => two_line(alloc, kind, x, y),
-        [] => gathered(alloc, Gathering::Open, lines),
-        [_, _, _, ..] => gathered(alloc, Gathering::Open, lines),
+    let operands = seen_each(alloc, lines)?;
+    op_over(alloc, kind, operands.as_slice())
+}
+
+/// A strict operation over operands.
+pub(crate) fn op_over(
+    alloc: Global,
+    kind: OpKind,
+    operands: &[Operand<'_>],
+) -> Result<Line<Value>, NoMemory>
+    ensures { IfOk result (StandsFor DAYS (λ d. strict (op_of kind) (values_at operands.now d))) }
+{
+    match operands {
+        [x] => one_line(alloc, kind, x.line()),
+        [x, y] => two_line(alloc, kind, x.line(), y.line()),
+        [] => gathered_over(alloc, Gathering::Open, operands),
+        [_, _, _, ..] => gathered_over(alloc, Gathering::Open, operands),
     }
 }
 
@@ -156,25 +169,38 @@ pub fn gathered(
 ) -> Result<Line<Value>, NoMemory>
     ensures { IfOk result (StandsFor DAYS (λ d. gather_of gathering (values_at lines.now d))) }
 {
-    match constant_tally(is_most(gathering), lines) {
+    let operands = seen_each(alloc, lines)?;
+    gathered_over(alloc, gathering, operands.as_slice())
+}
+
+/// What is gathered from operands at each day.
+pub(crate) fn gathered_over(
+    alloc: Global,
+    gathering: Gathering,
+    operands: &[Operand<'_>],
+) -> Result<Line<Value>, NoMemory>
+    ensures { IfOk result (StandsFor DAYS (λ d. gather_of gathering (values_at operands.now d))) }
+{
+    match constant_tally(is_most(gathering), operands) {
         Some(tally) => {
-            let value = told_first(alloc, gathering, &tally, lines)?;
+            let value = told_first(alloc, gathering, &tally, operands)?;
             Line::constant(alloc, value)
         }
-        None => gathered_by_day(alloc, gathering, lines),
+        None => gathered_by_day(alloc, gathering, operands),
     }
 }
 
 fn gathered_by_day(
     alloc: Global,
     gathering: Gathering,
-    lines: &[Line<Value>],
+    operands: &[Operand<'_>],
 ) -> Result<Line<Value>, NoMemory>
-    ensures { IfOk result (StandsFor DAYS (λ d. gather_of gathering (values_at lines.now d))) }
+    ensures { IfOk result (StandsFor DAYS (λ d. gather_of gathering (values_at operands.now d))) }
 {
-    let first = first_line(alloc, lines)?;
-    let tallies = tallied(alloc, is_most(gathering), lines)?;
-    tallies.zip(alloc, &first, move |t: &Tally, v: &Value| {
+    let none = Line::constant(alloc, Value::Uncertain)?;
+    let first = first_of(operands, &none);
+    let tallies = tallied(alloc, is_most(gathering), operands)?;
+    tallies.zip(alloc, first, move |t: &Tally, v: &Value| {
         t.told(alloc, gathering, v)
     })
 }
@@ -189,20 +215,20 @@ pub fn first_line(alloc: Global, lines: &[Line<Value>]) -> Result<Line<Value>, N
     }
 }
 
-/// The tallies of lines at each day. The lines are halved, so that each change point is met once for each halving.
+/// The tallies of operands at each day. These are halved, so that each change point is met once for each halving.
 #[cycle(halves)]
 pub(crate) fn tallied(
     alloc: Global,
     most: bool,
-    lines: &[Line<Value>],
+    operands: &[Operand<'_>],
 ) -> Result<Line<Tally>, NoMemory>
-    ensures { IfOk result (EachDay (λ d t. IsTally most (values_at lines.now d) t) DAYS) }
+    ensures { IfOk result (EachDay (λ d t. IsTally most (values_at operands.now d) t) DAYS) }
 {
-    match lines {
+    match operands {
         [] => Line::constant(alloc, Tally::none()),
-        [line] => one_tally(alloc, line),
+        [operand] => one_tally(alloc, operand.line()),
         _ => {
-            let (left, right) = lines.split_at(lines.len() / 2);
+            let (left, right) = operands.split_at(operands.len() / 2);
             let first = tallied(alloc, most, left)?;
             let second = tallied(alloc, most, right)?;
             first.zip(alloc, &second, move |s: &Tally, t: &Tally| {
@@ -218,20 +244,20 @@ fn one_tally(alloc: Global, line: &Line<Value>) -> Result<Line<Tally>, NoMemory>
     line.map(alloc, |v: &Value| Ok(Tally::one(v)))
 }
 
-/// What a quantifier makes of the lines of a listed instance's operands.
+/// What a quantifier makes of a listed instance's operands.
 pub fn item_line(
     alloc: Global,
     quant: Quant,
-    lines: &[Line<Value>],
+    operands: &[Operand<'_>],
 ) -> Result<Line<Value>, NoMemory>
-    ensures { IfOk result (StandsFor DAYS (λ d. meant.item quant (values_at lines.now d))) }
+    ensures { IfOk result (StandsFor DAYS (λ d. meant.item quant (values_at operands.now d))) }
 {
-    match (quant, lines) {
+    match (quant, operands) {
         (Quant::SumIf, [number, test]) => {
             let zero = Line::constant(alloc, amount(0))?;
-            choice_line(alloc, test, number, &zero)
+            choice_line(alloc, test.line(), number.line(), &zero)
         }
-        (_, [line]) => same_line(alloc, line),
+        (_, [operand]) => same_line(alloc, operand.line()),
         _ => Line::constant(alloc, Value::Uncertain),
     }
 }

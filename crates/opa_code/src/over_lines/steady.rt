@@ -7,6 +7,7 @@ ghost use Rattle.opa_code.specs.OverLines.Lines.{values_at};
 ghost use Rattle.opa_code.specs.OverLines.Tallies as tallies;
 
 use crate::over_lines::gathering::Gathering;
+use crate::over_lines::operand::Operand;
 use crate::over_lines::tally::Tally;
 use opa_io::NoMemory;
 use opa_line::Line;
@@ -48,23 +49,23 @@ pub fn told_first(
     alloc: Global,
     gathering: Gathering,
     tally: &Tally,
-    lines: &[Line<Value>],
+    operands: &[Operand<'_>],
 ) -> Result<Value, NoMemory>
-    ensures { IfOk result (λ v. v ≡ tallies.told gathering tally.now (meant.first_value (values_at lines.now 0))) }
+    ensures { IfOk result (λ v. v ≡ tallies.told gathering tally.now (meant.first_value (values_at operands.now 0))) }
 {
-    match lines {
+    match operands {
         [] => tally.told(alloc, gathering, &Value::Uncertain),
-        [line, ..] => tally.told(alloc, gathering, line.at(0)),
+        [operand, ..] => tally.told(alloc, gathering, operand.line().at(0)),
     }
 }
 
-/// The tally of lines of which each has the same value at every day.
-pub fn constant_tally(most: bool, lines: &[Line<Value>]) -> Option<Tally>
-    ensures { IfSome result (tallies.AreConstant most lines.now) }
+/// The tally of operands of which each has the same value at every day.
+pub fn constant_tally(most: bool, operands: &[Operand<'_>]) -> Option<Tally>
+    ensures { IfSome result (tallies.AreConstant most operands.now) }
 {
     let mut tally = Tally::none();
-    for line in lines {
-        let Some(value) = constant_of(line) else {
+    for operand in operands {
+        let Some(value) = constant_of(operand.line()) else {
             return None;
         };
         tally = counted(most, &tally, value);

@@ -7,6 +7,7 @@ ghost use Rattle.opa_window.specs.Days.{day_value};
 ghost use Rattle.opa_mean.specs.Meaning as meant;
 ghost use Rattle.opa_code.specs.OverLines.Lines.{meaning_of};
 
+use crate::over_lines::operand::Operand;
 use opa_io::NoMemory;
 use opa_line::Line;
 use opa_tree::WinKind;
@@ -21,15 +22,15 @@ use std::alloc::Global;
 pub fn window_line(
     alloc: Global,
     kind: WinKind,
-    lines: &[Line<Value>],
+    operands: &[Operand<'_>],
 ) -> Result<Line<Value>, NoMemory>
     ensures { IfOk result (λ l. (enclosing : List Instance) →
-        StandsFor DAYS (meant.window kind (map meaning_of lines.now) enclosing) l) }
+        StandsFor DAYS (meant.window kind (map meaning_of operands.now) enclosing) l) }
 {
-    match lines {
-        [date] => dated_line(alloc, kind, date),
-        [date, x] => at_line(alloc, kind, date, x),
-        [start, end, x] => between_line(alloc, kind, start, end, x),
+    match operands {
+        [date] => dated_line(alloc, kind, date.line()),
+        [date, x] => at_line(alloc, kind, date.line(), x.line()),
+        [start, end, x] => between_line(alloc, kind, start.line(), end.line(), x.line()),
         _ => Line::constant(alloc, Value::Uncertain),
     }
 }

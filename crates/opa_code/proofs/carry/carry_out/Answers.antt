@@ -1,8 +1,6 @@
 use Rattle.std.proofs.Common.{◌≡◌, ◌∙◌, ◌-◌, length, map, drop, ap, sym, subst, arith}
 use Rattle.std.proofs.lemmas.Result.{on_ok_weaker}
-use Rattle.opa_date.specs.declared.TheConstants.{DAYS}
-use Rattle.opa_line.specs.Lines.{StandsFor}
-use Rattle.opa_code.specs.OverLines.Lines.{Stand, meaning_of}
+use Rattle.opa_code.specs.OverLines.Lines.{Has, Stand, meaning_of}
 use Rattle.opa_code.specs.Running.{node_meaning, operand_count, put}
 use Rattle.opa_code.proofs.Standing.{put_stands}
 use Rattle.opa_code.proofs.carry.carry_out.Goals as goal
@@ -17,5 +15,5 @@ returns g c =
     let is : from ≡ length old - operand_count n = omega (arith, c.saturating_sub-from.ensures, c.len.ensures, c.operand_count.ensures) in
     let ops = c.behind-operands.ensures ∙ ap (drop from) c.deref.ensures.value in
     on_ok_weaker c.add.result (λ e st ok h. subst (λ ls. Stand enclosing ls (put l n st)) (sym e)
-    (put_stands enclosing l n old c.truncate.new.self.items st from c.in_ok-line.line is c.truncate.ensures.items
-    (λ ok. subst (λ xs. StandsFor DAYS (node_meaning l n (map meaning_of xs) enclosing) c.in_ok-line.line) ops (c.in_ok-line.ensures ok)) ok h)) c.add.ensures
+    (put_stands enclosing l n old c.truncate.new.self.items st from c.in_ok-operand.operand is c.truncate.ensures.items
+    (λ ok. subst (λ xs. Has (node_meaning l n (map meaning_of xs) enclosing) c.in_ok-operand.operand) ops (c.in_ok-operand.ensures ok)) ok h)) c.add.ensures

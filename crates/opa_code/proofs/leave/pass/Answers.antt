@@ -5,8 +5,8 @@ use Rattle.opa_code.proofs.leave.pass.Goals as goal
 
 pub returns-then-is_refuted-clause-kept : goal.returns-then-is_refuted-clause-kept
 returns-then-is_refuted-clause-kept c l enclosing =
-    passed_off l enclosing c.args.stack.now.items c.add.new.lines.items c.in_ok-line.line c.args.count c.args.after.now c.behind.result.now (subst IsRefuted c.deref.ensures.value (c.is_refuted.ensures c.if-is_refuted.true))
-    c.in_ok-line.ensures.everywhere c.in_ok-add.ensures c.behind.ensures
+    passed_off l enclosing c.args.stack.now.items c.add.new.operands.items c.in_ok-line.line c.args.count c.args.after.now c.behind.result.now (subst IsRefuted c.deref.ensures.value (c.is_refuted.ensures c.if-is_refuted.true))
+    c.in_ok-line.ensures c.in_ok-add.ensures c.behind.ensures
 
 pub returns-clause-kept : goal.returns-clause-kept
 returns-clause-kept c l enclosing = passed_on l enclosing c.args.stack.now.items c.args.stack.now.items c.args.count c.args.after.now refl

@@ -1,4 +1,4 @@
-use Rattle.std.proofs.Common.{rules, ◌≡◌, ◌∷◌, ◌<◌, ◌^◌, ◌∙◌, length, take, drop, refl, sym, ap, subst, arith}
+use Rattle.std.proofs.Common.{rules, ◌≡◌, ◌∷◌, ◌++◌, [], ◌<◌, ◌^◌, ◌∙◌, length, take, drop, refl, sym, ap, subst, arith}
 use Rattle.std.proofs.lemmas.Grind.{pieces}
 use Rattle.std.proofs.lemmas.Result.{on_ok_weaker}
 use Rattle.std.proofs.lemmas.List.{take_all}
@@ -22,8 +22,8 @@ step-returns-in-None-clause-kept g t c = c.go_on.ensures.kept (sym c.over_of.ens
 
 pub step-returns-in_ok-add-in-Some-clause-kept : goal.step-returns-in_ok-add-in-Some-clause-kept
 step-returns-in_ok-add-in-Some-clause-kept g t c =
-    over_kept (g.K.Look.looks c.args.look.now) c.args.enclosing.now c.args.stack.now.items c.add.new.lines.items c.in_ok-line-in-Some.line c.args.node.now c.in-Some.quant c.in-Some.rel c.in-Some.source c.in-Some.target c.in-Some.count c.args.after.now
-    c.up_to-operand.result.now c.behind.result.now (sym c.over_of.ensures ∙ c.in-Some.is) c.up_to-operand.ensures c.behind.ensures c.in_ok-add-in-Some.ensures c.in_ok-line-in-Some.ensures
+    over_kept (g.K.Look.looks c.args.look.now) c.args.enclosing.now c.args.stack.now.items c.add.new.operands.items c.in_ok-line-in-Some.line c.args.node.now c.in-Some.quant c.in-Some.rel c.in-Some.source c.in-Some.target c.in-Some.count c.args.after.now
+    c.up_to-operand.result.now c.behind.result.now (sym c.over_of.ensures ∙ c.in-Some.is) c.up_to-operand.ensures c.behind.ensures (c.in_ok-add-in-Some.ensures ∙ ap (λ o. c.args.stack.now.items ++ o ∷ []) c.made-value.ensures) c.in_ok-line-in-Some.ensures
 
 pub listed_line-returns-then-only_counts : goal.listed_line-returns-then-only_counts
 listed_line-returns-then-only_counts g t c =

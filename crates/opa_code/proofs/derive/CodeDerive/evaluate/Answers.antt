@@ -1,13 +1,8 @@
 use Rattle.std.proofs.Common.{◌≡◌, ◌∙◌, find, map, None, Some, sym, ap, subst}
 use Rattle.std.specs.Option.{option_copied}
-use Rattle.opa_date.specs.declared.TheConstants.{DAYS}
-use Rattle.opa_line.specs.Lines.{StandsFor}
 use Rattle.opa_line.proofs.Zipping.{ok_weaker}
-use Rattle.opa_value.specs.Fit.{fit_of}
 use Rattle.opa_case.specs.Shapes.{shape_of}
-use Rattle.opa_mean.specs.Meaning.{first_value}
 use Rattle.opa_code.specs.Coding.{coded, is_for}
-use Rattle.opa_code.specs.OverLines.Lines.{values_at}
 use Rattle.opa_code.specs.Rulebases.{rulebase_of}
 use Rattle.opa_code.specs.Steps.{Leaves}
 use Rattle.opa_code.proofs.Concluding.{code_none, code_found, none_derived, code_derived}
@@ -30,5 +25,4 @@ returns-in_ok-lines-in-Some g c =
     let found = code_found s c.args.attr base.rules code some in
     let at_inst = c.as_slice-in-Some.ensures ∙ c.in_ok-enclosing-in-Some.ensures in
     let left = subst (λ e. Leaves l e code.nodes c.in_ok-lines-in-Some.lines.items) at_inst (subst (λ ns. Leaves l c.as_slice-in-Some.result.now ns c.in_ok-lines-in-Some.lines.items) c.as_slice.ensures c.in_ok-lines-in-Some.ensures) in
-    ok_weaker c.concluded_line.result _ _ (λ line h. code_derived s l c.args.attr c.args.inst.now base.rules code c.in_ok-lines-in-Some.lines.items line base.formed found left
-    (subst (λ ls. StandsFor DAYS (λ d. fit_of code.money (first_value (values_at ls d))) line) c.deref.ensures.value h)) c.concluded_line.ensures
+    ok_weaker c.concluded_line.result _ _ (λ line h. code_derived s l c.args.attr c.args.inst.now base.rules code c.in_ok-lines-in-Some.lines.items line base.formed found left h) c.concluded_line.ensures

@@ -12,13 +12,13 @@ map-requires c = (
   (
     omega arith,
     λ d p lt is_p.
-        let few : length c.args.lines.now < 2 ^ 63 = search (pieces, arith) in
+        let few : length c.args.operands.now < 2 ^ 63 = search (pieces, arith) in
         let before : AreSmall c.args.before.sums = c.requires in
-        let more : AreSmall p.now.sums = small_at c.args.most c.args.lines.now c.in_ok-halves.halves d p.now few lt c.in_ok-halves.ensures is_p in
+        let more : AreSmall p.now.sums = small_at c.args.most c.args.operands.now c.in_ok-halves.halves d p.now few lt c.in_ok-halves.ensures is_p in
         search (rules, of_calls, before, more),
   ),
 )
 
 pub returns : goal.returns
 returns c =
-    ok_weaker c.map.result _ _ (λ l h. counted_beside _ _ c.args.most c.args.lines.now c.args.before c.in_ok-halves.halves l c.in_ok-halves.ensures (λ p z says. search (rules, of_calls, says)) h) c.map.ensures
+    ok_weaker c.map.result _ _ (λ l h. counted_beside _ _ c.args.most c.args.operands.now c.args.before c.in_ok-halves.halves l c.in_ok-halves.ensures (λ p z says. search (rules, of_calls, says)) h) c.map.ensures

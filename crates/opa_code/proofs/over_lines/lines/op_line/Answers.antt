@@ -1,14 +1,12 @@
-use Rattle.std.proofs.Common.{◌∙◌, Some, ap, sym}
-use Rattle.opa_value.specs.Truth.{unless_open}
+use Rattle.std.proofs.Common.{◌∙◌, subst}
+use Rattle.opa_date.specs.declared.TheConstants.{DAYS}
+use Rattle.opa_value.specs.Truth.{strict}
+use Rattle.opa_line.specs.Lines.{StandsFor}
 use Rattle.opa_line.proofs.Zipping.{ok_weaker}
+use Rattle.opa_mean.specs.Operations.{op_of}
 use Rattle.opa_code.specs.OverLines.Lines.{values_at}
-use Rattle.opa_code.proofs.over_lines.Operating.{no_operands, many_operands}
 use Rattle.opa_code.proofs.over_lines.lines.op_line.Goals as goal
 
-pub returns-in-empty : goal.returns-in-empty
-returns-in-empty c =
-    ok_weaker c.gathered.result _ _ (λ l h d lt. h d lt ∙ ap Some (ap (unless_open (values_at c.args.lines.now d)) (sym (no_operands c.args.kind c.args.lines.now d c.in-empty.len_below)))) c.gathered.ensures
-
-pub returns-in-len3-up : goal.returns-in-len3-up
-returns-in-len3-up c =
-    ok_weaker c.gathered-in-len3-up.result _ _ (λ l h d lt. h d lt ∙ ap Some (ap (unless_open (values_at c.args.lines.now d)) (sym (many_operands c.args.kind c.args.lines.now d c.in-len3-up.len_at_least)))) c.gathered-in-len3-up.ensures
+pub returns : goal.returns
+returns c =
+    ok_weaker c.op_over.result _ _ (λ l h. subst (λ ls. StandsFor DAYS (λ d. strict (op_of c.args.kind) (values_at ls d)) l) (c.as_slice.ensures ∙ c.in_ok-operands.ensures) h) c.op_over.ensures

@@ -1,0 +1,8 @@
+use Rattle.std.proofs.Common.{ap}
+use Rattle.opa_line.proofs.Zipping.{ok_weaker}
+use Rattle.opa_mean.specs.Meaning.{known_of}
+use Rattle.opa_code.proofs.Standing.{stands_same}
+use Rattle.opa_code.proofs.carry.known_sole.Goals as goal
+
+pub returns : goal.returns
+returns c = ok_weaker c.known_line.result _ _ (λ l h enclosing. stands_same l _ _ (λ d lt. ap known_of (c.sole_line.ensures enclosing d lt)) h) c.known_line.ensures
