@@ -1,6 +1,6 @@
 -- Lines of tallies.
 use Rattle.std.proofs.Common.{◌≡◌, ℕ, ◌<◌, ◌≤◌, ◌^◌, get_or, take, drop, arith, Bool, List, [], ◌∷◌, ◌++◌, Some, length, refl, sym, ◌∙◌, ap, subst}
-use Rattle.std.specs.Prelude.{Result, Ok}
+use Rattle.std.specs.Prelude.{Result, Ok, Option, None, IfSome}
 use Rattle.std.specs.Fn.{Shared}
 use Rattle.std.proofs.lemmas.List.{map-append, length-map, take-append-drop}
 use denote.Ref.{Bor}
@@ -26,6 +26,10 @@ Tallied most lines tallies = EachDay (λ d t. IsTally most (values_at lines d) t
 pub no_items : {X : Type 0} (xs : List X) → length xs < 1 → xs ≡ []
 no_items [] h = refl
 no_items (x ∷ xs) h = absurd (omega (arith, h))
+
+pub some_weaker : {X : Type 0} (o : Option X) (P Q : X → Type 0) → ((x : X) → P x → Q x) → IfSome o P → IfSome o Q
+some_weaker None P Q f h = h
+some_weaker (Some x) P Q f h = f x h
 
 pub one_item : {X : Type 0} (xs : List X) (x : X) → 1 ≤ length xs → length xs < 2 → x ≡ get_or xs 0 x → xs ≡ x ∷ []
 one_item [] x low high is = absurd (omega (arith, low))

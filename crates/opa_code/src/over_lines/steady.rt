@@ -18,10 +18,7 @@ use std::alloc::Global;
 pub fn constant_of(line: &Line<Value>) -> Option<&Value>
     ensures { IfSome result (λ v. (d : ℕ) → day_value line.now d ≡ v.now) }
 {
-    match line.segments() {
-        [pair] => Some(&pair.1),
-        _ => None,
-    }
+    line.only()
 }
 
 /// Whether a line is true at every day or false at every day, if it is one of these.
