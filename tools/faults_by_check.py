@@ -153,13 +153,15 @@ def declared(lines: list[str]) -> tuple[list[str], list[str], list[str]]:
     lists: list[str] = []
     head = ""
     for line in lines:
+        spaced = " ".join(line.split())
         if level(line) == 0:
             head = line
         elif level(line) and re.match(r"global|entity ", head):
-            attributes += of_attribute(verbs, line.strip())
-            if named := LIST.match(line.strip()):
+            attributes += of_attribute(verbs, spaced)
+            if named := LIST.match(spaced):
                 lists.append(named[1] or named[2])
-    return attributes, lists, [named[1] for line in lines if (named := MEMBERS.match(line))]
+    heads = (MEMBERS.match(" ".join(line.split())) for line in lines if level(line) == 0)
+    return attributes, lists, [named[1] for named in heads if named]
 
 
 def known_phrases(opa: str, folder: Path, files: list[str], name: str) -> tuple[str, ...]:
@@ -175,9 +177,10 @@ def known_phrases(opa: str, folder: Path, files: list[str], name: str) -> tuple[
             lines += kept
         attributes, lists, members = declared(lines)
         wrong = checked(opa, Path(room), name)
-        if not wrong:
+        # Tables are read behind all that is declared.
+        if not wrong or wrong.file not in files:
             return (*attributes, *lists, *members)
-        here = lines_of(Path(room, wrong.file)) if wrong.file in files else []
+        here = lines_of(Path(room, wrong.file))
         head = block_of(here, wrong.line)
         return (*attributes, *lists) if head and here[head[0] - 1].startswith("members ") else ()
 

@@ -21,7 +21,7 @@ global
   bool the card [is] free
   bool the reader [is] known
   number the age
-goal the fee
+goal the yearly fee
 the card is free if
   the reader is known
 the reader is known if
@@ -31,8 +31,8 @@ the age =
     the aeg > 1
   2 otherwise
 """
-OUTPUT = """card.txt:6:6: error: no attribute or list is called 'the fee'
-  goal the fee
+OUTPUT = """card.txt:6:6: error: no attribute or list is called 'the yearly fee'
+  goal the yearly fee
        ^
 card.txt:13:5: error: no attribute or list is called 'the aeg'; did you mean 'the age'?
   the aeg > 1
