@@ -21,7 +21,7 @@ global
   bool the card [is] free
   bool the reader [is] known
   number the age
-goal the fee
+goal the yearly fee
 the card is free if
   the reader is known
 the reader is known if
@@ -31,10 +31,10 @@ the age =
     the aeg > 1
   2 otherwise
 """
-OUTPUT = """card.txt:6:1: error: a phrase isn't declared, or names something else than is expected here
-  goal the fee
-  ^
-card.txt:13:5: error: a phrase isn't declared, or names something else than is expected here
+OUTPUT = """card.txt:6:6: error: no attribute or list is called 'the yearly fee'
+  goal the yearly fee
+       ^
+card.txt:13:5: error: no attribute or list is called 'the aeg'; did you mean 'the age'?
   the aeg > 1
   ^
 card.txt:7:1: error: these conclusions need one another, so none of them can come first:
@@ -48,7 +48,7 @@ MISSING = "no such.txt:0:1: error: there is no such file\n"
 # A line that looks as if it were an error itself.
 LOOKS_SO = "card.txt:6:1: error: this can't be read\n  other.txt:1:1: error: no\n  ^\n"
 
-PLACES = [("card.txt", 6, 1), ("card.txt", 13, 5), ("card.txt", 7, 1), ("no such.txt", 0, 1), ("card.txt", 6, 1)]
+PLACES = [("card.txt", 6, 6), ("card.txt", 13, 5), ("card.txt", 7, 1), ("no such.txt", 0, 1), ("card.txt", 6, 1)]
 WORDS = "error: these conclusions need one another, so none of them can come first:".removeprefix("error: ")
 
 

@@ -12,12 +12,13 @@ import sys
 import tempfile
 import unittest
 from pathlib import Path
+from typing import Any
 
 from tools.tests.base import EXAMPLES, OPA, TOP
 from tools.tests.test_editors import OUTPUT, RULEBASE
 
 sys.path.insert(0, str(TOP / "tools"))
-from faults_by_check import FILE_LINE, REFUSED, WORDS, by_check, printed  # noqa: E402
+from faults_by_check import FILE_LINE, REFUSED, UNKNOWN, WORDS, by_check, printed  # noqa: E402
 from stories import DATA, Story  # noqa: E402
 
 RULES = os.environ.get("RULES", str(TOP / "crates" / "rules" / "out" / "rules"))
@@ -37,35 +38,85 @@ entity the friend
   in global: the people
   number the friend's age
 """
-# Rules behind HEAD, and the errors of each: kind, line, column, and the line's text or what is printed in its place.
-SEVERAL = {
+# Rules behind HEAD, and the errors of each: kind, line, column, and the line's text or what is printed in its place; of an
+# error in a phrase that isn't declared the phrase, too, and the one that is proposed.
+SEVERAL: dict[str, tuple[str, list[tuple[Any, ...]]]] = {
     "none": ("the claimant is entitled if\n  the claimant is an adult\n", []),
     "a goal and two rules": (
         "goal the weather\nthe claimant is entitled if\n  the clamant is an adult\n"
         "the claimant is an adult if\n  the income > the name\n",
         [
-            (3, 12, 1, "goal the weather"),
-            (3, 14, 3, "the clamant is an adult"),
+            (3, 12, 6, "goal the weather", "the weather"),
+            (3, 14, 3, "the clamant is an adult", "the clamant is an adult", "the claimant is an adult"),
             (5, 15, 1, "the claimant is an adult if"),
         ],
     ),
     "by kind, then by line": (
         "the income = the weather\nthe claimant is entitled if\n  the income > 1 and\n",
-        [(2, 13, 1, "the claimant is entitled if"), (3, 12, 1, "the income = the weather")],
+        [(2, 13, 1, "the claimant is entitled if"), (3, 12, 14, "the income = the weather", "the weather")],
     ),
     "one error of a block hides its others": (
         "the claimant is entitled if\n  the weather > 1 and\n  the name > 1 and\n  the clamant is an adult\n"
         "the income = the day\n",
-        [(3, 13, 3, "the weather > 1 and"), (3, 16, 1, "the income = the day")],
+        [
+            (3, 13, 3, "the weather > 1 and", "the weather"),
+            (3, 16, 14, "the income = the day", "the day"),
+        ],
     ),
     "deep lines, tabs and a comment": (
         "the claimant is entitled if\n\t# so\n  any\n\t\tthe claimant is an adult or\n    the weather > 1\n"
         "the income = the friend's age\n",
-        [(3, 16, 5, "the weather > 1"), (4, 17, 1, "the income = the friend's age")],
+        [(3, 16, 5, "the weather > 1", "the weather"), (4, 17, 1, "the income = the friend's age")],
     ),
     "a line of a screen": (
         'screen "Who"\n  the name\n  the weather\nthe income = the day\n',
-        [(3, 14, 3, "the weather"), (3, 15, 1, "the income = the day")],
+        [(3, 14, 3, "the weather", "the weather"), (3, 15, 14, "the income = the day", "the day")],
+    ),
+    "a conclusion with a word too many": (
+        "the claimant is entitled now if\n  the claimant is an adult\n",
+        [(3, 12, 1, "the claimant is entitled now if", "the claimant is entitled now", "the claimant is entitled")],
+    ),
+    "what denies an attribute": (
+        "the claimant is entitled if\n  the claimant is not an adlt\n",
+        [(3, 13, 3, "the claimant is not an adlt", "the claimant is not an adlt", "the claimant is not an adult")],
+    ),
+    "lists, in a function and in a line over a group": (
+        "the income = InstanceCount(the poeple)\n"
+        "the claimant is entitled if\n  for at least one of the freinds\n    the friend's age > 1\n",
+        [
+            (3, 12, 28, "the income = InstanceCount(the poeple)", "the poeple", "the people"),
+            (3, 14, 23, "for at least one of the freinds", "the freinds", "the friends"),
+        ],
+    ),
+    "the first of the nearest": ("the income = the nome\n", [(3, 12, 14, "the income = the nome", "the nome", "the name")]),
+    "a phrase of two bytes more is proposed, and of three isn't": (
+        "the income = the incomexx\nthe friend's age = the incomexxx\n",
+        [
+            (3, 12, 14, "the income = the incomexx", "the incomexx", "the income"),
+            (3, 13, 20, "the friend's age = the incomexxx", "the incomexxx"),
+        ],
+    ),
+    "a fifth of a phrase is near": (
+        "the claimant is an adult if\n  the claimant is an aduxxxxx\n"
+        "the claimant is entitled if\n  the claimant is an aduxxxxxx\n",
+        [
+            (3, 13, 3, "the claimant is an aduxxxxx", "the claimant is an aduxxxxx", "the claimant is an adult"),
+            (3, 15, 3, "the claimant is an aduxxxxxx", "the claimant is an aduxxxxxx"),
+        ],
+    ),
+    "known phrases, literals and brackets before it": (
+        'the claimant is entitled if\n  (the name = "\u00c4 x" or not (the claimant is an adult) or 2024-01-01 = the day)\n',
+        [
+            (
+                *(3, 13, 71),
+                '(the name = "\u00c4 x" or not (the claimant is an adult) or 2024-01-01 = the day)',
+                "the day",
+            )
+        ],
+    ),
+    "an attribute where a list is expected": (
+        "the income = InstanceCount(the name)\n",
+        [(3, 12, 1, "the income = InstanceCount(the name)")],
     ),
     "a second goal and a second rule": (
         "goal the claimant is entitled\nthe income = 1\nthe income = 2\nthe income = 3\n",
@@ -84,6 +135,23 @@ SEVERAL = {
         "global\n  bool the claimant [has] a claim\nthe income = the weather\n",
         [(3, 13, 3, "bool the claimant [has] a claim")],
     ),
+    "a condition of a membership block, and no phrase of such a block": (
+        "global\n  every the roll: the friend\nmembers the old friends from the roll if\n  the frend's age > 1\n",
+        [(3, 15, 3, "the frend's age > 1", "the frend's age", "the friend's age")],
+    ),
+    "the first line of a membership block": (
+        "global\n  every the roll: the friend\nmembers the old friends from the rol if\n  the friend's age > 1\n",
+        [(3, 14, 1, "members the old friends from the rol if")],
+    ),
+    "a phrase of a membership block": (
+        "global\n  every the roll: the friend\nmembers the old friends from the roll if\n  the friend's age > 1\n"
+        "the income = InstanceCount(the odl friends)\n",
+        [(3, 16, 28, "the income = InstanceCount(the odl friends)", "the odl friends", "the old friends")],
+    ),
+    "no phrase is proposed where a declaration has an error": (
+        "goal the incom\nglobal\n  number the income\n",
+        [(3, 12, 6, "goal the incom", "the incom"), (6, 14, 3, "number the income")],
+    ),
     "nothing behind an error of layout": (
         "the claimant is entitled if\n    the claimant is an adult\nthe income = the weather\n",
         [(2, 13, 1, [])],
@@ -95,11 +163,13 @@ SEVERAL = {
 }
 
 
-def text_of(kind: int, line: int, column: int, shown: str | list[str]) -> str:
+def text_of(kind: int, line: int, column: int, shown: str | list[str], found: str = "", near: str = "") -> str:
     """An error of f.txt with its line; of a list the last item is the line, and the others are a circle."""
     lines = [shown] if isinstance(shown, str) else shown
-    below = "".join(f"  {each}\n" for each in lines) + ("  ^\n" if lines else "")
-    return f"f.txt:{line}:{column}: error: {WORDS[kind]}\n{below}"
+    before = " " * lines[-1].index(found) if lines else ""
+    words = f"no attribute or list is called '{found}'" + (f"; did you mean '{near}'?" if near else "")
+    below = "".join(f"  {each}\n" for each in lines) + (f"  {before}^\n" if lines else "")
+    return f"f.txt:{line}:{column}: error: {words if found else WORDS[kind]}\n{below}"
 
 
 def ran(program: str, *words: str, folder: object) -> subprocess.CompletedProcess[bytes]:
@@ -139,7 +209,8 @@ class Faults(unittest.TestCase):
                 if wanted:
                     seen += 1
                     kind, name, line, circle = wanted.groups()
-                    head = rf"{re.escape(name)}:{line}:\d+: error: {re.escape(WORDS[int(kind)])}\n{re.escape(circle)}"
+                    words = re.escape(WORDS[int(kind)]) + (rf"|{re.escape(UNKNOWN)}.*" if kind == "3" else "")
+                    head = rf"{re.escape(name)}:{line}:\d+: error: (?:{words})\n{re.escape(circle)}"
                     self.assertRegex(text, rf"\A{head}")
         self.assertGreater(seen, 20)
 

@@ -1,3 +1,5 @@
 pub mod DescribeLaws
 mod FaultLaws
 mod FindLaws
+mod NearLaws
+mod UnknownLaws

@@ -1,5 +1,9 @@
 pub mod Blocks
 pub mod Finding
+pub mod Known
 pub mod Listing
+pub mod Nearest
 pub mod Printed
+pub mod Told
+pub mod Unknown
 pub mod Words

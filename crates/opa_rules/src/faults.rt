@@ -3,9 +3,13 @@
 
 mod blocks;
 mod finding;
+mod known;
 mod listing;
+mod nearest;
 mod printed;
 mod telling;
+mod told;
+mod unknown;
 mod words;
 
 pub(crate) use telling::faults;

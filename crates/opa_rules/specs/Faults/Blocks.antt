@@ -36,3 +36,8 @@ declares_in (l ∷ ls) = is_declaration l.text
 
 abbrev pub declares : Block → Bool
 declares b = declares_in b.lines
+
+-- phrases are read in each line of a rule, a goal or a screen, and in each line of a membership block but the first
+abbrev pub reads_phrases : ℕ → List BlockLine → Bool
+reads_phrases line [] = false
+reads_phrases line (l ∷ ls) = not (is_declaration l.text) || (begins_with (codes "members ") l.text && not (l.line == line))

@@ -19,7 +19,10 @@ use Rattle.opa_rulebase.specs.declared.files.source.SourceFile.{SourceFile}
 use Rattle.opa_rulebase.specs.Files.Layouts.{faults_from, Begins}
 use Rattle.opa_rulebase.specs.Loading.{phrases_of, table_files, AreBlocks, IsRefused}
 use Rattle.opa_rules.specs.Faults.Blocks.{has_line, declares, without}
+use Rattle.opa_rules.specs.declared.faults.told.Told.{Told}
+use Rattle.opa_rules.specs.Faults.Known.{AreKnown}
 use Rattle.opa_rules.specs.Faults.Printed.{error_in}
+use Rattle.opa_rules.specs.Faults.Told.{plain, IsToldIn}
 
 -- the blocks beside tables have no error
 pub record AreFree (tables : List TableFile) (blocks : List Block) : Type 0 where
@@ -54,20 +57,20 @@ leaves (Some b) = not (declares b)
 abbrev pub goes_on : List Block → Refusal → Bool
 goes_on blocks w = leaves (find (has_line w.fault.file w.fault.line) blocks)
 
--- The text of at most so many errors of the blocks: the first one, and then those of what is left without its block. Behind an
--- error in a declaration none is looked for, since it might be one of what speaks of the declared.
-pub data AreListed (files : List SourceFile) : ℕ → List Block → List ℕ → Type 0 where
-  enough : (blocks : List Block) → AreListed files 0 blocks []
-  free : (most : ℕ) (blocks : List Block) → AreFree (table_files 0 files) blocks → AreListed files (most + 1) blocks []
-  last : (most : ℕ) (blocks : List Block) (w : Refusal) → IsFirst (table_files 0 files) blocks w → goes_on blocks w ≡ false
-      → AreListed files (most + 1) blocks (error_in files blocks w)
-  left : (most : ℕ) (blocks : List Block) (w : Refusal) (more : List ℕ) → IsFirst (table_files 0 files) blocks w → goes_on blocks w ≡ true
-      → AreListed files most (without w.fault.file w.fault.line blocks) more → AreListed files (most + 1) blocks (error_in files blocks w ++ more)
+-- The text of at most so many errors of the blocks, where these phrases are known: the first one, and then those of what is left
+-- without its block. Behind an error in a declaration none is looked for, since it might be one of what speaks of the declared.
+pub data AreListed (files : List SourceFile) (phrases : List (List ℕ)) : ℕ → List Block → List ℕ → Type 0 where
+  enough : (blocks : List Block) → AreListed files phrases 0 blocks []
+  free : (most : ℕ) (blocks : List Block) → AreFree (table_files 0 files) blocks → AreListed files phrases (most + 1) blocks []
+  last : (most : ℕ) (blocks : List Block) (w : Refusal) (told : Told) → IsFirst (table_files 0 files) blocks w → IsToldIn phrases blocks w.fault told → goes_on blocks w ≡ false
+      → AreListed files phrases (most + 1) blocks (error_in files blocks w told)
+  left : (most : ℕ) (blocks : List Block) (w : Refusal) (told : Told) (more : List ℕ) → IsFirst (table_files 0 files) blocks w → IsToldIn phrases blocks w.fault told → goes_on blocks w ≡ true
+      → AreListed files phrases most (without w.fault.file w.fault.line blocks) more → AreListed files phrases (most + 1) blocks (error_in files blocks w told ++ more)
 
 -- what is listed behind an error, at most so many
-pub record AreLater (files : List SourceFile) (most : ℕ) (blocks : List Block) (w : Refusal) (more : List ℕ) : Type 0 where
+pub record AreLater (files : List SourceFile) (phrases : List (List ℕ)) (most : ℕ) (blocks : List Block) (w : Refusal) (more : List ℕ) : Type 0 where
   pub last : goes_on blocks w ≡ false → more ≡ []
-  pub left : goes_on blocks w ≡ true → AreListed files most (without w.fault.file w.fault.line blocks) more
+  pub left : goes_on blocks w ≡ true → AreListed files phrases most (without w.fault.file w.fault.line blocks) more
 
 -- no file has more than 1 MiB
 abbrev pub are_short : List SourceFile → Bool
@@ -79,6 +82,6 @@ most_listed files = if are_short files then 99 else 9
 
 -- The text of the errors of files: the first one as it is found in loading, and then later ones.
 pub data AreErrors (files : List SourceFile) : List ℕ → Type 0 where
-  of_layout : (w : Refusal) (fault : RbFault) → Begins fault (faults_from 0 files) → IsRefused files w.fault w.circle → AreErrors files (error_in files [] w)
-  of_blocks : (blocks : List Block) (w : Refusal) (more : List ℕ) → AreBlocks files blocks → IsRefused files w.fault w.circle
-      → AreLater files (most_listed files) blocks w more → AreErrors files (error_in files blocks w ++ more)
+  of_layout : (w : Refusal) (fault : RbFault) → Begins fault (faults_from 0 files) → IsRefused files w.fault w.circle → AreErrors files (error_in files [] w (plain w.fault.kind None))
+  of_blocks : (blocks : List Block) (phrases : List (List ℕ)) (w : Refusal) (told : Told) (more : List ℕ) → AreBlocks files blocks → AreKnown files phrases → IsRefused files w.fault w.circle
+      → IsToldIn phrases blocks w.fault told → AreLater files phrases (most_listed files) blocks w more → AreErrors files (error_in files blocks w told ++ more)

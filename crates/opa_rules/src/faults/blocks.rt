@@ -1,8 +1,8 @@
 // The block in which an error is, whether others can be read without it, and what is left.
-ghost use Rattle.std.specs.Prelude.{◌≡◌, find};
+ghost use Rattle.std.specs.Prelude.{◌≡◌, filter, find};
 ghost use Rattle.std.specs.List.{list_any};
 ghost use Rattle.std.specs.Option.{option_copied};
-ghost use Rattle.opa_rules.specs.Faults.Blocks.{declares as declares_of, has_line as has_line_of, has_number, is_declaration as is_declaration_of, line_at as line_at_of, without as without_block};
+ghost use Rattle.opa_rules.specs.Faults.Blocks.{declares as declares_of, has_line as has_line_of, has_number, is_declaration as is_declaration_of, line_at as line_at_of, reads_phrases as reads_phrases_of, without as without_block};
 
 use opa_io::List;
 use opa_words::{Block, BlockLine};
@@ -20,7 +20,7 @@ fn has_number_in(lines: &[BlockLine], line: u32) -> bool
     lines.iter().any(|laid| laid.line == line)
 }
 
-fn line_in(lines: &[BlockLine], line: u32) -> Option<&BlockLine>
+pub(crate) fn line_in(lines: &[BlockLine], line: u32) -> Option<&BlockLine>
     ensures { option_copied result ≡ find (has_number line) lines.now }
 {
     lines.iter().find(|laid| laid.line == line)
@@ -68,6 +68,29 @@ pub(crate) fn declares(block: &Block) -> bool
         [] => false,
         [first, ..] => is_declaration(first.text.as_str()),
     }
+}
+
+/// Whether phrases are read in a line of a block.
+pub(crate) fn reads_phrases(lines: &[BlockLine], line: u32) -> bool
+    ensures { result ≡ reads_phrases_of line lines.now }
+{
+    match lines {
+        [] => false,
+        [first, ..] => {
+            let text = first.text.as_str();
+            !is_declaration(text)
+                || (text.as_bytes().starts_with(b"members ") && first.line != line)
+        }
+    }
+}
+
+/// The blocks that say what other blocks speak of.
+pub(crate) fn declaring(blocks: List<Block>) -> List<Block>
+    ensures { result ≡ filter declares_of blocks }
+{
+    let mut left = blocks.into_vec();
+    left.retain(|block| declares(block));
+    List::from_vec(left)
 }
 
 /// The blocks without those that have a line of a file.

@@ -5,9 +5,12 @@ ghost use Rattle.opa_parse.specs.Fronts.{AreShort};
 ghost use Rattle.opa_rulebase.specs.Loading.{table_files};
 ghost use Rattle.opa_rules.specs.Faults.Listing.{AreLater, AreListed, goes_on as goes_on_from};
 ghost use Rattle.opa_rules.specs.Faults.Printed.{error_in};
+ghost use Rattle.opa_rules.specs.Faults.Told.{IsToldIn};
+ghost use Rattle.opa_rules.specs.declared.faults.told.Told.{Told as View};
 
 use crate::faults::blocks::{block_with, declares, without};
 use crate::faults::finding::first_fault;
+use crate::faults::known::Known;
 use crate::faults::printed::push_error_in;
 use opa_io::{List, NoMemory};
 use opa_parse::TableFile;
@@ -31,12 +34,13 @@ fn push_errors(
     out: &mut String,
     files: &[SourceFile],
     tables: &[TableFile],
+    known: &Known,
     blocks: List<Block>,
     most: usize,
 ) -> Result<(), NoMemory>
     requires short { All (λ b. AreShort b.lines) blocks }
     requires tables { tables.now ≡ table_files 0 files.now }
-    ensures { OnOk result ((more : Seq ℕ) × (string_bytes out.new ≡ string_bytes out.old ++ more) × AreListed files.now most blocks more) }
+    ensures { OnOk result ((more : Seq ℕ) × (string_bytes out.new ≡ string_bytes out.old ++ more) × AreListed files.now known.now.texts most blocks more) }
 {
     if most == 0 {
         return Ok(());
@@ -45,10 +49,10 @@ fn push_errors(
         Ok(()) => Ok(()),
         Err(Unaccepted::NoMemory) => Err(NoMemory),
         Err(Unaccepted::Refused(wrong)) => {
-            push_error_in(alloc, out, files, blocks.as_slice(), &wrong)?;
+            push_error_in(alloc, out, files, known, blocks.as_slice(), &wrong)?;
             if goes_on(blocks.as_slice(), &wrong) {
                 let left = without(blocks, wrong.fault.file, wrong.fault.line);
-                push_errors(alloc, out, files, tables, left, most - 1)
+                push_errors(alloc, out, files, tables, known, left, most - 1)
             } else {
                 Ok(())
             }
@@ -62,18 +66,20 @@ pub(crate) fn push_from(
     out: &mut String,
     files: &[SourceFile],
     tables: &[TableFile],
+    known: &Known,
     blocks: List<Block>,
     most: usize,
     wrong: &Refusal,
 ) -> Result<(), NoMemory>
     requires short { All (λ b. AreShort b.lines) blocks }
     requires tables { tables.now ≡ table_files 0 files.now }
-    ensures { OnOk result ((more : Seq ℕ) × (string_bytes out.new ≡ (string_bytes out.old ++ error_in files.now blocks wrong.now) ++ more) × AreLater files.now most blocks wrong.now more) }
+    ensures { OnOk result ((told : View) × (more : Seq ℕ) × IsToldIn known.now.texts blocks wrong.now.fault told
+        × (string_bytes out.new ≡ (string_bytes out.old ++ error_in files.now blocks wrong.now told) ++ more) × AreLater files.now known.now.texts most blocks wrong.now more) }
 {
-    push_error_in(alloc, out, files, blocks.as_slice(), wrong)?;
+    push_error_in(alloc, out, files, known, blocks.as_slice(), wrong)?;
     if goes_on(blocks.as_slice(), wrong) {
         let left = without(blocks, wrong.fault.file, wrong.fault.line);
-        push_errors(alloc, out, files, tables, left, most)
+        push_errors(alloc, out, files, tables, known, left, most)
     } else {
         Ok(())
     }

@@ -1,30 +1,29 @@
 // How errors are printed.
-ghost use Rattle.std.specs.Prelude.{◌≡◌, ◌++◌, OnOk};
+ghost use Rattle.std.specs.Prelude.{◌≡◌, ◌++◌, All, OnOk};
 ghost use Rattle.std.specs.Option.{option_copied};
 ghost use Rattle.std.specs.String.{string_bytes};
+ghost use Rattle.opa_parse.specs.Fronts.{AreShort};
 ghost use Rattle.opa_rulebase.specs.Loading.{name_at};
-ghost use Rattle.opa_rules.specs.Faults.Printed.{column_of, error_in, error_text, source_of};
+ghost use Rattle.opa_rules.specs.Faults.Printed.{error_in, error_text, source_of};
+ghost use Rattle.opa_rules.specs.Faults.Told.{IsToldIn};
+ghost use Rattle.opa_rules.specs.declared.faults.told.Told.{Told as View};
 
 use crate::faults::blocks::line_at;
-use crate::faults::words::words;
+use crate::faults::known::Known;
+use crate::faults::told::{Told, told_in_blocks};
 use opa_io::NoMemory;
 use opa_rulebase::{Refusal, SourceFile, circle_lines};
 use opa_words::{Block, BlockLine, printed_name};
 use std::alloc::Global;
 
-/// Where the line begins, counted from 1: two blanks or a tab are one level of indentation.
-fn column(line: Option<&BlockLine>) -> u64
-    ensures { result ≡ column_of (option_copied line.entry) }
-{
-    match line {
-        None => 1,
-        Some(line) => line.level as u64 * 2 + 1,
-    }
-}
-
-/// Puts the line behind a text, with a mark below its first character.
-fn push_source(alloc: Global, out: &mut String, line: Option<&BlockLine>) -> Result<(), NoMemory>
-    ensures { OnOk result (string_bytes out.new ≡ string_bytes out.old ++ source_of (option_copied line.entry)) }
+/// Puts the line behind a text, with a mark below it behind so many blanks.
+fn push_source(
+    alloc: Global,
+    out: &mut String,
+    line: Option<&BlockLine>,
+    blanks: &str,
+) -> Result<(), NoMemory>
+    ensures { OnOk result (string_bytes out.new ≡ string_bytes out.old ++ source_of (option_copied line.entry) blanks.now) }
 {
     match line {
         None => Ok(()),
@@ -32,14 +31,16 @@ fn push_source(alloc: Global, out: &mut String, line: Option<&BlockLine>) -> Res
             let text = printed_name(alloc, line.text.as_str())?;
             out.push_str("  ")?;
             out.push_str(text.as_str())?;
-            out.push_str("\n  ^\n")?;
+            out.push_str("\n  ")?;
+            out.push_str(blanks)?;
+            out.push_str("^\n")?;
             Ok(())
         }
     }
 }
 
 /// The name of the file that has this place.
-fn file_name(files: &[SourceFile], place: u32) -> &str
+pub(crate) fn file_name(files: &[SourceFile], place: u32) -> &str
     ensures { result.now ≡ name_at files.now place }
 {
     match files.get(place as usize) {
@@ -55,8 +56,9 @@ pub(crate) fn push_error(
     name: &str,
     wrong: &Refusal,
     line: Option<&BlockLine>,
+    told: &Told,
 ) -> Result<(), NoMemory>
-    ensures { OnOk result (string_bytes out.new ≡ string_bytes out.old ++ error_text name.now wrong.now.fault wrong.now.circle (option_copied line.entry)) }
+    ensures { OnOk result (string_bytes out.new ≡ string_bytes out.old ++ error_text name.now wrong.now.fault wrong.now.circle (option_copied line.entry) told.now) }
 {
     let name = printed_name(alloc, name)?;
     let circle = circle_lines(alloc, wrong.circle.as_slice())?;
@@ -64,25 +66,28 @@ pub(crate) fn push_error(
         "{}:{}:{}: error: {}\n{}",
         name.as_str(),
         wrong.fault.line,
-        column(line),
-        words(wrong.fault.kind),
+        told.column,
+        told.words.as_str(),
         circle.as_str()
     )?;
     out.push_str(head.as_str())?;
-    push_source(alloc, out, line)
+    push_source(alloc, out, line, told.blanks.as_str())
 }
 
-/// Puts an error of files behind a text, with its line as these blocks have it.
+/// Puts an error of files behind a text, as these blocks have it.
 pub(crate) fn push_error_in(
     alloc: Global,
     out: &mut String,
     files: &[SourceFile],
+    known: &Known,
     blocks: &[Block],
     wrong: &Refusal,
 ) -> Result<(), NoMemory>
-    ensures { OnOk result (string_bytes out.new ≡ string_bytes out.old ++ error_in files.now blocks.now wrong.now) }
+    requires { All (λ b. AreShort b.lines) blocks.now }
+    ensures { OnOk result ((told : View) × IsToldIn known.now.texts blocks.now wrong.now.fault told × (string_bytes out.new ≡ string_bytes out.old ++ error_in files.now blocks.now wrong.now told)) }
 {
     let name = file_name(files, wrong.fault.file);
     let line = line_at(blocks, wrong.fault.file, wrong.fault.line);
-    push_error(alloc, out, name, wrong, line)
+    let told = told_in_blocks(alloc, known, blocks, &wrong.fault)?;
+    push_error(alloc, out, name, wrong, line, &told)
 }

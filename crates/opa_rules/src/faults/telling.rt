@@ -10,10 +10,13 @@ ghost use Rattle.opa_rulebase.specs.declared.files.source.SourceFile.{SourceFile
 ghost use Rattle.opa_rules.specs.Faults.Finding.{AreAccepted, Finds};
 ghost use Rattle.opa_rules.specs.Faults.Listing.{AreErrors, are_short as are_short_files, most_listed as most_listed_of};
 ghost use Rattle.opa_rules.specs.Faults.Printed.{error_in, error_text};
+ghost use Rattle.opa_rules.specs.Faults.Told.{plain as plain_of};
 ghost use Rattle.opa_rules.specs.Promises.{outside, Faults};
 
+use crate::faults::known::known_of;
 use crate::faults::listing::push_from;
-use crate::faults::printed::{push_error, push_error_in};
+use crate::faults::printed::{file_name, push_error};
+use crate::faults::told::plain;
 use opa_io::{List, NoMemory, Shelf, Sink, Status};
 use opa_rulebase::{
     Refusal, SourceFile, TakeError, Unaccepted, Unread, accept, lay_out, tables_of, take_files,
@@ -43,6 +46,7 @@ fn errors_of_blocks(
     blocks: List<Block>,
     wrong: &Refusal,
 ) -> Result<String, NoMemory>
+    requires texts { All (λ (f : FileView). length f.text ≤ 8388608) files.now }
     requires few { length files.now ≤ 101 }
     requires blocks { AreBlocks files.now blocks }
     requires short { All (λ b. AreShort b.lines) blocks }
@@ -50,6 +54,7 @@ fn errors_of_blocks(
     ensures { IfOk result (λ text. AreErrors files.now (string_bytes text)) }
 {
     let tables = tables_of(alloc, files)?;
+    let known = known_of(alloc, files)?;
     let most = most_listed(files);
     let mut out = String::new(alloc);
     push_from(
@@ -57,6 +62,7 @@ fn errors_of_blocks(
         &mut out,
         files,
         tables.as_slice(),
+        &known,
         blocks,
         most,
         wrong,
@@ -66,10 +72,12 @@ fn errors_of_blocks(
 
 /// The text of an error of the layout of files.
 fn error_of_layout(alloc: Global, files: &[SourceFile], wrong: &Refusal) -> Result<String, NoMemory>
-    ensures { IfOk result (λ text. string_bytes text ≡ error_in files.now [] wrong.now) }
+    ensures { IfOk result (λ text. string_bytes text ≡ error_in files.now [] wrong.now (plain_of wrong.now.fault.kind None)) }
 {
     let mut out = String::new(alloc);
-    push_error_in(alloc, &mut out, files, &[], wrong)?;
+    let name = file_name(files, wrong.fault.file);
+    let told = plain(alloc, wrong.fault.kind, None)?;
+    push_error(alloc, &mut out, name, wrong, None, &told)?;
     Ok(out)
 }
 
@@ -102,7 +110,7 @@ fn found_in(alloc: Global, files: &[SourceFile]) -> Result<Option<String>, NoMem
 
 /// The text of what is wrong with files that can't be taken.
 fn unread_text(alloc: Global, unread: Unread) -> Result<String, NoMemory>
-    ensures { IfOk result (λ text. string_bytes text ≡ error_text unread.name unread.fault [] None) }
+    ensures { IfOk result (λ text. string_bytes text ≡ error_text unread.name unread.fault [] None (plain_of unread.fault.kind None)) }
 {
     let Unread { fault, name } = unread;
     let wrong = Refusal {
@@ -110,7 +118,8 @@ fn unread_text(alloc: Global, unread: Unread) -> Result<String, NoMemory>
         circle: List::new(alloc),
     };
     let mut out = String::new(alloc);
-    push_error(alloc, &mut out, name.as_str(), &wrong, None)?;
+    let told = plain(alloc, wrong.fault.kind, None)?;
+    push_error(alloc, &mut out, name.as_str(), &wrong, None, &told)?;
     Ok(out)
 }
 
