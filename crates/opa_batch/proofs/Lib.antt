@@ -1,5 +1,7 @@
 pub mod HeadLaws
 pub mod CellLaws
+pub mod SeamLaws
+pub mod AimLaws
 pub mod RowLaws
 pub mod CutLaws
 pub mod WriterLaws

@@ -6,6 +6,7 @@ pub mod Cutting
 pub mod Gathered
 pub mod Known
 pub mod Rows
+pub mod Aims
 pub mod Batches
 pub mod Serving
 pub mod Counting

@@ -1,18 +1,20 @@
 // The line of a cell is carried out over the case of its record.
-ghost use Rattle.std.specs.Prelude.{◌≡◌, ◌≢◌, Some, Ok, Err, IfOk, IfErr, OnOk, OnErr};
+ghost use Rattle.std.specs.Prelude.{◌≡◌, ◌≢◌, Some, Ok, Err, IfOk, IfErr, IfSome, OnOk, OnErr};
 ghost use Rattle.opa_case.specs.Laws.{IsDeclared};
 ghost use Rattle.opa_case.specs.Shapes.{shape_of};
 ghost use Rattle.opa_case.specs.declared.change.Refusal.TheVariants as refusals;
 ghost use Rattle.opa_session.specs.Infer.Sessions.{reached};
 ghost use Rattle.opa_mean.specs.Rulebases.{IsOf};
 ghost use Rattle.opa_script.specs.Laws.{IsInRange};
+ghost use Rattle.opa_batch.specs.Aims.{IsAimed};
 ghost use Rattle.opa_batch.specs.Counting.{IsAtMost, ChangeReaches, LineReaches, CellReaches};
 ghost use Rattle.opa_batch.specs.Numbered.{left_by};
-ghost use Rattle.opa_batch.specs.Rows.{change_in as change_of, stepped, in_column, IsCarriedOut, IsCell};
+ghost use Rattle.opa_batch.specs.Rows.{change_in as change_of, stepped, in_column, line_of, IsCarriedOut, IsCell};
 
+use crate::aim::Aim;
 use crate::faults::{change_fault, command_fault};
 use crate::head::Head;
-use crate::lines::{asked, line_of};
+use crate::lines::asked_of;
 use opa_case::{Case, ChangeCommand, Refusal};
 use opa_io::{NoMemory, Txt};
 use opa_script::Command;
@@ -109,20 +111,23 @@ fn take_command(
     }
 }
 
-/// Reads a line and carries it out, and answers its fault if it has one.
+/// Reads the line of a cell and carries it out, and answers its fault if it has one.
 fn take_line(
     alloc: Global,
     base: &Rulebase,
     case: &mut Case,
     column: usize,
-    line: &[u8],
+    head: &Head,
+    aim: &Option<Aim>,
+    cell: &[u8],
 ) -> Result<Option<Txt>, NoMemory>
     requires fits { IsOf base.now case.old }
-    ensures ok { IfOk result (λ fault. IsCarriedOut base.now column case.old line.now (left_by fault case.new)) }
+    requires aimed { IfSome aim.now (IsAimed base.now.model head.now) }
+    ensures ok { IfOk result (λ fault. IsCarriedOut base.now column case.old (line_of head.now cell.now) (left_by fault case.new)) }
     ensures fits { IfOk result (λ _. IsOf base.now case.new) }
-    ensures reaches { IfOk result (λ _. IsAtMost (LineReaches base.now case.old line.now) (reached base.now case.old case.new)) }
+    ensures reaches { IfOk result (λ _. IsAtMost (LineReaches base.now case.old (line_of head.now cell.now)) (reached base.now case.old case.new)) }
 {
-    match asked(alloc, &base.model, line) {
+    match asked_of(alloc, &base.model, head, aim, cell) {
         Ok(command) => {
             let fault = take_command(alloc, base, case, column, command)?;
             Ok(fault)
@@ -141,9 +146,11 @@ pub(crate) fn take_cell(
     case: &mut Case,
     column: usize,
     head: &Head,
+    aim: &Option<Aim>,
     cell: &[u8],
 ) -> Result<Option<Txt>, NoMemory>
     requires fits { IsOf base.now case.old }
+    requires aimed { IfSome aim.now (IsAimed base.now.model head.now) }
     ensures ok { IfOk result (λ fault. IsCell base.now column case.old head.now cell.now (left_by fault case.new)) }
     ensures fits { IfOk result (λ _. IsOf base.now case.new) }
     ensures reaches { IfOk result (λ _. IsAtMost (CellReaches base.now case.old head.now cell.now) (reached base.now case.old case.new)) }
@@ -151,7 +158,6 @@ pub(crate) fn take_cell(
     if cell.is_empty() {
         return Ok(None);
     }
-    let line = line_of(alloc, head, cell)?;
-    let fault = take_line(alloc, base, case, column, &line)?;
+    let fault = take_line(alloc, base, case, column, head, aim, cell)?;
     Ok(fault)
 }

@@ -4,10 +4,12 @@ ghost use Rattle.csv.specs.Records.{fields_of};
 ghost use Rattle.opa_case.specs.Cases.{no_case};
 ghost use Rattle.opa_session.specs.Infer.Sessions.{rules_of, held_of, reached};
 ghost use Rattle.opa_mean.specs.Rulebases.{IsOf};
+ghost use Rattle.opa_batch.specs.Aims.{AreAimed};
 ghost use Rattle.opa_batch.specs.Counting.{CountsAtMost, IsAtMost, CellsReach, RecordReaches};
 ghost use Rattle.opa_batch.specs.Numbered.{left_by};
 ghost use Rattle.opa_batch.specs.Rows.{AreCells, IsRecord};
 
+use crate::aim::Aim;
 use crate::carrying::take_cell;
 use crate::faults::length_fault;
 use crate::head::Head;
@@ -38,9 +40,11 @@ fn take_cells(
     base: &Rulebase,
     case: &mut Case,
     heads: &[Head],
+    aims: &[Option<Aim>],
     row: &ByteRecord,
 ) -> Result<Option<Txt>, NoMemory>
     requires fits { IsOf base.now case.old }
+    requires aimed { AreAimed base.now.model heads.now aims.now }
     ensures ok { IfOk result (λ fault. AreCells base.now 1 case.old heads.now (fields_of row.now) (left_by fault case.new)) }
     ensures fits { IfOk result (λ _. IsOf base.now case.new) }
     ensures reaches { IfOk result (λ _. IsAtMost (CellsReach base.now 1 case.old heads.now (fields_of row.now)) (reached base.now case.old case.new)) }
@@ -49,7 +53,15 @@ fn take_cells(
         let Some(cell) = row.get(place) else {
             return Ok(None);
         };
-        let fault = take_cell(alloc, base, case, place + 1, &heads[place], cell)?;
+        let fault = take_cell(
+            alloc,
+            base,
+            case,
+            place + 1,
+            &heads[place],
+            &aims[place],
+            cell,
+        )?;
         if fault.is_some() {
             return Ok(fault);
         }
@@ -62,8 +74,10 @@ fn case_of(
     alloc: Global,
     base: &Rulebase,
     heads: &[Head],
+    aims: &[Option<Aim>],
     row: &ByteRecord,
 ) -> Result<Result<Case, Txt>, NoMemory>
+    requires aimed { AreAimed base.now.model heads.now aims.now }
     ensures ok { IfOk result (IsRecord base.now heads.now (fields_of row.now)) }
     ensures fits { IfOk result (λ made. IfOk made (IsOf base.now)) }
     ensures reaches { IfOk result (λ made. IfOk made (λ c. IsAtMost (RecordReaches base.now heads.now (fields_of row.now)) (reached base.now no_case c))) }
@@ -73,7 +87,7 @@ fn case_of(
         return Ok(Err(text));
     }
     let mut case = empty_case(alloc, base);
-    let fault = take_cells(alloc, base, &mut case, heads, row)?;
+    let fault = take_cells(alloc, base, &mut case, heads, aims, row)?;
     match fault {
         Some(text) => Ok(Err(text)),
         None => Ok(Ok(case)),
@@ -103,15 +117,17 @@ pub(crate) fn take_record<L: Ledger>(
     alloc: Global,
     session: &mut Session<L>,
     heads: &[Head],
+    aims: &[Option<Aim>],
     row: &ByteRecord,
     steps: &mut Steps<L>,
 ) -> Result<Option<Txt>, NoMemory>
+    requires aimed { AreAimed (rules_of session.old).model heads.now aims.now }
     ensures ok { IfOk result (λ fault. IsRecord (rules_of session.old) heads.now (fields_of row.now) (left_by fault (held_of session.new))) }
     ensures base { rules_of session.new ≡ rules_of session.old }
     ensures counts { CountsAtMost (RecordReaches (rules_of session.old) heads.now (fields_of row.now))
         (steps.old + reached (rules_of session.old) (held_of session.old) no_case) steps.new }
 {
-    let made = case_of(alloc, session.base(), heads, row)?;
+    let made = case_of(alloc, session.base(), heads, aims, row)?;
     match made {
         Err(fault) => Ok(Some(fault)),
         Ok(case) => {

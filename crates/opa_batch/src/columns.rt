@@ -23,7 +23,7 @@ use std::alloc::Global;
 use std::str;
 
 /// The text of a cell that isn't too long.
-fn text_of(cell: &[u8]) -> Option<&str>
+pub(crate) fn text_of(cell: &[u8]) -> Option<&str>
     ensures { MatchOption result (IsNoText cell.now) (λ t. IsText cell.now t.now) }
 {
     if cell.len() > MOST_LINE {
@@ -36,7 +36,7 @@ fn text_of(cell: &[u8]) -> Option<&str>
 }
 
 /// The tokens of a text.
-fn cut(alloc: Global, text: &str) -> Result<Vec<Token>, HeadFault>
+pub(crate) fn cut(alloc: Global, text: &str) -> Result<Vec<Token>, HeadFault>
     requires { length text.now ≤ 65536 }
     ensures cut { IfOk result (λ v. Cuts (length text.now) (chars text.now) v.items) }
     ensures within { IfOk result (λ v. All (IsWithin text.now) v.items) }

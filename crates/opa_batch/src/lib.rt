@@ -1,6 +1,7 @@
 //! Many cases from a table, each record with what the goals are where its cells alone are known: for the desk.
 #![tactic(auto)]
 
+mod aim;
 mod calling;
 mod carrying;
 mod cells;
@@ -15,6 +16,7 @@ mod lines;
 mod making;
 mod records;
 mod rows;
+mod said;
 mod same;
 mod serving;
 

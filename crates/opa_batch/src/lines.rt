@@ -1,10 +1,13 @@
 // The line that a cell stands for, and the command that it is.
-ghost use Rattle.std.specs.Prelude.{◌≡◌, IfOk, IfErr};
+ghost use Rattle.std.specs.Prelude.{◌≡◌, IfOk, IfErr, IfSome};
 ghost use Rattle.opa_script.specs.Commands.{IsCommand, IsNoCommand};
 ghost use Rattle.opa_script.specs.Laws.{IsInRange, IsWellFormed};
+ghost use Rattle.opa_batch.specs.Aims.{IsAimed};
 ghost use Rattle.opa_batch.specs.Rows as meant;
 
+use crate::aim::Aim;
 use crate::head::{Head, Sort};
+use crate::said::cell_said;
 use opa_io::NoMemory;
 use opa_model::Model;
 use opa_script::{CmdFault, Command, commands_are_in_range, is_well_formed, read_command};
@@ -36,7 +39,7 @@ pub(crate) fn line_of(alloc: Global, head: &Head, cell: &[u8]) -> Result<Vec<u8>
 }
 
 /// The command that a line is.
-pub(crate) fn asked(alloc: Global, model: &Model, line: &[u8]) -> Result<Command, CmdFault>
+fn asked(alloc: Global, model: &Model, line: &[u8]) -> Result<Command, CmdFault>
     ensures ok { IfOk result (IsCommand model.now line.now) }
     ensures formed { IfOk result IsWellFormed }
     ensures range { IfOk result (IsInRange model.now) }
@@ -48,6 +51,53 @@ pub(crate) fn asked(alloc: Global, model: &Model, line: &[u8]) -> Result<Command
         Ok(command) => {
             is_well_formed(&command);
             Ok(command)
+        }
+    }
+}
+
+/// The change that a cell says of what its head is about. None says nothing.
+fn quick(
+    alloc: Global,
+    model: &Model,
+    head: &Head,
+    aim: &Option<Aim>,
+    cell: &[u8],
+) -> Result<Option<Command>, NoMemory>
+    requires { IfSome aim.now (IsAimed model.now head.now) }
+    ensures command { IfOk result (λ r. IfSome r (IsCommand model.now (meant.line_of head.now cell.now))) }
+{
+    match aim {
+        None => Ok(None),
+        Some(aim) => {
+            let said = cell_said(alloc, aim, cell)?;
+            Ok(said)
+        }
+    }
+}
+
+/// The command that the line of a cell is. Where the head and the cell are plain, the line isn't cut.
+pub(crate) fn asked_of(
+    alloc: Global,
+    model: &Model,
+    head: &Head,
+    aim: &Option<Aim>,
+    cell: &[u8],
+) -> Result<Command, CmdFault>
+    requires { IfSome aim.now (IsAimed model.now head.now) }
+    ensures ok { IfOk result (IsCommand model.now (meant.line_of head.now cell.now)) }
+    ensures formed { IfOk result IsWellFormed }
+    ensures range { IfOk result (IsInRange model.now) }
+    ensures fault { IfErr result (IsNoCommand model.now (meant.line_of head.now cell.now)) }
+{
+    commands_are_in_range();
+    match quick(alloc, model, head, aim, cell)? {
+        Some(command) => {
+            is_well_formed(&command);
+            Ok(command)
+        }
+        None => {
+            let line = line_of(alloc, head, cell)?;
+            asked(alloc, model, line.as_slice())
         }
     }
 }

@@ -5,6 +5,7 @@ ghost use Rattle.opa_case.specs.Cases.{no_case};
 ghost use Rattle.opa_session.specs.Infer.Sessions.{rules_of, held_of, first_slots};
 ghost use Rattle.opa_io.specs.declared.fault.Status.TheVariants as statuses;
 ghost use Rattle.opa_parse.specs.Tables.Records.{table_records};
+ghost use Rattle.opa_batch.specs.Aims.{AreAimed};
 ghost use Rattle.opa_batch.specs.Batches.{Gives, GivesOf, no_heading, written_row as written_row_of, heading as heading_of};
 ghost use Rattle.opa_batch.specs.Counting.{CountsAtMost, RecordReaches, RecordsReach, MayCount, due};
 ghost use Rattle.opa_batch.specs.Cutting.{HasLeft, IsAt, below};
@@ -12,6 +13,7 @@ ghost use Rattle.opa_batch.specs.Gathered.{AddsRow, AddsRows};
 ghost use Rattle.opa_batch.specs.Known.{AreKept};
 ghost use Rattle.opa_batch.specs.Numbered.{HasRows};
 
+use crate::aim::{Aim, aims_of};
 use crate::cells::take_record;
 use crate::columns::heads_of;
 use crate::csv_rows::{add_row, no_rows, text_of};
@@ -39,6 +41,7 @@ fn add_decided<L: Ledger>(
     alloc: Global,
     session: &mut Session<L>,
     heads: &[Head],
+    aims: &[Option<Aim>],
     place: usize,
     row: &mut ByteRecord,
     kept: &mut Vec<Kept>,
@@ -46,6 +49,7 @@ fn add_decided<L: Ledger>(
     out: &mut Writer<Vec<u8>>,
     steps: &mut Steps<L>,
 ) -> Result<(), NoMemory>
+    requires aimed { AreAimed (rules_of session.old).model heads.now aims.now }
     requires first { place ≡ 0 → held_of session.old ≡ no_case }
     requires few { place + 1 < 2 ^ 64 }
     requires slot { slot < length kept.old.items }
@@ -55,7 +59,7 @@ fn add_decided<L: Ledger>(
     ensures slots { OnOk result (length kept.new.items ≡ length kept.old.items) }
     ensures counts { CountsAtMost (RecordReaches (rules_of session.old) heads.now (fields_of row.old)) (steps.old + due (rules_of session.old) place) steps.new }
 {
-    let fault = take_record(alloc, session, heads, row, steps)?;
+    let fault = take_record(alloc, session, heads, aims, row, steps)?;
     add_kept(alloc, session, place + 1, &fault, row, kept, slot, out)?;
     Ok(())
 }
@@ -65,12 +69,14 @@ fn add_record<L: Ledger>(
     alloc: Global,
     session: &mut Session<L>,
     heads: &[Head],
+    aims: &[Option<Aim>],
     place: usize,
     row: &mut ByteRecord,
     kept: &mut Vec<Kept>,
     out: &mut Writer<Vec<u8>>,
     steps: &mut Steps<L>,
 ) -> Result<(), NoMemory>
+    requires aimed { AreAimed (rules_of session.old).model heads.now aims.now }
     requires first { place ≡ 0 → held_of session.old ≡ no_case }
     requires few { place + 1 < 2 ^ 64 }
     requires kept { AreKept (rules_of session.old) heads.now kept.old.items }
@@ -86,7 +92,9 @@ fn add_record<L: Ledger>(
     if found {
         return Ok(());
     }
-    add_decided(alloc, session, heads, place, row, kept, slot, out, steps)?;
+    add_decided(
+        alloc, session, heads, aims, place, row, kept, slot, out, steps,
+    )?;
     Ok(())
 }
 
@@ -95,12 +103,14 @@ fn add_rows<L: Ledger>(
     alloc: Global,
     session: &mut Session<L>,
     heads: &[Head],
+    aims: &[Option<Aim>],
     bytes: &[u8],
     reader: &mut Reader<&[u8]>,
     row: &mut ByteRecord,
     out: &mut Writer<Vec<u8>>,
     steps: &mut Steps<L>,
 ) -> Result<(), NoMemory>
+    requires aimed { AreAimed (rules_of session.old).model heads.now aims.now }
     requires first { held_of session.old ≡ no_case }
     requires at { IsAt bytes.now 0 (fields_of row.old) reader.old }
     ensures rows { OnOk result (AddsRows (λ v. Some v.items) out.old out.new (rules_of session.old) heads.now (below bytes.now)) }
@@ -109,7 +119,9 @@ fn add_rows<L: Ledger>(
     let mut kept = none_kept(alloc)?;
     // An input has no more records below its heading than bytes.
     for place in 0..bytes.len() {
-        add_record(alloc, session, heads, place, row, &mut kept, out, steps)?;
+        add_record(
+            alloc, session, heads, aims, place, row, &mut kept, out, steps,
+        )?;
         let found = cut_next(reader, row)?;
         if !found {
             return Ok(());
@@ -136,8 +148,19 @@ fn determined<L: Ledger>(
     ensures rows { OnOk result (AddsRows (λ v. Some v.items) out.old out.new base heads.now (below bytes.now)) }
     ensures counts { CountsAtMost (RecordsReach base heads.now (below bytes.now)) steps.old steps.new }
 {
+    let aims = aims_of(alloc, &base.model, heads)?;
     let mut session = Session::start(alloc, base, steps)?;
-    let added = add_rows(alloc, &mut session, heads, bytes, reader, row, out, steps);
+    let added = add_rows(
+        alloc,
+        &mut session,
+        heads,
+        &aims,
+        bytes,
+        reader,
+        row,
+        out,
+        steps,
+    );
     let_go(session);
     added
 }

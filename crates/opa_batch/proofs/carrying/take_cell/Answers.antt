@@ -1,7 +1,6 @@
-use Rattle.std.proofs.Common.{List, ℕ, refl, subst, ◌∙◌}
+use Rattle.std.proofs.Common.{refl}
 use Rattle.opa_session.specs.Infer.Sessions.{reached}
-use Rattle.opa_batch.specs.Rows.{IsCarriedOut}
-use Rattle.opa_batch.specs.Counting.{IsAtMost, CellReaches, LineReaches}
+use Rattle.opa_batch.specs.Counting.{CellReaches}
 use Rattle.opa_batch.specs.Numbered.{left_by}
 use Rattle.opa_batch.proofs.CellLaws.{full_cell}
 use Rattle.opa_batch.proofs.CountLaws.{full_cell_reaches, no_line, nowhere}
@@ -18,13 +17,11 @@ returns-clause-ok c =
     let r = c.args.base.now in
     let held = c.args.case.now in
     let x = left_by c.in_ok-fault.fault c.take_line.new.case in
-    full_cell r c.args.column held c.args.head.now c.args.cell.now x c.is_empty.result c.is_empty.ensures c.if-is_empty.false
-    (subst (λ (l : List ℕ). IsCarriedOut r c.args.column held l x) (c.deref.ensures.value ∙ c.in_ok-line.ensures) c.in_ok-fault.ensures.ok)
+    full_cell r c.args.column held c.args.head.now c.args.cell.now x c.is_empty.result c.is_empty.ensures c.if-is_empty.false c.in_ok-fault.ensures.ok
 
 pub returns-clause-reaches : goal.returns-clause-reaches
 returns-clause-reaches c =
     let r = c.args.base.now in
     let held = c.args.case.now in
     let n = reached r held c.take_line.new.case in
-    full_cell_reaches r held c.args.head.now c.args.cell.now c.is_empty.result n c.is_empty.ensures c.if-is_empty.false
-    (subst (λ (l : List ℕ). IsAtMost (LineReaches r held l) n) (c.deref.ensures.value ∙ c.in_ok-line.ensures) c.in_ok-fault.ensures.reaches)
+    full_cell_reaches r held c.args.head.now c.args.cell.now c.is_empty.result n c.is_empty.ensures c.if-is_empty.false c.in_ok-fault.ensures.reaches

@@ -2,6 +2,7 @@ use Rattle.std.proofs.Common.{◌<◌, ◌≤◌, ◌≡◌, ◌∙◌, true, fa
 use Rattle.std.proofs.lemmas.List.{drop_all}
 use Rattle.csv.specs.Records.{fields_of}
 use Rattle.opa_io.proofs.Places.{drop_from}
+use Rattle.opa_batch.proofs.AimLaws.{aim_at, aims_long}
 use Rattle.opa_batch.proofs.CellLaws.{missing, way_begins, way_is_short, way_stops, way_goes_on}
 use Rattle.opa_batch.proofs.CountLaws.{cells_begin, cells_are_done, cells_are_short, cells_stop, cells_go_on}
 use Rattle.opa_batch.proofs.cells.take_cells.Goals as goal
@@ -62,3 +63,20 @@ returns-clause-reaches c =
     let after : length c.args.heads.now ≤ c.loop-place.place = c.loop-place-test.false in
     cells_are_done c.args.base.now c.args.heads.now (fields_of c.args.row.now) c.args.case.now c.loop-place.place c.loop-place.case c.loop-place.invariant.counts
     (drop_all c.loop-place.place c.args.heads.now after)
+
+pub take_cell-requires-clause-aimed : goal.take_cell-requires-clause-aimed
+take_cell-requires-clause-aimed c =
+    let m = c.args.base.now.model in
+    let heads = c.args.heads.now in
+    let aims = c.args.aims.now in
+    let place = c.loop-place.place in
+    let head = c.index-heads-place.result in
+    let aim = c.index-aims-place.result in
+    let lt : place < length heads = omega arith in
+    aim_at m heads aims place head aim c.requires.aimed lt c.index-heads-place.is c.index-aims-place.is
+
+pub bounds-aims-place : goal.bounds-aims-place
+bounds-aims-place c =
+    let lt : c.loop-place.place < length c.args.heads.now = omega arith in
+    let long = aims_long c.args.base.now.model c.args.heads.now c.args.aims.now c.requires.aimed in
+    omega (arith, lt, long)

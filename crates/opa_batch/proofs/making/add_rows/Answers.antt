@@ -3,6 +3,7 @@ use Rattle.std.specs.Prelude.{Some}
 use Rattle.csv.specs.Records.{fields_of}
 use Rattle.opa_tree.specs.declared.rulebase.Rulebase.{Rulebase}
 use Rattle.opa_session.specs.Infer.Sessions.{first_slots, rules_of}
+use Rattle.opa_batch.specs.Aims.{AreAimed}
 use Rattle.opa_batch.specs.Counting.{CountsAtMost, RecordReaches, due}
 use Rattle.opa_batch.specs.Cutting.{below}
 use Rattle.opa_batch.specs.Gathered.{AddsRow}
@@ -93,3 +94,6 @@ returns-in_err-kept-clause-counts g c =
     let r = rules_of c.args.session.now in
     let some = some_below c.args.bytes.now (fields_of c.args.row.now) c.args.reader.now c.requires.at in
     started r c.args.heads.now (below c.args.bytes.now) c.args.steps.now (c.args.steps.now + first_slots r) some (omega arith)
+
+pub add_record-requires-clause-aimed : goal.add_record-requires-clause-aimed
+add_record-requires-clause-aimed g c = subst (λ (b : Rulebase). AreAimed b.model c.args.heads.now c.args.aims.now) (sym c.loop-place.invariant.base) c.requires.aimed
