@@ -1,9 +1,9 @@
 """Writes the worst inputs within the limits that each reader is known to have, into the folder in which it runs, and a line for each
 of how it is run.
 
-    python3 docs/worst_inputs.py && sh worst_runs.sh OPA DESK
+    python3 docs/worst_inputs.py && sh worst_runs.sh OPA DESK RULES
 
-docs/PERFORMANCE.md has what each took.
+docs/PERFORMANCE.md has what each took. What `opa check` reads `rules faults` reads, too.
 """
 
 from worst_windows import all_written
@@ -25,9 +25,15 @@ def filled(front, line, most):
     return front + line * ((most - len(front)) // len(line))
 
 
+def timed(name, command):
+    runs.append(f"echo {name}; /usr/bin/time -f '%e s, %M KB, status %x' {command} > /dev/null")
+
+
 def run(name, words, given="/dev/null"):
-    runs.append(f'"$1" {words} < {given}' if not words.startswith("desk ") else f'"$2" {words[5:]} < {given}')
-    runs[-1] = f"echo {name}; /usr/bin/time -f '%e s, %M KB, status %x' {runs[-1]} > /dev/null"
+    program, words = ("$2", words[5:]) if words.startswith("desk ") else ("$1", words)
+    timed(name, f'"{program}" {words} < {given}')
+    if words.startswith("check "):
+        timed(f"errors_of_{name}", f'"$3" faults {words[6:]}')
 
 
 # Rule files: tokens, blocks, phrases, brackets, groups
@@ -48,6 +54,18 @@ write("quotes.txt", HEAD + 'x = "' + "a" * 60000 + "\n", FILE)
 run("a_text_that_never_closes", "check quotes.txt")
 write("attributes.txt", "global\n" + "".join(f"  number {'b ' * 480}{n}\n" for n in range(4000)), FILE)
 run("long_phrases_that_differ_at_their_ends", "check attributes.txt")
+
+# Errors, each with a phrase that nothing declares, near to all that are declared
+def misspelled(length, count):
+    words = " ".join("word" + 3 * chr(97 + n % 26) for n in range(length))
+    declared = "".join(f"  number the {words} number {n}\n" for n in range(3_900))
+    return filled("global\n" + declared, f"the {words} number 1 = the {words} lumber 1\n", count)
+
+
+write("misspelled.txt", misspelled(10, 1_048_576), FILE)
+run("errors_near_to_all_phrases", "check misspelled.txt")
+write("long_misspelled.txt", misspelled(100, FILE), FILE)
+run("errors_near_to_long_phrases", "check long_misspelled.txt")
 
 # Tables
 table = 'global\n  number x\n  number y\ntable "t.csv"\n'
