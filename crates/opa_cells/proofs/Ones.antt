@@ -1,5 +1,5 @@
 -- A row as one cell and the others.
-use Rattle.std.specs.Prelude.{◌≡◌, ◌+◌, Bool, true, false, cond, List, Option, None, Some, is_some, slice_get, map, refl}
+use Rattle.std.specs.Prelude.{◌≡◌, ◌+◌, Bool, true, false, cond, List, Option, None, Some, is_some, not, slice_get, map, refl}
 use denote.Ref.{Bor}
 use Rattle.std.specs.Option.{option_map, option_copied}
 use Rattle.std.specs.FinMap.{FinMap, get, insert, remove, entries, len, same_map, put, get-insert, get-remove, len-insert, entries-insert}
@@ -47,6 +47,13 @@ module _ {V : Type 0} where
         | false ↦ λ a. sym (get-insert instance_total m e.0 e.1 q ∙ ap (λ b. cond b (Some e.1) (get m q)) (ap (is_same q) (sym (same_is i e.0 h)) ∙ a))
       ] refl
       ∙ sym (get-insert instance_total (insert m e.0 e.1) i v q))
+
+  -- a cell is taken out, and put back with another value
+  pub put_again : (m : FinMap instance_cmp V) (i : InstanceId) (v : V) → insert (remove m i) i v ≡ insert m i v
+  put_again m i v = same_map instance_total instance_exact _ _ (λ q.
+      get-insert instance_total (remove m i) i v q ∙ ap (cond (is_same q i) (Some v)) (get-remove instance_total m i q)
+      ∙ elim (is_same q i) as (λ b. cond b (Some v) (cond b None (get m q)) ≡ cond b (Some v) (get m q)) [ true ↦ refl | false ↦ refl ]
+      ∙ sym (get-insert instance_total m i v q))
 
   apart : (x y : Bool) (v w r : Option V) → (x ≡ true → y ≡ false) → cond x v (cond y w r) ≡ cond y w (cond x v r)
   apart true true v w r f = absurd (cc (f refl))
@@ -117,3 +124,7 @@ module _ {V : Type 0} where
       → (i : InstanceId) → get (with_one (one_kept keep o) n) i ≡ kept_if (keep i) (get (with_one o m) i)
   row_kept keep None m n h i = h i
   row_kept keep (Some e) m n h i = kept_one keep e m n h (keep e.0 e.1) refl i
+
+  pub none_held : (o : Option (InstanceId × V)) {b : Bool} → is_some o ≡ not b → b ≡ true → None ≡ o
+  none_held None e h = refl
+  none_held (Some x) e h = absurd (true≢false (e ∙ ap not h))

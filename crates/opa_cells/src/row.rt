@@ -100,9 +100,9 @@ impl<V: Drop> Row<V> {
             return Ok(false);
         }
         if self.one.is_none() {
-            let new = self.others.get(&inst).is_none();
+            let was = self.others.remove(&inst);
             self.one = Some((inst, value));
-            return Ok(new);
+            return Ok(!was);
         }
         self.others.insert(inst, value)
     }

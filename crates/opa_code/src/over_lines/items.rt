@@ -11,7 +11,7 @@ ghost use Rattle.opa_code.specs.OverLines.Lines.{values_at};
 ghost use Rattle.opa_code.specs.OverLines.Tallies as tallies;
 
 use crate::over_lines::gathering::Gathering;
-use crate::over_lines::lines::{is_most, item_line, tallied};
+use crate::over_lines::lines::{is_most, item_over, tallied};
 use crate::over_lines::operand::{Operand, first_of};
 use crate::over_lines::steady::{constant_of, counted, told_first};
 use crate::over_lines::tally::Tally;
@@ -46,17 +46,17 @@ impl<'a> Items<'a> {
     }
 
     /// One item more.
-    pub fn add(&mut self, alloc: Global, operand: &Operand<'a>) -> Result<(), NoMemory>
+    pub fn add(&mut self, alloc: Global, operand: Operand<'a>) -> Result<(), NoMemory>
         requires { HasRoom self.old }
-        ensures { OnOk result (IsAdded (day_value operand.now) self.old self.new) }
+        ensures { OnOk result (IsAdded (day_value operand.entry) self.old self.new) }
     {
-        keep_first(alloc, &mut self.first, operand)?;
+        keep_first(alloc, &mut self.first, &operand)?;
         match constant_of(operand.line()) {
             Some(value) => {
                 self.constant = counted(is_most(self.gathering), &self.constant, value);
                 Ok(())
             }
-            None => self.dated.push(operand.copy(alloc)?),
+            None => self.dated.push(operand),
         }
     }
 
@@ -75,19 +75,13 @@ impl<'a> Items<'a> {
         &mut self,
         alloc: Global,
         quant: Quant,
-        operands: &[Operand<'a>],
+        operands: Vec<Operand<'a>>,
     ) -> Result<(), NoMemory>
         requires { HasRoom self.old }
-        ensures { OnOk result (IsAdded (λ d. meant.item quant (values_at operands.now d)) self.old self.new) }
+        ensures { OnOk result (IsAdded (λ d. meant.item quant (values_at operands.entry.items d)) self.old self.new) }
     {
-        match operands {
-            [operand] => self.add(alloc, operand),
-            _ => {
-                let line = item_line(alloc, quant, operands)?;
-                let operand = Operand::made(line);
-                self.add(alloc, &operand)
-            }
-        }
+        let operand = item_over(alloc, quant, operands)?;
+        self.add(alloc, operand)
     }
 
     /// What is gathered from the items at each day.

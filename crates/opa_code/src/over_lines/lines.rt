@@ -9,12 +9,12 @@ ghost use Rattle.opa_value.specs.declared.value.Value.TheVariants as values;
 ghost use Rattle.opa_window.specs.Days.{day_value};
 ghost use Rattle.opa_mean.specs.Meaning as meant;
 ghost use Rattle.opa_mean.specs.Operations.{op_of};
-ghost use Rattle.opa_code.specs.OverLines.Lines.{values_at};
+ghost use Rattle.opa_code.specs.OverLines.Lines.{Has, values_at};
 ghost use Rattle.opa_code.specs.OverLines.Tallies.{IsOne, IsTally, gather_of, is_most as most_of};
 
 use crate::over_lines::choice::Choice;
 use crate::over_lines::gathering::Gathering;
-use crate::over_lines::operand::{Operand, first_of, seen_each};
+use crate::over_lines::operand::{Operand, first_of, only, seen_each};
 use crate::over_lines::operations::{strict_one, strict_two};
 use crate::over_lines::steady::{constant_tally, told_first, truth_of};
 use crate::over_lines::sums::amount;
@@ -141,6 +141,26 @@ pub fn choice_line(
     }
 }
 
+/// The same over operands: one that is chosen on every day isn't copied.
+pub(crate) fn choice_over<'a>(
+    alloc: Global,
+    cond: Operand<'a>,
+    value: Operand<'a>,
+    rest: Operand<'a>,
+) -> Result<Operand<'a>, NoMemory>
+    ensures { IfOk result (Has (λ d. meant.choose (day_value cond.entry d) (day_value value.entry d)
+        (day_value rest.entry d))) }
+{
+    match truth_of(cond.line()) {
+        Some(true) => Ok(value),
+        Some(false) => Ok(rest),
+        None => {
+            let line = choice_by_day(alloc, cond.line(), value.line(), rest.line())?;
+            Ok(Operand::made(line))
+        }
+    }
+}
+
 /// The first if it holds, else the second.
 fn either<'a>(holds: bool, first: &'a Line<Value>, second: &'a Line<Value>) -> &'a Line<Value>
     ensures { result.now ≡ condition holds first.now second.now }
@@ -260,6 +280,21 @@ pub fn item_line(
         (_, [operand]) => same_line(alloc, operand.line()),
         _ => Line::constant(alloc, Value::Uncertain),
     }
+}
+
+/// The same of operands that are handed over: one by itself isn't copied.
+pub(crate) fn item_over<'a>(
+    alloc: Global,
+    quant: Quant,
+    operands: Vec<Operand<'a>>,
+) -> Result<Operand<'a>, NoMemory>
+    ensures { IfOk result (Has (λ d. meant.item quant (values_at operands.entry.items d))) }
+{
+    if operands.len() == 1 {
+        return Ok(only(operands));
+    }
+    let line = item_line(alloc, quant, &operands)?;
+    Ok(Operand::made(line))
 }
 
 /// What a quantifier makes of the items.
