@@ -7,7 +7,7 @@ use Rattle.std.specs.Map.{lookup, keys_of}
 use Rattle.std.specs.Ordering.{nat_cmp, is_eq, is_gt, eq_by_cmp}
 use Rattle.std.specs.declared.cmp.Ordering.TheVariants.{Less, Equal, Greater}
 use Rattle.std.specs.Cmp.{nat_cmp_total, eq_by_cmp_equiv, unsigned_ties}
-use Rattle.std.specs.FinMap.{FinMap, get, insert, empty, entries, from_entries, find, put, len, get-insert, get-empty, get-entries, get-from_entries, entries-insert}
+use Rattle.std.specs.FinMap.{FinMap, get, insert, empty, entries, from_entries, find, put, len, same_map, get-insert, get-empty, get-entries, get-from_entries, entries-insert}
 use Rattle.std.specs.FinMap.Entries.{by_order}
 use Rattle.std.specs.BTreeMap.{is_at}
 use Rattle.std.proofs.Common.{arith, ap, sym, subst, ◌∙◌}
@@ -15,7 +15,7 @@ use Rattle.std.proofs.lemmas.Map.Keys.{IsDistinct-head, IsDistinct-tail}
 use Rattle.std.proofs.lemmas.Map.Lookups.{exact_unsigned}
 use Rattle.opa_cells.specs.declared.instance.InstanceId.{InstanceId}
 use Rattle.opa_cells.specs.Instances.{instance_cmp}
-use Rattle.opa_cells.specs.Rows.{with_rows, row_entries, all_entries, cells_in, ahead, least_row, insert_each}
+use Rattle.opa_cells.specs.Rows.{with_rows, row_entries, all_entries, cells_in, ahead, least_row, insert_each, by_number}
 use Rattle.opa_cells.proofs.Rowed.{same_rows, or_none}
 use Rattle.opa_cells.proofs.Sorted.{empty_entries, none_like, all_each}
 use Rattle.opa_cells.proofs.Walked.{sorted_keys, rows_entries, rows_counted, Above, above_all}
@@ -35,6 +35,15 @@ module _ {V : Type 0} where
   row_find [] n = refl
   row_find (r ∷ rs) n = ap (cond (is_at (nat_cmp n) r.0) (Some r.1)) (row_find rs n)
 
+  row_got : (rs : List (ℕ × FinMap instance_cmp V)) (n : ℕ) → get (by_number rs) n ≡ lookup (is_at (nat_cmp n)) rs
+  row_got rs n = get-from_entries nat_cmp_total rs n ∙ sym (row_find rs n)
+
+  -- a row is put into a map by hash
+  pub row_put : (rs rs' : List (ℕ × FinMap instance_cmp V)) (n : ℕ) (row : FinMap instance_cmp V) → ((q : ℕ) → lookup (nat_eq q) rs' ≡ cond (nat_eq n q) (Some row) (lookup (nat_eq q) rs)) → by_number rs' ≡ insert (by_number rs) n row
+  row_put rs rs' n row set = same_map nat_cmp_total exact_unsigned _ _ (λ q.
+      row_got rs' q ∙ rows_set rs rs' n (Some row) set q ∙ ap (λ b. cond b (Some row) (lookup (is_at (nat_cmp q)) rs)) ((eq_by_cmp_equiv nat_cmp_total).symm n q)
+      ∙ ap (cond (eq_by_cmp nat_cmp q n) (Some row)) (sym (row_got rs q)) ∙ sym (get-insert nat_cmp_total (by_number rs) n row q))
+
   -- the rows in order of their numbers
   abbrev pub numbered : List (ℕ × FinMap instance_cmp V) → List (ℕ × FinMap instance_cmp V)
   numbered rs = entries (from_entries {R = nat_cmp} rs)
@@ -42,6 +51,10 @@ module _ {V : Type 0} where
   same_numbered : (rs : List (ℕ × FinMap instance_cmp V)) → with_rows (numbered rs) ≡ with_rows rs
   same_numbered rs = same_rows rs (numbered rs) (λ n i. ap (option_and_then (λ (row : FinMap instance_cmp V). get row i))
       (row_find (numbered rs) n ∙ sym (get-entries (from_entries {R = nat_cmp} rs) n) ∙ get-from_entries nat_cmp_total rs n ∙ sym (row_find rs n)))
+
+  -- rows are the same if they are as maps of their numbers
+  pub rows_copied : (rs rs' : List (ℕ × FinMap instance_cmp V)) → by_number rs' ≡ by_number rs → with_rows rs' ≡ with_rows rs
+  rows_copied rs rs' same = sym (same_numbered rs') ∙ ap (λ (m : FinMap nat_cmp (FinMap instance_cmp V)). with_rows (entries m)) same ∙ same_numbered rs
 
   pub numbered_entries : (rs : List (ℕ × FinMap instance_cmp V)) → all_entries (numbered rs) ≡ entries (with_rows rs)
   numbered_entries rs = sym (rows_entries (numbered rs) (sorted_keys nat_cmp (from_entries {R = nat_cmp} rs))) ∙ ap entries (same_numbered rs)

@@ -89,6 +89,10 @@ abbrev pub insert_each : {K V : Type 0} {R : K → K → Ordering} → FinMap R 
 insert_each m [] = m
 insert_each m (e ∷ es) = insert_each (insert m e.0 e.1) es
 
+-- rows as a map of their numbers
+abbrev pub by_number : {V : Type 0} → List (ℕ × FinMap instance_cmp V) → FinMap nat_cmp (FinMap instance_cmp V)
+by_number rs = from_entries rs
+
 -- the entry of the lesser instance
 abbrev pub lesser : {V : Type 0} → Option (InstanceId × V) → InstanceId × V → Option (InstanceId × V)
 lesser None e = Some e

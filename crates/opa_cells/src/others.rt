@@ -6,6 +6,7 @@ ghost use Rattle.opa_cells.specs.Instances.{instance_cmp};
 ghost use Rattle.opa_cells.specs.Rows.{kept_if, insert_each, tree_map, least, lesser, seen_in};
 ghost use Rattle.opa_cells.specs.declared.instance.InstanceId.{InstanceId as InstanceView};
 
+use crate::cells::Copies;
 use crate::instance::InstanceId;
 use crate::keeps::Keeps;
 use opa_io::NoMemory;
@@ -82,6 +83,49 @@ impl<V: Drop> Others<V> {
         self.cells
             .retain(|inst, value| keeper.keeps(number, inst, value));
     }
+}
+
+impl<V: Drop> Others<V> {
+    /// Equal cells. They are copied as they are found, since a hash needs no order.
+    pub(crate) fn copy<C: Copies<V>>(
+        &self,
+        alloc: Global,
+        copier: &C,
+    ) -> Result<Others<V>, NoMemory>
+        ensures { IfOk result (λ others. others ≡ self.now) }
+    {
+        let cells = self.cells.len();
+        let mut copied = with_room(alloc, cells)?;
+        copy_each(alloc, &mut copied, &self.cells, copier)?;
+        Ok(copied)
+    }
+}
+
+/// No cells, and room for some.
+fn with_room<V>(alloc: Global, cells: usize) -> Result<Others<V>, NoMemory>
+    ensures { IfOk result (λ others. others ≡ map.empty) }
+{
+    match HashMap::with_capacity(alloc, cells) {
+        Ok(cells) => Ok(Others { cells }),
+        Err(_) => Err(NoMemory),
+    }
+}
+
+/// Inserts copies of cells, one after another.
+fn copy_each<V: Drop, C: Copies<V>>(
+    alloc: Global,
+    copied: &mut Others<V>,
+    cells: &HashMap<InstanceId, V>,
+    copier: &C,
+) -> Result<(), NoMemory>
+    ensures { OnOk result (copied.new ≡ insert_each copied.old cells.now.entries) }
+{
+    for (inst, value) in cells {
+        let key = inst.copy(alloc)?;
+        let value = copier.copy(alloc, value)?;
+        copied.insert(key, value)?;
+    }
+    Ok(())
 }
 
 impl<V> Others<V> {

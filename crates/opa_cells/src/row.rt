@@ -5,6 +5,7 @@ ghost use Rattle.std.specs.FinMap as map;
 ghost use Rattle.opa_cells.specs.Rows.{kept_if, holds, without, one_kept, seen_in};
 ghost use Rattle.opa_cells.specs.declared.instance.InstanceId.{InstanceId as InstanceView};
 
+use crate::cells::Copies;
 use crate::instance::InstanceId;
 use crate::keeps::Keeps;
 use crate::others::{Others, lesser_of};
@@ -161,6 +162,35 @@ fn kept<V: Drop, K: Keeps<V>>(
             }
         }
         None => None,
+    }
+}
+
+impl<V: Drop> Row<V> {
+    /// An equal row.
+    pub(crate) fn copy<C: Copies<V>>(&self, alloc: Global, copier: &C) -> Result<Row<V>, NoMemory>
+        ensures { IfOk result (λ row. row ≡ self.now) }
+    {
+        let one = copy_one(alloc, &self.one, copier)?;
+        let others = self.others.copy(alloc, copier)?;
+        Ok(Row { one, others })
+    }
+}
+
+/// An equal cell, if there is one.
+fn copy_one<V: Drop, C: Copies<V>>(
+    alloc: Global,
+    one: &Option<(InstanceId, V)>,
+    copier: &C,
+) -> Result<Option<(InstanceId, V)>, NoMemory>
+    ensures { IfOk result (λ copied. copied ≡ one.now) }
+{
+    match one {
+        Some((inst, value)) => {
+            let key = inst.copy(alloc)?;
+            let value = copier.copy(alloc, value)?;
+            Ok(Some((key, value)))
+        }
+        None => Ok(None),
     }
 }
 
