@@ -6,6 +6,5 @@ pub mod Lends
 pub mod Walked
 pub mod Copied
 pub mod Counted
-pub mod Fronts
 pub mod Numbered
 pub mod Ones

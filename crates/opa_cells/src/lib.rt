@@ -2,7 +2,6 @@
 #![tactic(auto)]
 
 mod cells;
-mod first;
 mod instance;
 mod keeps;
 mod lent;

@@ -1,9 +1,9 @@
 // Cells of one number, found by hash.
-ghost use Rattle.std.specs.Prelude.{◌≡◌, ◌<◌, ◌^◌, map as items, slice_get, IfOk, OnOk, OnErr, is_some, not, Some, None};
-ghost use Rattle.std.specs.Option.{option_copied, option_map};
+ghost use Rattle.std.specs.Prelude.{◌≡◌, ◌<◌, ◌^◌, map as items, IfOk, OnOk, OnErr, is_some, not};
+ghost use Rattle.std.specs.Option.{option_copied};
 ghost use Rattle.std.specs.FinMap as map;
 ghost use Rattle.opa_cells.specs.Instances.{instance_cmp};
-ghost use Rattle.opa_cells.specs.Rows.{kept_if, insert_each, tree_map, least, lesser, seen_in};
+ghost use Rattle.opa_cells.specs.Rows.{kept_if, insert_each, tree_map, seen_in};
 ghost use Rattle.opa_cells.specs.declared.instance.InstanceId.{InstanceId as InstanceView};
 
 use crate::cells::Copies;
@@ -139,14 +139,6 @@ impl<V> Others<V> {
         let _count = tree.len();
         Ok(tree)
     }
-
-    /// The cell of the least instance. None where there is no cell. It takes no memory.
-    pub(crate) fn first(&self) -> Option<(&InstanceId, &V)>
-        ensures { option_map seen_in result ≡ slice_get (map.entries self.now) 0 }
-    {
-        let _cells = self.cells.len();
-        least_of(&self.cells)
-    }
 }
 
 fn add_each<'a, V>(
@@ -159,33 +151,4 @@ fn add_each<'a, V>(
         tree.insert(inst, value)?;
     }
     Ok(())
-}
-
-fn least_of<V>(cells: &HashMap<InstanceId, V>) -> Option<(&InstanceId, &V)>
-    ensures { option_map seen_in result ≡ least None cells.now.entries }
-{
-    let mut least = None;
-    for (inst, value) in cells {
-        least = lesser_of(least, inst, value);
-    }
-    least
-}
-
-pub(crate) fn lesser_of<'a, V>(
-    first: Option<(&'a InstanceId, &'a V)>,
-    inst: &'a InstanceId,
-    value: &'a V,
-) -> Option<(&'a InstanceId, &'a V)>
-    ensures { option_map seen_in result ≡ lesser (option_map seen_in first.entry) (inst.now, value.now) }
-{
-    match first {
-        Some((least, at)) => {
-            if inst.cmp(least).is_gt() {
-                Some((least, at))
-            } else {
-                Some((inst, value))
-            }
-        }
-        None => Some((inst, value)),
-    }
 }

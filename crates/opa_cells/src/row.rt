@@ -1,5 +1,5 @@
 // The cells of one number: one of them at hand, and the others.
-ghost use Rattle.std.specs.Prelude.{◌≡◌, map as items, slice_get, IfOk, OnOk, OnErr, is_some, not};
+ghost use Rattle.std.specs.Prelude.{◌≡◌, map as items, IfOk, OnOk, OnErr, is_some, not};
 ghost use Rattle.std.specs.Option.{option_copied, option_map};
 ghost use Rattle.std.specs.FinMap as map;
 ghost use Rattle.opa_cells.specs.Rows.{kept_if, holds, without, one_kept, seen_in};
@@ -8,7 +8,7 @@ ghost use Rattle.opa_cells.specs.declared.instance.InstanceId.{InstanceId as Ins
 use crate::cells::Copies;
 use crate::instance::InstanceId;
 use crate::keeps::Keeps;
-use crate::others::{Others, lesser_of};
+use crate::others::Others;
 use opa_io::NoMemory;
 use std::alloc::Global;
 use std::collections::BTreeMap;
@@ -206,16 +206,6 @@ impl<V> Row<V> {
                 tree.insert(inst, value)?;
                 Ok(tree)
             }
-        }
-    }
-
-    /// The cell of the least instance. None where there is no cell. It takes no memory.
-    pub(crate) fn first(&self) -> Option<(&InstanceId, &V)>
-        ensures { option_map seen_in result ≡ slice_get (map.entries self.now) 0 }
-    {
-        match &self.one {
-            None => self.others.first(),
-            Some((inst, value)) => lesser_of(self.others.first(), inst, value),
         }
     }
 }
