@@ -8,6 +8,7 @@ mod lent;
 mod others;
 mod row;
 mod rows;
+mod unordered;
 
 pub use cells::{Cells, Copies};
 pub use instance::InstanceId;
