@@ -8,3 +8,4 @@ pub mod Copied
 pub mod Counted
 pub mod Numbered
 pub mod Ones
+pub mod Fronted
