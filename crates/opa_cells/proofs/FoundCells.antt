@@ -1,6 +1,6 @@
 -- Cells that are gone through as they are found: each is then among those that were found.
-use Rattle.std.specs.Prelude.{◌≡◌, ℕ, Bool, true, false, cond, List, [], ◌∷◌, ◌++◌, Option, None, Some, Contains, refl}
-use Rattle.std.specs.Option.{option_and_then, option_map}
+use Rattle.std.specs.Prelude.{◌≡◌, ℕ, Bool, true, false, cond, List, [], ◌∷◌, ◌++◌, Option, None, Some, Contains, nat_eq, refl}
+use Rattle.std.specs.Option.{option_and_then}
 use Rattle.std.specs.Map.{lookup}
 use Rattle.std.specs.Ordering.{nat_cmp, eq_by_cmp}
 use Rattle.std.specs.FinMap.{FinMap, get, find, from_entries, get-from_entries}
@@ -8,12 +8,14 @@ use Rattle.std.specs.BTreeMap.{is_at}
 use Rattle.std.proofs.Common.{◌⊎◌, inl, inr, zero, suc, arith, ap, sym, subst, ◌∙◌}
 use Rattle.std.proofs.lemmas.List.Elements.{Contains-append_left, Contains-append_right}
 use Rattle.std.proofs.lemmas.Map.Lookups.{exact_unsigned}
-use Rattle.std.proofs.lemmas.Map.Views.{tells_apart}
+use Rattle.std.proofs.lemmas.Map.Views.{tells_apart, exact_unsigned_eq}
 use Rattle.opa_cells.specs.declared.instance.InstanceId.{InstanceId}
 use Rattle.opa_cells.specs.Instances.{instance_cmp, is_same}
-use Rattle.opa_cells.specs.Rows.{row_entries, with_one, holds, with_rows}
-use Rattle.opa_cells.specs.Unordered.{AddsCells, AddsRow, AddsRows, HasCells, HasRow, Keeps}
+use Rattle.opa_cells.specs.Keys.{cell_cmp}
+use Rattle.opa_cells.specs.Rows.{row_entries, with_one, with_row, with_rows}
+use Rattle.opa_cells.specs.Unordered.{AddsCells, AddsRow, AddsRows, HasRow, Keeps}
 use Rattle.opa_cells.proofs.Orders.{instance_exact, instance_total, same_is}
+use Rattle.opa_cells.proofs.Fronted.{front_got}
 use Rattle.opa_cells.proofs.Ones.{one_got}
 use Rattle.opa_cells.proofs.Rowed.{get-rows}
 
@@ -73,9 +75,6 @@ module _ {V : Type 0} where
           subst (λ (x : InstanceId). Contains {X = Entry V} new ((n, x), v)) (sym (same_is i e.0 s)) (subst (λ (x : V). Contains {X = Entry V} new ((n, e.0), x)) val one)
       go i v false s h = stays ((n, i), v) (others.added i v h)
 
-  pub none_added : (n : ℕ) (m row : FinMap instance_cmp V) (old new : List (Entry V)) → m ≡ row → AddsRow n m old new → AddsRow n row old new
-  none_added n m row old new is adds = subst (λ x. AddsRow n x old new) is adds
-
   -- rows, one after another: each is added, or still to come
   pub record AreRows (rs rest : List (ℕ × FinMap instance_cmp V)) (old new : List (Entry V)) : Type 0 where
     pub kept : Keeps old new
@@ -116,7 +115,7 @@ module _ {V : Type 0} where
       go false q g rest = in_tail {X = ℕ × FinMap instance_cmp V} r (n, row) rs (rest g)
 
   -- all rows are all cells
-  pub rows_added : (rs : List (ℕ × FinMap instance_cmp V)) (m : FinMap _ V) (old new : List (Entry V)) → with_rows rs ≡ m → AddsRows rs old new → AddsCells m old new
+  pub rows_added : (rs : List (ℕ × FinMap instance_cmp V)) (m : FinMap cell_cmp V) (old new : List (Entry V)) → with_rows rs ≡ m → AddsRows rs old new → AddsCells m old new
   rows_added rs m old new is rows = record {
     kept = rows.kept;
     added = λ k v h. go k v (lookup (is_at (nat_cmp k.0)) rs) refl (sym (get-rows rs k.0 k.1) ∙ ap (λ x. get x (k.0, k.1)) is ∙ h);
@@ -125,3 +124,14 @@ module _ {V : Type 0} where
       go : (k : ℕ × InstanceId) (v : V) (o : Option (FinMap instance_cmp V)) → lookup (is_at (nat_cmp k.0)) rs ≡ o → option_and_then (λ row. get row k.1) o ≡ Some v → Contains {X = Entry V} new (k, v)
       go k v None e h = absurd (cc h)
       go k v (Some row) e h = rows.added (k.0, row) (row_in k.0 rs row e) k.1 v h
+
+  -- and the row in front of them
+  pub front_added : (n : ℕ) (row : FinMap instance_cmp V) (m w : FinMap cell_cmp V) (old mid new : List (Entry V)) → with_row n row m ≡ w → AddsCells m old mid → AddsRow n row mid new → AddsCells w old new
+  front_added n row m w old mid new is behind front = record {
+    kept = λ e h. front.kept e (behind.kept e h);
+    added = λ k v h. go k v (nat_eq k.0 n) refl (sym (front_got n row m k.0 k.1) ∙ ap (λ x. get x (k.0, k.1)) is ∙ h);
+  }
+    where
+      go : (k : ℕ × InstanceId) (v : V) (b : Bool) → nat_eq k.0 n ≡ b → cond b (get row k.1) (get m (k.0, k.1)) ≡ Some v → Contains {X = Entry V} new (k, v)
+      go k v true e h = subst (λ (x : ℕ). Contains {X = Entry V} new ((x, k.1), v)) (sym (exact_unsigned_eq k.0 n e)) (front.added k.1 v h)
+      go k v false e h = front.kept (k, v) (behind.added k v h)

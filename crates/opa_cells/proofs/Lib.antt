@@ -9,3 +9,4 @@ pub mod Counted
 pub mod Numbered
 pub mod Ones
 pub mod FoundCells
+pub mod Fronted

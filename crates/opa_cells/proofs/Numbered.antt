@@ -1,20 +1,21 @@
 -- Rows that are found by the hash of their number: the same in order, and how many cells they have.
-use Rattle.std.specs.Prelude.{◌≡◌, ◌+◌, ℕ, cond, List, [], ◌∷◌, Option, None, Some, nat_eq, refl}
+use Rattle.std.specs.Prelude.{◌≡◌, ◌+◌, ℕ, Bool, true, false, cond, List, [], ◌∷◌, Option, None, Some, nat_eq, refl}
 use Rattle.std.specs.Option.{option_and_then}
 use Rattle.std.specs.List.{IsDistinct}
 use Rattle.std.specs.Map.{lookup, keys_of}
 use Rattle.std.specs.Ordering.{nat_cmp, is_eq, eq_by_cmp}
 use Rattle.std.specs.declared.cmp.Ordering.TheVariants.{Less, Equal, Greater}
-use Rattle.std.specs.Cmp.{nat_cmp_total, eq_by_cmp_equiv, unsigned_ties}
+use Rattle.std.specs.Cmp.{nat_cmp_total, nat_eq_equiv, eq_by_cmp_equiv, unsigned_ties}
 use Rattle.std.specs.FinMap.{FinMap, get, insert, empty, entries, from_entries, find, put, len, same_map, get-insert, get-entries, get-from_entries, entries-insert}
 use Rattle.std.specs.FinMap.Entries.{by_order}
 use Rattle.std.specs.BTreeMap.{is_at}
 use Rattle.std.proofs.Common.{arith, ap, sym, subst, ◌∙◌}
 use Rattle.std.proofs.lemmas.Map.Keys.{IsDistinct-tail}
 use Rattle.std.proofs.lemmas.Map.Lookups.{exact_unsigned}
+use Rattle.opa_cells.specs.declared.instance.InstanceId.{InstanceId}
 use Rattle.opa_cells.specs.Instances.{instance_cmp}
 use Rattle.opa_cells.specs.Rows.{with_rows, all_entries, cells_in, insert_each, by_number}
-use Rattle.opa_cells.proofs.Rowed.{same_rows}
+use Rattle.opa_cells.proofs.Rowed.{same_rows, get-rows}
 use Rattle.opa_cells.proofs.Sorted.{empty_entries, none_like, all_each}
 use Rattle.opa_cells.proofs.Walked.{sorted_keys, rows_entries, rows_counted}
 
@@ -83,3 +84,15 @@ module _ {V : Type 0} where
   pub rows_len : (rs : List (ℕ × FinMap instance_cmp V)) → IsDistinct nat_eq (keys_of rs) → len (with_rows rs) ≡ cells_in rs
   rows_len rs d =
       ap len (sym (same_numbered rs)) ∙ rows_counted (numbered rs) (sorted_keys nat_cmp (from_entries {R = nat_cmp} rs)) ∙ numbered_counted rs (rows_distinct rs d)
+
+  either_way : (b : Bool) (i : InstanceId) (o : Option (FinMap instance_cmp V)) → option_and_then (λ (r : FinMap instance_cmp V). get r i) (cond b None o) ≡ cond b None (option_and_then (λ (r : FinMap instance_cmp V). get r i) o)
+  either_way true i o = refl
+  either_way false i o = refl
+
+  -- rows without that of a number
+  pub row_taken : (rs rs' : List (ℕ × FinMap instance_cmp V)) (n : ℕ) → ((q : ℕ) → lookup (nat_eq q) rs' ≡ cond (nat_eq n q) None (lookup (nat_eq q) rs))
+      → (q : ℕ) (i : InstanceId) → get (with_rows rs') (q, i) ≡ cond (nat_eq q n) None (get (with_rows rs) (q, i))
+  row_taken rs rs' n set q i =
+      get-rows rs' q i ∙ ap (option_and_then (λ (r : FinMap instance_cmp V). get r i)) (sym (row_found rs' q) ∙ set q) ∙ either_way (nat_eq n q) i (lookup (nat_eq q) rs)
+      ∙ ap (λ b. cond b None (option_and_then (λ (r : FinMap instance_cmp V). get r i) (lookup (nat_eq q) rs))) (nat_eq_equiv.symm n q)
+      ∙ ap (cond (nat_eq q n) None) (ap (option_and_then (λ (r : FinMap instance_cmp V). get r i)) (row_found rs q) ∙ sym (get-rows rs q i))

@@ -55,7 +55,7 @@ module _ {V : Type 0} where
       ∙ elim (is_same q i) as (λ b. cond b (Some v) (cond b None (get m q)) ≡ cond b (Some v) (get m q)) [ true ↦ refl | false ↦ refl ]
       ∙ sym (get-insert instance_total m i v q))
 
-  apart : (x y : Bool) (v w r : Option V) → (x ≡ true → y ≡ false) → cond x v (cond y w r) ≡ cond y w (cond x v r)
+  pub apart : (x y : Bool) (v w r : Option V) → (x ≡ true → y ≡ false) → cond x v (cond y w r) ≡ cond y w (cond x v r)
   apart true true v w r f = absurd (cc (f refl))
   apart true false v w r f = refl
   apart false y v w r f = refl

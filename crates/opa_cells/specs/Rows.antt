@@ -20,10 +20,14 @@ module _ {V : Type 0} where
   with_cells n [] m = m
   with_cells n (e ∷ es) m = insert (with_cells n es m) (n, e.0) e.1
 
+  -- a map with a row in the place of what it has at a number
+  abbrev pub with_row : ℕ → FinMap instance_cmp V → FinMap cell_cmp V → FinMap cell_cmp V
+  with_row n row m = with_cells n (entries row) (retain_keys m (λ k. not (k.0 == n)))
+
   -- the first row of a number counts alone
   abbrev pub with_rows : List (ℕ × FinMap instance_cmp V) → FinMap cell_cmp V
   with_rows [] = empty
-  with_rows (r ∷ rs) = with_cells r.0 (entries r.1) (retain_keys (with_rows rs) (λ k. not (k.0 == r.0)))
+  with_rows (r ∷ rs) = with_row r.0 r.1 (with_rows rs)
 
   -- what entries have at an instance
   abbrev pub cell : List (InstanceId × V) → InstanceId → Option V

@@ -5,9 +5,9 @@ ghost use Rattle.std.specs.FinMap as map;
 ghost use Rattle.opa_cells.specs.Rows.{kept_if, cells_at, seen};
 ghost use Rattle.opa_cells.specs.declared.instance.InstanceId.{InstanceId as InstanceView};
 
+use crate::grid::Grid;
 use crate::instance::InstanceId;
 use crate::keeps::Keeps;
-use crate::rows::Rows;
 use opa_io::NoMemory;
 use std::alloc::Global;
 use std::marker::Model;
@@ -15,7 +15,7 @@ use std::marker::Model;
 /// A finite map from pairs of a number and an instance. Look-ups take no walk over it.
 #[derive(Drop)]
 pub struct Cells<V> {
-    pub(crate) rows: Rows<V>,
+    pub(crate) rows: Grid<V>,
     count: u64,
 }
 
@@ -38,7 +38,7 @@ impl<V> Cells<V> {
         ensures { result ≡ map.empty }
     {
         Cells {
-            rows: Rows::new(alloc),
+            rows: Grid::new(alloc),
             count: 0,
         }
     }
@@ -97,8 +97,8 @@ impl<V: Drop> Cells<V> {
             (map.get self.old (n, i)) }
     {
         let _before = self.len();
-        self.rows.retain(keeper);
-        self.count = self.rows.counted();
+        let count = self.rows.retain(keeper);
+        self.count = count;
     }
 }
 

@@ -2,6 +2,7 @@
 #![tactic(auto)]
 
 mod cells;
+mod grid;
 mod instance;
 mod keeps;
 mod lent;

@@ -1,5 +1,5 @@
 // The cells of one number: one of them at hand, and the others.
-ghost use Rattle.std.specs.Prelude.{◌≡◌, map as items, IfOk, OnOk, OnErr, is_some, not};
+ghost use Rattle.std.specs.Prelude.{◌≡◌, map as items, IfOk, OnOk, OnErr, is_some, not, true};
 ghost use Rattle.std.specs.Option.{option_copied, option_map};
 ghost use Rattle.std.specs.FinMap as map;
 ghost use Rattle.opa_cells.specs.Rows.{kept_if, holds, without, one_kept, seen_in};
@@ -50,6 +50,16 @@ impl<V> Row<V> {
             held(&self.one)
         } else {
             self.others.get(inst)
+        }
+    }
+
+    /// Whether there are no cells.
+    pub(crate) fn is_empty(&self) -> bool
+        ensures { result ≡ true → self.now ≡ map.empty }
+    {
+        match &self.one {
+            Some(_) => false,
+            None => self.others.len() == 0,
         }
     }
 

@@ -4,6 +4,7 @@ ghost use Rattle.opa_cells.specs.Rows.{row_entries, seen};
 ghost use Rattle.opa_cells.specs.Unordered.{AddsCells, AddsRow, AddsRows, HasCells};
 
 use crate::cells::Cells;
+use crate::grid::Grid;
 use crate::instance::InstanceId;
 use crate::others::Others;
 use crate::row::Row;
@@ -23,9 +24,23 @@ impl<V> Cells<V> {
     }
 }
 
+impl<V> Grid<V> {
+    /// Adds the cells.
+    fn add_found<'a>(
+        &'a self,
+        cells: &mut Vec<(u32, &'a InstanceId, &'a V)>,
+    ) -> Result<(), NoMemory>
+        ensures { OnOk result (AddsCells self.entry.now (items seen cells.old.items) (items seen cells.new.items)) }
+    {
+        self.rows.add_found(cells)?;
+        self.row.add_found(self.number, cells)?;
+        Ok(())
+    }
+}
+
 impl<V> Rows<V> {
     /// Adds the cells.
-    pub(crate) fn add_found<'a>(
+    fn add_found<'a>(
         &'a self,
         cells: &mut Vec<(u32, &'a InstanceId, &'a V)>,
     ) -> Result<(), NoMemory>
@@ -50,7 +65,7 @@ fn add_rows<'a, V>(
 
 impl<V> Row<V> {
     /// Adds the cells of a number.
-    pub(crate) fn add_found<'a>(
+    fn add_found<'a>(
         &'a self,
         number: u32,
         cells: &mut Vec<(u32, &'a InstanceId, &'a V)>,

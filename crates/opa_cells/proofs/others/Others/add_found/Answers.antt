@@ -1,5 +1,4 @@
 use Rattle.std.specs.Prelude.{map as items}
-use Rattle.std.proofs.lemmas.Result.{on_ok_weaker}
 use Rattle.opa_cells.specs.Rows.{seen}
 use Rattle.opa_cells.proofs.FoundCells.{others_added}
 use Rattle.opa_cells.proofs.others.Others.add_found.Goals as goal
