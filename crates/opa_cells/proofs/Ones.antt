@@ -1,5 +1,5 @@
 -- A row as one cell and the others.
-use Rattle.std.specs.Prelude.{◌≡◌, ◌+◌, Bool, true, false, cond, List, Option, None, Some, is_some, not, slice_get, map, refl}
+use Rattle.std.specs.Prelude.{◌≡◌, ◌+◌, Bool, true, false, cond, List, Option, None, Some, is_some, not, map, refl}
 use denote.Ref.{Bor}
 use Rattle.std.specs.Option.{option_map, option_copied}
 use Rattle.std.specs.FinMap.{FinMap, get, insert, remove, entries, len, same_map, put, get-insert, get-remove, len-insert, entries-insert}
@@ -8,9 +8,9 @@ use Rattle.std.proofs.Common.{ap, sym, ◌∙◌}
 use mathlib.Core.Bool.{true≢false}
 use Rattle.opa_cells.specs.declared.instance.InstanceId.{InstanceId}
 use Rattle.opa_cells.specs.Instances.{instance_cmp, is_same}
-use Rattle.opa_cells.specs.Rows.{kept_if, with_one, holds, without, one_kept, lesser, seen_in}
+use Rattle.opa_cells.specs.Rows.{kept_if, with_one, holds, without, one_kept, seen_in}
 use Rattle.opa_cells.proofs.Orders.{instance_exact, instance_total, same_is}
-use Rattle.opa_cells.proofs.Sorted.{put_lesser, put_seen, seen_cmp}
+use Rattle.opa_cells.proofs.Sorted.{put_seen, seen_cmp}
 
 not_both : (e i q : InstanceId) → is_same i e ≡ false → is_same q e ≡ true → is_same q i ≡ false
 not_both e i q h a = elim (is_same q i) as (λ b. is_same q i ≡ b → b ≡ false) [
@@ -55,7 +55,7 @@ module _ {V : Type 0} where
       ∙ elim (is_same q i) as (λ b. cond b (Some v) (cond b None (get m q)) ≡ cond b (Some v) (get m q)) [ true ↦ refl | false ↦ refl ]
       ∙ sym (get-insert instance_total m i v q))
 
-  apart : (x y : Bool) (v w r : Option V) → (x ≡ true → y ≡ false) → cond x v (cond y w r) ≡ cond y w (cond x v r)
+  pub apart : (x y : Bool) (v w r : Option V) → (x ≡ true → y ≡ false) → cond x v (cond y w r) ≡ cond y w (cond x v r)
   apart true true v w r f = absurd (cc (f refl))
   apart true false v w r f = refl
   apart false y v w r f = refl
@@ -100,9 +100,6 @@ module _ {V : Type 0} where
         ]
       ] refl
       ∙ ap (kept_if (keep i)) (sym (get-insert instance_total m e.0 e.1 i))
-
-  pub first_one : (e : InstanceId × V) (m : FinMap instance_cmp V) → lesser (slice_get (entries m) 0) e ≡ slice_get (entries (insert m e.0 e.1)) 0
-  first_one e m = put_lesser (entries m) e ∙ ap (λ es. slice_get es 0) (sym (entries-insert instance_total m e.0 e.1))
 
   pub tree_one : (ts ts' : List (Bor InstanceId × Bor V)) (i : Bor InstanceId) (v : Bor V) (m : FinMap instance_cmp V) → ts' ≡ insert_entry (seen_cmp instance_cmp) ts i v → map seen_in ts ≡ entries m → map seen_in ts' ≡ entries (insert m i.now v.now)
   tree_one ts ts' i v m is all = ap (map seen_in) is ∙ put_seen instance_cmp i v ts ∙ ap (put instance_cmp i.now v.now) all ∙ sym (entries-insert instance_total m i.now v.now)
