@@ -1,6 +1,7 @@
 // What is made of lines at each day: nothing is looked at day by day.
 
 mod choice;
+mod counts;
 mod gathering;
 mod items;
 mod lines;
@@ -10,6 +11,7 @@ mod operations;
 mod peaks;
 mod steady;
 mod sums;
+mod sweep;
 mod tally;
 mod windows;
 

@@ -15,6 +15,7 @@ use Rattle.opa_tree.specs.declared.kinds.Quant.TheVariants as quant
 use Rattle.opa_window.specs.Days.{day_value}
 use Rattle.opa_code.specs.OverLines.Additions.{Alike, Gathered, HasRoom, IsAdded, KeepsFirst}
 use Rattle.opa_code.specs.OverLines.Lines.{values_at}
+use Rattle.opa_code.specs.OverLines.Sweeps.{AreBeside}
 use Rattle.opa_code.specs.OverLines.Tallies.{IsTally, IsBoth, IsCounted, AreConstant, AreSmall, told, gather_of, is_most}
 use Rattle.opa_code.specs.declared.over_lines.gathering.Gathering.{Gathering}
 use Rattle.opa_code.specs.declared.over_lines.items.Items.{Items}
@@ -194,3 +195,11 @@ module _ {F E : Type 0} (g : Shared F (Bor Tally × (Bor Value × Unit {0})) (Re
       let v : j.second.now ≡ first_value (values d) = ap (value_or Unknown) (sym j.right) ∙ s d lt in
       let t : IsTally (is_most how) (values d) j.first.now = subst (IsTally (is_most how) (values d)) (some_same k.0 j.first.now (sym k.2 ∙ j.left)) k.1 in
       e.2 ∙ ap Some (means j.first j.second e.0 j.says ∙ ap (told how j.first.now) v ∙ told_is how (values d) j.first.now t)
+
+-- the lines that are kept have their values beside those that were counted
+pub gathered_beside : (values : ℕ → List Value) (held : Items) (lines : Lines) → lines ≡ held.dated → Gathered values held → AreBeside held.gathering held.constant lines values
+gathered_beside values held lines same h = record {
+  others = h.constants;
+  tallied = h.tallied;
+  alike = λ d lt. subst (λ ls. Alike (h.constants ++ values_at ls d) (values d)) (sym same) (h.alike d lt);
+}

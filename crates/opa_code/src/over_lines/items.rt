@@ -11,9 +11,10 @@ ghost use Rattle.opa_code.specs.OverLines.Lines.{values_at};
 ghost use Rattle.opa_code.specs.OverLines.Tallies as tallies;
 
 use crate::over_lines::gathering::Gathering;
-use crate::over_lines::lines::{is_most, item_over, tallied};
+use crate::over_lines::lines::{is_best, is_most, item_over, tallied};
 use crate::over_lines::operand::{Operand, first_of};
 use crate::over_lines::steady::{constant_of, counted, told_first};
+use crate::over_lines::sweep::swept_over;
 use crate::over_lines::tally::Tally;
 use opa_io::{List, NoMemory};
 use opa_line::Line;
@@ -98,6 +99,22 @@ impl<'a> Items<'a> {
     }
 
     fn told_by_day(&self, alloc: Global) -> Result<Line<Value>, NoMemory>
+        requires { HasRoom self.now }
+        ensures { IfOk result (λ line. (values : ℕ → Seq Meant) → Gathered values self.now → StandsFor DAYS (λ d. tallies.gather_of self.now.gathering (values d)) line) }
+    {
+        if is_best(self.gathering) {
+            self.best_by_day(alloc)
+        } else {
+            swept_over(
+                alloc,
+                self.gathering,
+                &self.constant,
+                self.dated.as_slice(),
+            )
+        }
+    }
+
+    fn best_by_day(&self, alloc: Global) -> Result<Line<Value>, NoMemory>
         requires { HasRoom self.now }
         ensures { IfOk result (λ line. (values : ℕ → Seq Meant) → Gathered values self.now → StandsFor DAYS (λ d. tallies.gather_of self.now.gathering (values d)) line) }
     {

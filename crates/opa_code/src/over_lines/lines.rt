@@ -10,6 +10,7 @@ ghost use Rattle.opa_window.specs.Days.{day_value};
 ghost use Rattle.opa_mean.specs.Meaning as meant;
 ghost use Rattle.opa_mean.specs.Operations.{op_of};
 ghost use Rattle.opa_code.specs.OverLines.Lines.{Has, values_at};
+ghost use Rattle.opa_code.specs.OverLines.Sweeps.{is_best as best_of};
 ghost use Rattle.opa_code.specs.OverLines.Tallies.{IsOne, IsTally, gather_of, is_most as most_of};
 
 use crate::over_lines::choice::Choice;
@@ -18,6 +19,7 @@ use crate::over_lines::operand::{Operand, first_of, only, seen_each};
 use crate::over_lines::operations::{strict_one, strict_two};
 use crate::over_lines::steady::{constant_tally, told_first, truth_of};
 use crate::over_lines::sums::amount;
+use crate::over_lines::sweep::swept_over;
 use crate::over_lines::tally::Tally;
 use opa_io::NoMemory;
 use opa_line::Line;
@@ -217,6 +219,21 @@ fn gathered_by_day(
 ) -> Result<Line<Value>, NoMemory>
     ensures { IfOk result (StandsFor DAYS (λ d. gather_of gathering (values_at operands.now d))) }
 {
+    if is_best(gathering) {
+        best_by_day(alloc, gathering, operands)
+    } else {
+        let none = Tally::none();
+        swept_over(alloc, gathering, &none, operands)
+    }
+}
+
+fn best_by_day(
+    alloc: Global,
+    gathering: Gathering,
+    operands: &[Operand<'_>],
+) -> Result<Line<Value>, NoMemory>
+    ensures { IfOk result (StandsFor DAYS (λ d. gather_of gathering (values_at operands.now d))) }
+{
     let none = Line::constant(alloc, Value::Uncertain)?;
     let first = first_of(operands, &none);
     let tallies = tallied(alloc, is_most(gathering), operands)?;
@@ -324,4 +341,11 @@ pub(crate) fn is_most(gathering: Gathering) -> bool
         Gathering::Best(most) => most,
         _ => true,
     }
+}
+
+/// Whether it is the greatest or the least.
+pub(crate) fn is_best(gathering: Gathering) -> bool
+    ensures { result ≡ best_of gathering }
+{
+    matches!(gathering, Gathering::Best(_))
 }

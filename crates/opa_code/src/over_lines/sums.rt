@@ -60,7 +60,7 @@ fn count_true(value: &Value) -> u64
 }
 
 /// A number's count, and 0 for another value.
-fn count_of(value: &Value) -> i128
+pub(crate) fn count_of(value: &Value) -> i128
     ensures value { result ≡ folds.count_of value.now }
     ensures low { neg_ℤ (pos (10 ^ 17)) ≤ℤ result }
     ensures high { result ≤ℤ pos (10 ^ 17) }
@@ -88,7 +88,7 @@ pub fn amount(count: u64) -> Value
     number_of(ten_thousands(count))
 }
 
-fn ten_thousands(count: u64) -> i128
+pub(crate) fn ten_thousands(count: u64) -> i128
     ensures { result ≡ pos (count * 10000) }
 {
     (u128::from(count) * 10_000) as i128
