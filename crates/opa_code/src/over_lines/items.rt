@@ -105,12 +105,7 @@ impl<'a> Items<'a> {
         if is_best(self.gathering) {
             self.best_by_day(alloc)
         } else {
-            swept_over(
-                alloc,
-                self.gathering,
-                &self.constant,
-                self.dated.as_slice(),
-            )
+            swept_over(alloc, self.gathering, &self.constant, self.dated.as_slice())
         }
     }
 

@@ -1,4 +1,4 @@
-use Rattle.std.proofs.Common.{rules, of_calls, arith}
+use Rattle.std.proofs.Common.{rules, of_calls}
 use Rattle.opa_code.proofs.over_lines.counts.Counts.minus.Goals as goal
 
 pub returns : goal.returns
