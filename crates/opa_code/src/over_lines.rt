@@ -1,5 +1,6 @@
 // What is made of lines at each day: nothing is looked at day by day.
 
+mod bests;
 mod choice;
 mod counts;
 mod gathering;

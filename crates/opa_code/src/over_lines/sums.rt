@@ -5,7 +5,6 @@ ghost use Rattle.opa_window.specs.Folds as folds;
 ghost use Rattle.opa_mean.specs.Meaning as meant;
 ghost use Rattle.opa_code.specs.OverLines.Tallies as tallies;
 
-use opa_io::Same;
 use opa_mean::number_of;
 use opa_value::Value;
 
@@ -13,12 +12,6 @@ use opa_value::Value;
 pub struct Sums {
     pub trues: u64,
     pub total: i128,
-}
-
-impl Same for Sums {
-    fn same(&self, other: &Sums) -> bool {
-        self.trues == other.trues && self.total == other.total
-    }
 }
 
 impl Sums {
