@@ -1,5 +1,10 @@
 pub mod DescribeLaws
 mod FaultLaws
 mod FindLaws
+mod MeaningLaws
 mod NearLaws
+pub mod OpeningLaws
+mod PrintLaws
+mod SameLaws
+mod ShelfLaws
 mod UnknownLaws

@@ -2,3 +2,4 @@ pub mod Asked
 pub mod Promises
 pub mod Describing
 pub mod Faults
+pub mod Printing
