@@ -22,11 +22,11 @@ RULEBASES = sorted(
 )
 PLACE = re.compile(r"rule [^ ]+:\d+$", re.M)
 RULES_OF_WIDE = """the house is full if
-  Exists(the roll, ((the person has work) and ((not (the trade = "cook")) or (the birth <> 2000-01-01)))) or
+  Exists(the roll, ((the person has work) and (((not (the trade = "cook")) or (the birth <> 2000-01-01))))) or
   the house is old
 the rate =
   -1.5 if
-    (the house is old) = true
+    the house is old = true
   the fee * 2 otherwise
 """
 
