@@ -118,10 +118,13 @@ class Print(unittest.TestCase):
         self.assertEqual((done.returncode, done.stdout), (1, "refused: rulebase 3 bad.txt:1\n"))
 
     def test_what_cannot_be_one_file(self) -> None:
-        """A file of 4 MB and one of 6 MB are accepted, and one of both isn't."""
-        names = ["the " + "n" * 990 + f" {n}" for n in range(4000)]
-        self.put("long.txt", 'include "more.txt"\nglobal\n' + "".join(f"  number {each}\n" for each in names))
-        self.put("more.txt", "".join(f"{names[n]} = {names[n + 2000]} + {names[2000]}\n" for n in range(2000)))
+        """Conditions that are on a hundred lines are on one line of a print, which is too long."""
+        fact = f"the {'n' * 980} is old"
+        self.put(
+            "long.txt",
+            f"verb is / is not / is /\nglobal\n  bool the house [is] full\nentity the person\n  in global: the people\n  bool the {'n' * 980} [is] old\n"
+            "the house is full if\n  for all of the people\n" + f"    {fact} and\n" * 99 + f"    {fact}\n",
+        )
         done = ran("print", "long.txt", folder=self.folder)
         self.assertEqual((done.returncode, done.stdout), (6, ""))
 
