@@ -44,4 +44,3 @@ pub mod Overlaid
 pub mod Touching
 pub mod GoingNames
 pub mod SameLists
-pub mod Relisting

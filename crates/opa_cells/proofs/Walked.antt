@@ -135,16 +135,16 @@ module _ {V : Type 0} where
   pub rows_counted : (rs : List (ℕ × FinMap instance_cmp V)) → IsStrictlySortedBy nat_cmp (keys_of rs) → len (with_rows rs) ≡ cells_in rs
   rows_counted rs sorted = len-entries (with_rows rs) ∙ ap length (rows_entries rs sorted) ∙ all_length rs
 
-  -- the cells at a number, if they are those of a row
-  pub counted_at : (m : FinMap cell_cmp V) (n : ℕ) (row : FinMap instance_cmp V) → ((i : InstanceId) → get m (n, i) ≡ get row i) → cells_at m n ≡ len row
-  counted_at m n row at =
+  -- the cells at a number are those of its row
+  pub row_counted : (rs : List (ℕ × FinMap instance_cmp V)) (n : ℕ) (row : FinMap instance_cmp V) → lookup (is_at (nat_cmp n)) rs ≡ Some row → cells_at (with_rows rs) n ≡ len row
+  row_counted rs n row at =
       let alone : FinMap cell_cmp V = with_cells n (entries row) empty in
       let none : Above n (entries (empty {X = V} {R = cell_cmp})) = subst (Above n) (sym empty_entries) tt in
-      ap len (same_map cell_total cell_exact (retain_keys m (λ k. k.0 == n)) alone (λ q.
-      get_kept cell_exact m (λ k. k.0 == n) q
-      ∙ elim (q.0 == n) as (λ b. (q.0 == n) ≡ b → cond b (get m q) None ≡ get alone q) [
+      ap len (same_map cell_total cell_exact (retain_keys (with_rows rs) (λ k. k.0 == n)) alone (λ q.
+      get_kept cell_exact (with_rows rs) (λ k. k.0 == n) q ∙ ap (λ o. cond (q.0 == n) o None) (get-rows rs q.0 q.1)
+      ∙ elim (q.0 == n) as (λ b. (q.0 == n) ≡ b → cond b (in_rows rs q.0 q.1) None ≡ get alone q) [
         | true ↦ λ e. let same = exact_unsigned_eq q.0 n e in
-            ap (λ k. get m (k, q.1)) same ∙ at q.1
+            ap (λ m. in_rows rs m q.1) same ∙ ap (option_and_then (λ (r : FinMap instance_cmp V). get r q.1)) at
             ∙ sym (get-row n row empty q.0 q.1 ∙ ap (λ o. cond (is_eq (nat_cmp q.0 n)) (option_or (get row q.1) o) o) (get-empty cell_cmp q)
             ∙ ap (λ b. cond b (option_or (get row q.1) None) None) (subst (λ m. is_eq (nat_cmp q.0 m) ≡ true) same ((eq_by_cmp_equiv nat_cmp_total).refl q.0)) ∙ or_none (get row q.1))
         | false ↦ λ e. sym (get-row n row empty q.0 q.1 ∙ ap (λ o. cond (is_eq (nat_cmp q.0 n)) (option_or (get row q.1) o) o) (get-empty cell_cmp q)
@@ -161,10 +161,6 @@ module _ {V : Type 0} where
 
       nothing_more : (a : ℕ) → a + 0 ≡ a
       nothing_more a = omega arith
-
-  -- the cells at a number are those of its row
-  pub row_counted : (rs : List (ℕ × FinMap instance_cmp V)) (n : ℕ) (row : FinMap instance_cmp V) → lookup (is_at (nat_cmp n)) rs ≡ Some row → cells_at (with_rows rs) n ≡ len row
-  row_counted rs n row at = counted_at (with_rows rs) n row (λ i. get-rows rs n i ∙ ap (option_and_then (λ (r : FinMap instance_cmp V). get r i)) at)
 
   -- a number without a row has no cells
   pub no_row_counted : (rs : List (ℕ × FinMap instance_cmp V)) (n : ℕ) → lookup (is_at (nat_cmp n)) rs ≡ None → cells_at (with_rows rs) n ≡ 0

@@ -6,7 +6,6 @@ use Rattle.opa_cells.specs.declared.instance.InstanceId.{InstanceId}
 use Rattle.opa_cells.specs.Keys.{cell_cmp}
 use Rattle.opa_cells.specs.contracts.cells.Cells.{the_row as cells_row}
 use Rattle.opa_cells.specs.Instances.{instance_cmp}
-use Rattle.opa_cells.specs.contracts.grid.Grid.{the_row as grid_row}
 use Rattle.opa_cells.specs.contracts.rows.Rows.{the_row as rows_row}
 use Rattle.opa_cells.specs.contracts.row.Row.{the_row as row_row}
 use Rattle.opa_cells.specs.contracts.others.Others.{the_row as others_row}
@@ -15,9 +14,6 @@ use Rattle.opa_cells.specs.contracts.others.Others.{the_row as others_row}
 module _ (V : RattleType) where
   abbrev pub lends_cell : MutBor (FinMap cell_cmp V.Denot) → ℕ → InstanceId → Option (MutBor V.Denot) → Fml
   lends_cell s n i r = LendsIf (cells_row V) V s r (λ w. insert s.now (n, i) w) s.now
-
-  abbrev pub lends_grid_cell : MutBor (FinMap cell_cmp V.Denot) → ℕ → InstanceId → Option (MutBor V.Denot) → Fml
-  lends_grid_cell s n i r = LendsIf (grid_row V) V s r (λ w. insert s.now (n, i) w) s.now
 
   abbrev pub lends_row_cell : MutBor (FinMap cell_cmp V.Denot) → ℕ → InstanceId → Option (MutBor V.Denot) → Fml
   lends_row_cell s n i r = LendsIf (rows_row V) V s r (λ w. insert s.now (n, i) w) s.now

@@ -2,12 +2,12 @@
 ghost use Rattle.std.specs.Prelude.{map as items, ◌≡◌, OnOk, OnErr, IfOk, ℕ, Bool};
 ghost use Rattle.std.specs.Option.{option_copied};
 ghost use Rattle.std.specs.FinMap as map;
-ghost use Rattle.opa_cells.specs.Rows.{kept_if, cells_at, seen};
+ghost use Rattle.opa_cells.specs.Rows.{kept_if, cells_at, insert_all, seen};
 ghost use Rattle.opa_cells.specs.declared.instance.InstanceId.{InstanceId as InstanceView};
 
-use crate::grid::Grid;
 use crate::instance::InstanceId;
 use crate::keeps::Keeps;
+use crate::rows::Rows;
 use opa_io::NoMemory;
 use std::alloc::Global;
 use std::marker::Model;
@@ -15,7 +15,7 @@ use std::marker::Model;
 /// A finite map from pairs of a number and an instance. Look-ups take no walk over it.
 #[derive(Drop)]
 pub struct Cells<V> {
-    pub(crate) rows: Grid<V>,
+    pub(crate) rows: Rows<V>,
     count: u64,
 }
 
@@ -38,7 +38,7 @@ impl<V> Cells<V> {
         ensures { result ≡ map.empty }
     {
         Cells {
-            rows: Grid::new(alloc),
+            rows: Rows::new(alloc),
             count: 0,
         }
     }
@@ -97,8 +97,8 @@ impl<V: Drop> Cells<V> {
             (map.get self.old (n, i)) }
     {
         let _before = self.len();
-        let count = self.rows.retain(keeper);
-        self.count = count;
+        self.rows.retain(keeper);
+        self.count = self.rows.counted();
     }
 }
 
@@ -113,10 +113,26 @@ impl<V: Drop> Cells<V> {
     pub fn copy<C: Copies<V>>(&self, alloc: Global, copier: &C) -> Result<Cells<V>, NoMemory>
         ensures { IfOk result (λ cells. cells ≡ self.now) }
     {
-        let rows = self.rows.copy(alloc, copier)?;
-        Ok(Cells {
-            rows,
-            count: self.count,
-        })
+        let each = self.each(alloc)?;
+        let mut copied = Cells::new(alloc);
+        copied.fill(alloc, &each, copier)?;
+        Ok(copied)
+    }
+
+    /// Inserts copies of cells, one after another.
+    fn fill<C: Copies<V>>(
+        &mut self,
+        alloc: Global,
+        cells: &[(u32, &InstanceId, &V)],
+        copier: &C,
+    ) -> Result<(), NoMemory>
+        ensures { OnOk result (self.new ≡ insert_all self.old (items seen cells.now)) }
+    {
+        for (number, inst, value) in cells {
+            let key = inst.copy(alloc)?;
+            let copied = copier.copy(alloc, value)?;
+            self.insert(*number, key, copied)?;
+        }
+        Ok(())
     }
 }

@@ -3,10 +3,9 @@ ghost use Rattle.std.specs.Prelude.{◌≡◌, Some, None, IfOk, IfErr, IsOk, On
 ghost use Rattle.std.specs.Borrow.{sem};
 ghost use Rattle.std.specs.Option.{option_copied_mut};
 ghost use Rattle.std.specs.FinMap as map;
-ghost use Rattle.opa_cells.specs.Lending.{lends_cell, lends_grid_cell, lends_row_cell, lends_in_row, lends_in_others};
+ghost use Rattle.opa_cells.specs.Lending.{lends_cell, lends_row_cell, lends_in_row, lends_in_others};
 
 use crate::cells::Cells;
-use crate::grid::{Grid, is_number};
 use crate::instance::InstanceId;
 use crate::others::Others;
 use crate::row::{Row, is_held};
@@ -45,18 +44,6 @@ impl<V> Rows<V> {
             Some(row) => row.get_mut(inst),
             None => None,
         }
-    }
-}
-
-impl<V> Grid<V> {
-    pub(crate) fn get_mut(&mut self, number: u32, inst: &InstanceId) -> Option<&mut V>
-        ensures* writes_back { sem 𝓛 (lends_grid_cell V.row self.entry number inst.now result) }
-        ensures value { option_copied_mut result ≡ map.get self.old (number, inst.now) }
-    {
-        if is_number(number, self.number) {
-            return self.row.get_mut(inst);
-        }
-        self.rows.get_mut(number, inst)
     }
 }
 

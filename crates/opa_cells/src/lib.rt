@@ -2,14 +2,13 @@
 #![tactic(auto)]
 
 mod cells;
-mod grid;
+mod first;
 mod instance;
 mod keeps;
 mod lent;
 mod others;
 mod row;
 mod rows;
-mod unordered;
 
 pub use cells::{Cells, Copies};
 pub use instance::InstanceId;

@@ -1,14 +1,13 @@
 // The cells of one number: one of them at hand, and the others.
-ghost use Rattle.std.specs.Prelude.{◌≡◌, map as items, IfOk, OnOk, OnErr, is_some, not, true};
+ghost use Rattle.std.specs.Prelude.{◌≡◌, map as items, slice_get, IfOk, OnOk, OnErr, is_some, not};
 ghost use Rattle.std.specs.Option.{option_copied, option_map};
 ghost use Rattle.std.specs.FinMap as map;
 ghost use Rattle.opa_cells.specs.Rows.{kept_if, holds, without, one_kept, seen_in};
 ghost use Rattle.opa_cells.specs.declared.instance.InstanceId.{InstanceId as InstanceView};
 
-use crate::cells::Copies;
 use crate::instance::InstanceId;
 use crate::keeps::Keeps;
-use crate::others::Others;
+use crate::others::{Others, lesser_of};
 use opa_io::NoMemory;
 use std::alloc::Global;
 use std::collections::BTreeMap;
@@ -50,16 +49,6 @@ impl<V> Row<V> {
             held(&self.one)
         } else {
             self.others.get(inst)
-        }
-    }
-
-    /// Whether there are no cells.
-    pub(crate) fn is_empty(&self) -> bool
-        ensures { result ≡ true → self.now ≡ map.empty }
-    {
-        match &self.one {
-            Some(_) => false,
-            None => self.others.len() == 0,
         }
     }
 
@@ -111,9 +100,9 @@ impl<V: Drop> Row<V> {
             return Ok(false);
         }
         if self.one.is_none() {
-            let was = self.others.remove(&inst);
+            let new = self.others.get(&inst).is_none();
             self.one = Some((inst, value));
-            return Ok(!was);
+            return Ok(new);
         }
         self.others.insert(inst, value)
     }
@@ -175,35 +164,6 @@ fn kept<V: Drop, K: Keeps<V>>(
     }
 }
 
-impl<V: Drop> Row<V> {
-    /// An equal row.
-    pub(crate) fn copy<C: Copies<V>>(&self, alloc: Global, copier: &C) -> Result<Row<V>, NoMemory>
-        ensures { IfOk result (λ row. row ≡ self.now) }
-    {
-        let one = copy_one(alloc, &self.one, copier)?;
-        let others = self.others.copy(alloc, copier)?;
-        Ok(Row { one, others })
-    }
-}
-
-/// An equal cell, if there is one.
-fn copy_one<V: Drop, C: Copies<V>>(
-    alloc: Global,
-    one: &Option<(InstanceId, V)>,
-    copier: &C,
-) -> Result<Option<(InstanceId, V)>, NoMemory>
-    ensures { IfOk result (λ copied. copied ≡ one.now) }
-{
-    match one {
-        Some((inst, value)) => {
-            let key = inst.copy(alloc)?;
-            let value = copier.copy(alloc, value)?;
-            Ok(Some((key, value)))
-        }
-        None => Ok(None),
-    }
-}
-
 impl<V> Row<V> {
     /// The cells in order of their instances.
     pub(crate) fn in_order(&self, alloc: Global) -> Result<BTreeMap<&InstanceId, &V>, NoMemory>
@@ -216,6 +176,16 @@ impl<V> Row<V> {
                 tree.insert(inst, value)?;
                 Ok(tree)
             }
+        }
+    }
+
+    /// The cell of the least instance. None where there is no cell. It takes no memory.
+    pub(crate) fn first(&self) -> Option<(&InstanceId, &V)>
+        ensures { option_map seen_in result ≡ slice_get (map.entries self.now) 0 }
+    {
+        match &self.one {
+            None => self.others.first(),
+            Some((inst, value)) => lesser_of(self.others.first(), inst, value),
         }
     }
 }

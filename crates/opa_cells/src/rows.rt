@@ -1,13 +1,12 @@
-ghost use Rattle.std.specs.Prelude.{map as items, ◌≡◌, ◌<◌, ◌^◌, ◌++◌, ◌==◌, cond, length, IfOk, OnOk, OnErr, is_some, IsNone, Some, None, not, true, [], ℕ, Bool};
+ghost use Rattle.std.specs.Prelude.{map as items, ◌≡◌, ◌<◌, ◌^◌, ◌++◌, length, IfOk, OnOk, OnErr, is_some, IsNone, Some, None, not, true, ℕ, Bool};
 ghost use Rattle.std.specs.Option.{option_copied};
 ghost use Rattle.std.specs.FinMap as map;
 ghost use Rattle.std.specs.BTreeMap.{is_at};
 ghost use Rattle.std.specs.Map.{lookup};
 ghost use Rattle.std.specs.Ordering.{nat_cmp};
-ghost use Rattle.opa_cells.specs.Rows.{with_rows, with_row, kept_if, row_entries, all_entries, insert_each, tree_map, by_number, cells_in, cells_at, seen, seen_in};
+ghost use Rattle.opa_cells.specs.Rows.{with_rows, kept_if, row_entries, all_entries, insert_each, tree_map, cells_in, cells_at, seen, seen_in};
 ghost use Rattle.opa_cells.specs.declared.instance.InstanceId.{InstanceId as InstanceView};
 
-use crate::cells::Copies;
 use crate::instance::InstanceId;
 use crate::keeps::Keeps;
 use crate::row::Row;
@@ -86,19 +85,6 @@ impl<V: Drop> Rows<V> {
     }
 }
 
-impl<V: Drop> Rows<V> {
-    /// Takes out the row of a number. It has no cells if there is none.
-    pub(crate) fn take(&mut self, number: u32) -> Row<V>
-        ensures row { (i : InstanceView) → map.get result i ≡ map.get self.old (number, i) }
-        ensures rest { (n : ℕ) (i : InstanceView) → map.get self.new (n, i) ≡ cond (n == number) None (map.get self.old (n, i)) }
-    {
-        match self.rows.remove(&number) {
-            Some(row) => row,
-            None => Row::new(self.alloc),
-        }
-    }
-}
-
 /// Inserts a row with one cell, at a number that has none.
 fn put_row<V: Drop>(
     alloc: Global,
@@ -140,64 +126,6 @@ impl<V: Drop> Rows<V> {
     }
 }
 
-impl<V: Drop> Rows<V> {
-    /// An equal map. Its rows are copied as they are found, since a hash needs no order.
-    pub(crate) fn copy<C: Copies<V>>(&self, alloc: Global, copier: &C) -> Result<Rows<V>, NoMemory>
-        ensures { IfOk result (λ rows. rows ≡ self.now) }
-    {
-        let rows = copy_rows(alloc, &self.rows, copier)?;
-        Ok(Rows { alloc, rows })
-    }
-}
-
-fn copy_rows<V: Drop, C: Copies<V>>(
-    alloc: Global,
-    rows: &HashMap<u32, Row<V>>,
-    copier: &C,
-) -> Result<HashMap<u32, Row<V>>, NoMemory>
-    ensures { IfOk result (λ copied. with_rows copied.entries ≡ with_rows rows.now.entries) }
-{
-    let len = rows.len();
-    let mut copied = with_room(alloc, len)?;
-    copy_each(alloc, &mut copied, rows, copier)?;
-    Ok(copied)
-}
-
-/// No rows, and room for some.
-fn with_room<V>(alloc: Global, rows: usize) -> Result<HashMap<u32, Row<V>>, NoMemory>
-    ensures { IfOk result (λ rows. rows.entries ≡ []) }
-{
-    match HashMap::with_capacity(alloc, rows) {
-        Ok(rows) => Ok(rows),
-        Err(_) => Err(NoMemory),
-    }
-}
-
-/// Inserts copies of rows, one after another.
-fn copy_each<V: Drop, C: Copies<V>>(
-    alloc: Global,
-    copied: &mut HashMap<u32, Row<V>>,
-    rows: &HashMap<u32, Row<V>>,
-    copier: &C,
-) -> Result<(), NoMemory>
-    ensures { OnOk result (by_number copied.new.entries ≡ insert_each (by_number copied.old.entries) rows.now.entries) }
-{
-    for (number, row) in rows {
-        let row = row.copy(alloc, copier)?;
-        put(copied, *number, row)?;
-    }
-    Ok(())
-}
-
-fn put<V: Drop>(rows: &mut HashMap<u32, Row<V>>, number: u32, row: Row<V>) -> Result<(), NoMemory>
-    ensures { OnOk result (by_number rows.new.entries ≡ map.insert (by_number rows.old.entries) number row) }
-{
-    match rows.insert(number, row) {
-        Ok(_) => Ok(()),
-        Err(_) => Err(NoMemory),
-    }
-}
-
 impl<V> Rows<V> {
     /// How many cells there are.
     pub(crate) fn counted(&self) -> u64
@@ -218,33 +146,22 @@ impl<V> Rows<V> {
         }
     }
 
-    /// The rows in order of their numbers, with one more in the place of that of its number.
-    fn in_order<'a>(
-        &'a self,
-        alloc: Global,
-        number: &'a u32,
-        row: &'a Row<V>,
-    ) -> Result<BTreeMap<&'a u32, &'a Row<V>>, NoMemory>
-        ensures { IfOk result (λ tree. all_entries (items seen_in tree.entries) ≡ map.entries (with_row number.now row.now self.now)) }
+    /// The rows in order of their numbers.
+    fn in_order(&self, alloc: Global) -> Result<BTreeMap<&u32, &Row<V>>, NoMemory>
+        ensures { IfOk result (λ tree. all_entries (items seen_in tree.entries) ≡ map.entries self.now) }
     {
         let _rows = self.rows.len();
         let mut tree = BTreeMap::new(alloc);
         add_rows(&mut tree, &self.rows)?;
-        tree.insert(number, row)?;
         let _count = tree.len();
         Ok(tree)
     }
 
-    /// The cells in order of their keys, with a row in the place of that of its number.
-    pub(crate) fn each_with<'a>(
-        &'a self,
-        alloc: Global,
-        number: &'a u32,
-        row: &'a Row<V>,
-    ) -> Result<Vec<(u32, &'a InstanceId, &'a V)>, NoMemory>
-        ensures { IfOk result (λ cells. items seen cells.items ≡ map.entries (with_row number.now row.now self.now)) }
+    /// The cells in order of their keys.
+    pub(crate) fn each(&self, alloc: Global) -> Result<Vec<(u32, &InstanceId, &V)>, NoMemory>
+        ensures { IfOk result (λ cells. items seen cells.items ≡ map.entries self.now) }
     {
-        let rows = self.in_order(alloc, number, row)?;
+        let rows = self.in_order(alloc)?;
         let cells = walk(alloc, &rows)?;
         Ok(cells)
     }

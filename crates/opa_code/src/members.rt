@@ -77,6 +77,9 @@ fn add_looked_up<'a, K: Look>(
 {
     match look.line(attr, inst) {
         None => items.add_value(alloc, &Value::Unknown),
-        Some(line) => items.add(alloc, Operand::seen(line)),
+        Some(line) => {
+            let operand = Operand::seen(line);
+            items.add(alloc, &operand)
+        }
     }
 }

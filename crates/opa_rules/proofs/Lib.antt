@@ -1,10 +1,5 @@
 pub mod DescribeLaws
 mod FaultLaws
 mod FindLaws
-mod MeaningLaws
 mod NearLaws
-pub mod OpeningLaws
-mod PrintLaws
-mod SameLaws
-mod ShelfLaws
 mod UnknownLaws

@@ -2,4 +2,3 @@ pub mod Asked
 pub mod Promises
 pub mod Describing
 pub mod Faults
-pub mod Printing

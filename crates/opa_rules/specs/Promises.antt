@@ -11,7 +11,6 @@ use Rattle.opa_tree.specs.declared.rulebase.Rulebase.{Rulebase}
 use Rattle.opa_rulebase.specs.Loading.{Opens}
 use Rattle.opa_rules.specs.Describing.Description.{described}
 use Rattle.opa_rules.specs.Faults.Finding.{Finds}
-use Rattle.opa_rules.specs.Printing.Prints.{IsPrintOf}
 use Rattle.opa_rules.specs.declared.reading.Mode.{Mode}
 use Rattle.opa_rules.specs.declared.reading.Mode.TheVariants as mode
 use Rattle.opa_rules.specs.Asked.{asked_of, usage}
@@ -59,33 +58,6 @@ module _ (name : List ℕ) (old new : Outside) where
   Describes status.NoMemory = Appends old.written new.written []
   Describes status.InputLimit = ⊥
 
-  -- a rulebase, whose print was written
-  abbrev pub WrotePrint : Result Rulebase (List ℕ) → Type 0
-  WrotePrint (Ok base) = (text : List ℕ) × IsPrintOf name base text × Appends old.written new.written text
-  WrotePrint (Err text) = ⊥
-
-  -- a rulebase or a refusal, and a front of its print was written or of its text
-  abbrev pub WroteFrontOfPrint : Result Rulebase (List ℕ) → Type 0
-  WroteFrontOfPrint (Ok base) = (text : List ℕ) × IsPrintOf name base text × AppendsFront old.written new.written text
-  WroteFrontOfPrint (Err text) = AppendsFront old.written new.written text
-
-  -- a rulebase, and nothing was written
-  abbrev pub WroteNoPrint : Result Rulebase (List ℕ) → Type 0
-  WroteNoPrint (Ok base) = Appends old.written new.written []
-  WroteNoPrint (Err text) = ⊥
-
-  -- How a print ends: with Done the files open a rulebase, and a text was written that opens the same one; with Refused they open
-  -- a refusal, which was written. With WriteFault the sink failed, and a front of that was written. With InputLimit they open a
-  -- rulebase that can't be printed so. Then, and else, nothing was written: taking a file failed, or there was no memory.
-  abbrev pub Prints : Status → Type 0
-  Prints status.Done = Opening WrotePrint
-  Prints status.Refused = Opening WroteRefusal
-  Prints status.Usage = ⊥
-  Prints status.ReadFault = Rose old.takes new.takes × Appends old.written new.written []
-  Prints status.WriteFault = Rose old.writes new.writes × Opening WroteFrontOfPrint
-  Prints status.NoMemory = Appends old.written new.written []
-  Prints status.InputLimit = Opening WroteNoPrint
-
   -- what is found in the files under the name is of this sort
   abbrev pub Finding : (Option (List ℕ) → Type 0) → Type 0
   Finding Is = IfSome old.files (λ files. (found : Option (List ℕ)) × Finds files name found × Is found)
@@ -131,7 +103,5 @@ pub record Promises (words : List (String Global)) (old new : Outside) (result :
   pub describe : (name : List ℕ) → Asks words mode.Describe name → Describes name old new result
   -- The mode `faults` lists the errors of the rulebase of the name.
   pub faults : (name : List ℕ) → Asks words mode.Faults name → Faults name old new result
-  -- The mode `print` prints what the files open under the name as one file.
-  pub print : (name : List ℕ) → Asks words mode.Print name → Prints name old new result
   -- The files stay as they are.
   pub files : new.files ≡ old.files

@@ -8,7 +8,6 @@ ghost use Rattle.opa_rules.specs.Asked as meant;
 pub enum Mode {
     Describe,
     Faults,
-    Print,
 }
 
 /// A mode, and the name of its rulebase.
@@ -25,7 +24,6 @@ fn mode_named(word: &str) -> Option<Mode>
     match word {
         "describe" => Some(Mode::Describe),
         "faults" => Some(Mode::Faults),
-        "print" => Some(Mode::Print),
         _ => None,
     }
 }

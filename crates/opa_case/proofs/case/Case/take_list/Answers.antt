@@ -1,0 +1,77 @@
+use Rattle.std.specs.Prelude.{nat_lt, ◌&&◌, cond, None, Some, unwrap_or, refl, []}
+use Rattle.std.specs.List.{list_any}
+use Rattle.std.specs.FinMap.{FinMap, get, remove}
+use Rattle.std.proofs.Common.{ap, sym, subst, ◌∙◌, ◌≡◌}
+use Rattle.opa_cells.specs.Keys.{cell_cmp}
+use Rattle.opa_case.specs.Shapes.{shape_of}
+use Rattle.opa_case.specs.Live.{Names, Population, live_of}
+use Rattle.opa_case.specs.Cases.{CaseView, stored}
+use Rattle.opa_case.specs.Homes.{home_of, AreHomes, AreCounts}
+use Rattle.opa_case.specs.Lost.{goes_with, answers_of}
+use Rattle.opa_case.specs.Turns.{is_among}
+use Rattle.opa_case.specs.Steps.{without_list}
+use Rattle.opa_case.specs.Order.{live_in}
+use Rattle.opa_case.specs.Whole.{IsWhole}
+use Rattle.opa_case.proofs.Kept.{forgotten_kept}
+use Rattle.opa_case.proofs.Settling.{forgotten_settled, forgotten_answers}
+use Rattle.opa_case.proofs.Shaped.{shape_is}
+use Rattle.opa_case.proofs.Turned.{homes_then, live_then, case_then}
+use Rattle.opa_case.proofs.Whole.{contained_forgotten}
+use Rattle.opa_case.proofs.case.Case.take_list.Goals as goal
+
+module _ (c : goal.After-drop-turn) where
+  abbrev next : CaseView
+  next = without_list (shape_of c.args.model.now) c.args.self.now c.args.rel c.args.inst.now
+
+  homes : AreHomes c.drop_homes.new.homes next.live
+  homes =
+      homes_then c.args.self.now.live next.live c.args.turn.gone.items [] c.args.inst.now c.requires.turns
+      c.self.inside.living.homes c.self.inside.living.homes c.drop_homes.new.homes
+      (subst (AreHomes c.self.inside.living.homes) (ap (λ (v : CaseView). v.live) c.self.view_is) c.self.invariant.0)
+      (λ x. refl)
+      (λ x. c.drop_homes.ensures x ∙ ap (λ (xs : Population). cond (is_among xs x) None (home_of c.self.inside.living.homes x)) c.deref.ensures.value)
+
+  taken : c.remove.new.self ≡ remove c.args.self.now.lists (c.args.rel.0, c.args.inst.now)
+  taken = c.remove.ensures ∙ ap (λ (v : CaseView). remove v.lists (c.args.rel.0, c.args.inst.now)) c.self.view_is
+
+  lists : c.drop_lists.new.lists ≡ next.lists
+  lists =
+      let s = shape_of c.args.model.now in
+      let m = remove c.args.self.now.lists (c.args.rel.0, c.args.inst.now) in
+      forgotten_settled s c.args.ruled.now c.args.self.now c.args.rel c.args.inst.now c.requires.fits
+      c.args.turn.gone.items [] c.requires.turns c.drop_lists.new.lists
+      (λ q j. c.drop_lists.ensures q j
+      ∙ ap (λ (m : FinMap cell_cmp Names). cond (nat_lt q s.relations && list_any (λ g. goes_with s g.0 q j (get m (q, j))) c.deref-2.result.now) None (get m (q, j))) taken
+      ∙ ap (λ (xs : Population). cond (nat_lt q s.relations && list_any (λ g. goes_with s g.0 q j (get m (q, j))) xs) None (get m (q, j))) c.deref-2.ensures.value)
+
+  answers : c.drop_answers.new.answers ≡ next.answers
+  answers =
+      let s = shape_of c.args.model.now in
+      forgotten_answers s c.args.ruled.now c.args.self.now c.args.rel c.args.inst.now c.requires.fits
+      c.args.turn.gone.items [] c.requires.turns c.drop_answers.new.answers
+      (λ a j. c.drop_answers.ensures a j
+      ∙ ap (λ (v : CaseView). cond (nat_lt a s.attributes && list_any (λ g. answers_of s g.0 a j) c.deref-3.result.now) None (get v.answers (a, j))) c.self.view_is
+      ∙ ap (λ (xs : Population). cond (nat_lt a s.attributes && list_any (λ g. answers_of s g.0 a j) xs) None (get c.args.self.now.answers (a, j))) c.deref-3.ensures.value)
+
+  every : c.replace_every.new.every ≡ next.every
+  every = c.replace_every.ensures ∙ ap (λ (v : CaseView). unwrap_or c.args.every v.every) c.self.view_is ∙ c.requires.every
+
+  live : next.live ≡ live_of (shape_of c.args.model.now) (stored next.lists)
+  live = (forgotten_kept (shape_of c.args.model.now) c.args.ruled.now (shape_is c.args.model.now c.requires.form) c.args.self.now c.args.rel c.args.inst.now c.requires.fits).live
+
+told : (c : goal.After-drop-turn) → ◌≡◌ {A = CaseView} (record { lists = c.drop_lists.new.lists; every = c.replace_every.new.every; answers = c.drop_answers.new.answers; live = live_in (Some c.of.result) c.drop_lists.new.lists }) (next c)
+told c =
+    case_then c.of.result.is (shape_of c.args.model.now) (ap shape_of c.of.ensures) (next c) (live c) c.drop_lists.new.lists (lists c)
+    c.replace_every.new.every c.drop_answers.new.answers (every c) (answers c)
+
+pub invariant_of-self : goal.invariant_of-self
+invariant_of-self c =
+    let same = live_then c.of.result.is (shape_of c.args.model.now) (ap shape_of c.of.ensures) (next c) (live c) c.drop_lists.new.lists (lists c) in (
+      subst (AreHomes c.drop_homes.new.homes) same (homes c),
+      subst (AreCounts c.args.turn.counts) same c.requires.counts,
+      subst IsWhole (sym (told c))
+          (contained_forgotten (shape_of c.args.model.now) c.args.self.now c.args.rel c.args.inst.now (subst IsWhole c.self.view_is c.self.invariant.2) c.args.turn.gone.items c.requires.turns),
+    )
+
+pub returns : goal.returns
+returns c = told c

@@ -1,4 +1,0 @@
-pub mod Prints
-pub mod Same
-pub mod SameMeaning
-pub mod Shelves
