@@ -32,7 +32,7 @@ FILE_LINE = re.compile(r"(include|table) ")
 CONTROL = re.compile(r"[\x00-\x1f\x7f]")
 MOST_FILE_LINES, MOST_LINE, MOST_LEVEL = 100, 65536, 64
 # How many errors are listed, and how many if a file is long.
-MOST, MOST_OF_LONG, LONG = 100, 10, 1048576
+MOST, MOST_OF_LONG, LONG = 100, 3, 1048576
 
 UNKNOWN = "no attribute or list is called '"
 TOKEN = re.compile(

@@ -254,8 +254,8 @@ class Faults(unittest.TestCase):
             text, status = self.faults()
             self.assertEqual((len(printed(text)), status), (min(count, 100), 1), count)
 
-    def test_ten_at_most_of_a_long_file(self) -> None:
-        for length, most in ((1048576, 20), (1048577, 10)):
+    def test_three_at_most_of_a_long_file(self) -> None:
+        for length, most in ((1048576, 20), (1048577, 3)):
             text = HEAD + "the income = the weather\n" * 20
             # Comments of at most 1,000 bytes fill the file.
             rest = length - len(text)

@@ -44,3 +44,4 @@ pub mod Overlaid
 pub mod Touching
 pub mod GoingNames
 pub mod SameLists
+pub mod Relisting

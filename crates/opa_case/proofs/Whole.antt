@@ -204,3 +204,12 @@ step_is_whole s ruled shape c c' (SetList r i names) fits whole h =
 step_is_whole s ruled shape c c' (Forget r i) fits whole h =
     let g = guard (is_misplaced s c r i) Name (Ok (without_list s c r i)) c' h in
     subst IsWhole (ok_is (without_list s c r i) c' g.1) (forget_whole s ruled shape c r i fits g.0 whole)
+
+-- a case of equal parts
+pub whole_again : (c d : CaseView) → d.lists ≡ c.lists → d.every ≡ c.every → d.answers ≡ c.answers → d.live ≡ c.live → IsWhole c → IsWhole d
+whole_again c d l e a v whole =
+    subst IsWhole (sym (
+    ap (λ x. let k : CaseView = record { lists = x; every = d.every; answers = d.answers; live = d.live } in k) l
+    ∙ ap (λ x. let k : CaseView = record { lists = c.lists; every = x; answers = d.answers; live = d.live } in k) e
+    ∙ ap (λ x. let k : CaseView = record { lists = c.lists; every = c.every; answers = x; live = d.live } in k) a
+    ∙ ap (λ x. let k : CaseView = record { lists = c.lists; every = c.every; answers = c.answers; live = x } in k) v)) whole

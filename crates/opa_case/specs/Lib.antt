@@ -9,6 +9,7 @@ pub mod Laws
 pub mod Listed
 pub mod Live
 pub mod Lost
+pub mod Moves
 pub mod Order
 pub mod Overlays
 pub mod Refusals

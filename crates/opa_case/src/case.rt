@@ -77,13 +77,18 @@ impl Case {
     pub fn copy(&self, alloc: Global) -> Result<Case, NoMemory>
         ensures { IfOk result (λ c. c ≡ self.now) }
     {
+        let lists = self.lists.copy(alloc)?;
+        let every = self.every.copy(alloc, &EachName)?;
+        let answers = self.answers.copy(alloc, &EachValue)?;
+        let living = self.living.copy(alloc)?;
+        let model = again(&self.model);
         Ok(Case {
             alloc,
-            lists: self.lists.copy(alloc)?,
-            every: self.every.copy(alloc, &EachName)?,
-            answers: self.answers.copy(alloc, &EachValue)?,
-            living: self.living.copy(alloc)?,
-            model: again(&self.model),
+            lists,
+            every,
+            answers,
+            living,
+            model,
         })
     }
 

@@ -1,7 +1,7 @@
 // What two cases are compared by: known lists, and what is answered.
 ghost use Rattle.std.specs.Prelude.{map as items, ◌≡◌, true, IfOk};
-ghost use Rattle.std.specs.FinMap as map;
 ghost use Rattle.opa_cells.specs.Rows.{seen};
+ghost use Rattle.opa_cells.specs.Unordered.{HasCells};
 
 use crate::case::Case;
 use crate::listed::Listed;
@@ -20,11 +20,11 @@ impl Case {
         Ok(same)
     }
 
-    /// What is answered, in order of attributes and then of instances.
+    /// What is answered, in no order.
     pub fn answered(&self, alloc: Global) -> Result<Vec<(u32, &InstanceId, &Line<Value>)>, NoMemory>
-        ensures { IfOk result (λ cells. items seen cells.items ≡ map.entries self.now.answers) }
+        ensures { IfOk result (λ cells. HasCells self.now.answers (items seen cells.items)) }
     {
-        let cells = self.answers.each(alloc)?;
+        let cells = self.answers.unordered(alloc)?;
         Ok(cells)
     }
 }

@@ -174,7 +174,8 @@ fn add_every<L: Lists>(
     if is_short(model, lists, counts, model.entity_count(), bond.target) {
         return Ok(());
     }
-    match names_of(alloc, model, lists, model.entity_count(), bond.target)? {
+    let room = counts.of(bond.target) as usize;
+    match names_of(alloc, room, model, lists, model.entity_count(), bond.target)? {
         None => Ok(()),
         Some(names) => {
             let key = InstanceId::global(alloc)?;
@@ -183,9 +184,10 @@ fn add_every<L: Lists>(
     }
 }
 
-/// The names of all instances of an entity, where all lists that lead to them are known.
+/// The names of all instances of an entity, where all lists that lead to them are known, with room for so many from the start.
 fn names_of<L: Lists>(
     alloc: Global,
+    room: usize,
     model: &Model,
     lists: &L,
     steps: u32,
@@ -202,7 +204,7 @@ fn names_of<L: Lists>(
     let nest = nest_of(model, entity);
     match walk(alloc, model, lists, steps - 1, nest.parent)? {
         None => Ok(None),
-        Some(containers) => gather_names(alloc, lists, nest.contained, &containers),
+        Some(containers) => gather_names(alloc, room, lists, nest.contained, &containers),
     }
 }
 
@@ -217,13 +219,14 @@ fn root_name(alloc: Global) -> Result<List<Txt>, NoMemory>
 /// The lists of the containers, one after the other, where all are known.
 fn gather_names<L: Lists>(
     alloc: Global,
+    room: usize,
     lists: &L,
     rel: RelId,
     containers: &[InstanceId],
 ) -> Result<Option<List<Txt>>, NoMemory>
     ensures { IfOk result (λ names. names ≡ live.gathered (map (L.lists lists.now rel) containers.now)) }
 {
-    let mut found = List::new(alloc);
+    let mut found = List::from_vec(Vec::with_capacity(alloc, room)?);
     for container in containers {
         match lists.list(rel, container) {
             None => return Ok(None),

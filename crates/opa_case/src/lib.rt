@@ -22,7 +22,9 @@ mod list_faults;
 mod listed;
 mod lists_naming;
 mod living;
+mod moves;
 mod names;
+mod planning;
 mod question;
 mod refused;
 mod relist;
@@ -33,6 +35,7 @@ mod standing;
 mod touched;
 mod turn;
 mod whole_walk;
+mod writing;
 
 pub use answer_faults::{answer_fault, has_kind, is_unknown_answer};
 pub use case::Case;
@@ -45,6 +48,7 @@ pub use laws::{
     withdraw_undoes,
 };
 pub use list_faults::list_fault;
+pub use moves::Moves;
 pub use opa_cells::InstanceId;
 pub use question::Question;
 pub use relisted::Relisted;

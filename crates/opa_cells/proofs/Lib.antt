@@ -6,6 +6,6 @@ pub mod Lends
 pub mod Walked
 pub mod Copied
 pub mod Counted
-pub mod Fronts
 pub mod Numbered
 pub mod Ones
+pub mod FoundCells

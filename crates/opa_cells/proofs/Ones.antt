@@ -1,5 +1,5 @@
 -- A row as one cell and the others.
-use Rattle.std.specs.Prelude.{◌≡◌, ◌+◌, Bool, true, false, cond, List, Option, None, Some, is_some, slice_get, map, refl}
+use Rattle.std.specs.Prelude.{◌≡◌, ◌+◌, Bool, true, false, cond, List, Option, None, Some, is_some, not, map, refl}
 use denote.Ref.{Bor}
 use Rattle.std.specs.Option.{option_map, option_copied}
 use Rattle.std.specs.FinMap.{FinMap, get, insert, remove, entries, len, same_map, put, get-insert, get-remove, len-insert, entries-insert}
@@ -8,9 +8,9 @@ use Rattle.std.proofs.Common.{ap, sym, ◌∙◌}
 use mathlib.Core.Bool.{true≢false}
 use Rattle.opa_cells.specs.declared.instance.InstanceId.{InstanceId}
 use Rattle.opa_cells.specs.Instances.{instance_cmp, is_same}
-use Rattle.opa_cells.specs.Rows.{kept_if, with_one, holds, without, one_kept, lesser, seen_in}
+use Rattle.opa_cells.specs.Rows.{kept_if, with_one, holds, without, one_kept, seen_in}
 use Rattle.opa_cells.proofs.Orders.{instance_exact, instance_total, same_is}
-use Rattle.opa_cells.proofs.Sorted.{put_lesser, put_seen, seen_cmp}
+use Rattle.opa_cells.proofs.Sorted.{put_seen, seen_cmp}
 
 not_both : (e i q : InstanceId) → is_same i e ≡ false → is_same q e ≡ true → is_same q i ≡ false
 not_both e i q h a = elim (is_same q i) as (λ b. is_same q i ≡ b → b ≡ false) [
@@ -47,6 +47,13 @@ module _ {V : Type 0} where
         | false ↦ λ a. sym (get-insert instance_total m e.0 e.1 q ∙ ap (λ b. cond b (Some e.1) (get m q)) (ap (is_same q) (sym (same_is i e.0 h)) ∙ a))
       ] refl
       ∙ sym (get-insert instance_total (insert m e.0 e.1) i v q))
+
+  -- a cell is taken out, and put back with another value
+  pub put_again : (m : FinMap instance_cmp V) (i : InstanceId) (v : V) → insert (remove m i) i v ≡ insert m i v
+  put_again m i v = same_map instance_total instance_exact _ _ (λ q.
+      get-insert instance_total (remove m i) i v q ∙ ap (cond (is_same q i) (Some v)) (get-remove instance_total m i q)
+      ∙ elim (is_same q i) as (λ b. cond b (Some v) (cond b None (get m q)) ≡ cond b (Some v) (get m q)) [ true ↦ refl | false ↦ refl ]
+      ∙ sym (get-insert instance_total m i v q))
 
   apart : (x y : Bool) (v w r : Option V) → (x ≡ true → y ≡ false) → cond x v (cond y w r) ≡ cond y w (cond x v r)
   apart true true v w r f = absurd (cc (f refl))
@@ -94,9 +101,6 @@ module _ {V : Type 0} where
       ] refl
       ∙ ap (kept_if (keep i)) (sym (get-insert instance_total m e.0 e.1 i))
 
-  pub first_one : (e : InstanceId × V) (m : FinMap instance_cmp V) → lesser (slice_get (entries m) 0) e ≡ slice_get (entries (insert m e.0 e.1)) 0
-  first_one e m = put_lesser (entries m) e ∙ ap (λ es. slice_get es 0) (sym (entries-insert instance_total m e.0 e.1))
-
   pub tree_one : (ts ts' : List (Bor InstanceId × Bor V)) (i : Bor InstanceId) (v : Bor V) (m : FinMap instance_cmp V) → ts' ≡ insert_entry (seen_cmp instance_cmp) ts i v → map seen_in ts ≡ entries m → map seen_in ts' ≡ entries (insert m i.now v.now)
   tree_one ts ts' i v m is all = ap (map seen_in) is ∙ put_seen instance_cmp i v ts ∙ ap (put instance_cmp i.now v.now) all ∙ sym (entries-insert instance_total m i.now v.now)
 
@@ -117,3 +121,7 @@ module _ {V : Type 0} where
       → (i : InstanceId) → get (with_one (one_kept keep o) n) i ≡ kept_if (keep i) (get (with_one o m) i)
   row_kept keep None m n h i = h i
   row_kept keep (Some e) m n h i = kept_one keep e m n h (keep e.0 e.1) refl i
+
+  pub none_held : (o : Option (InstanceId × V)) {b : Bool} → is_some o ≡ not b → b ≡ true → None ≡ o
+  none_held None e h = refl
+  none_held (Some x) e h = absurd (true≢false (e ∙ ap not h))

@@ -1,15 +1,15 @@
--- What is found by hash, in order; and the first cell of a row.
-use Rattle.std.specs.Prelude.{◌≡◌, Bool, true, false, cond, ◌&&◌, T, List, [], ◌∷◌, map, length, None, Some, slice_get, refl}
+-- What is found by hash, in order.
+use Rattle.std.specs.Prelude.{◌≡◌, Bool, true, false, cond, ◌&&◌, T, List, [], ◌∷◌, map, length, None, Some, refl}
 use denote.Ref.{Bor}
 use Rattle.std.specs.Option.{option_or}
 use Rattle.std.specs.List.{AllByRecursion, IsDistinct}
 use Rattle.std.specs.List.Sorted.{IsStrictlySortedBy}
 use Rattle.std.specs.Map.{keys_of}
-use Rattle.std.specs.Ordering.{is_lt, is_gt, eq_by_cmp, match_ordering}
+use Rattle.std.specs.Ordering.{is_lt, eq_by_cmp, match_ordering}
 use Rattle.std.specs.declared.cmp.Ordering.{Ordering}
 use Rattle.std.specs.declared.cmp.Ordering.TheVariants.{Less, Equal, Greater}
 use Rattle.std.specs.BTreeMap.{insert_entry}
-use Rattle.std.specs.FinMap.{FinMap, get, insert, empty, entries, entries_sorted, from_entries, find, put, is_sorted, same_map, get-insert, get-empty, get-entries, get-from_entries, entries-insert, len-entries, len-empty}
+use Rattle.std.specs.FinMap.{FinMap, get, insert, empty, entries, entries_sorted, from_entries, find, put, is_sorted, same_map, get-insert, get-empty, get-entries, get-from_entries, len-entries, len-empty}
 use Rattle.std.specs.FinMap.Entries.{by_order, below_all, same_entries, find-put}
 use Rattle.std.proofs.Common.{arith, ap, sym, ◌∙◌}
 use Rattle.std.proofs.lemmas.Map.Keys.{IsDistinct-head, IsDistinct-tail}
@@ -18,7 +18,7 @@ use Rattle.opa_cells.specs.Instances.{instance_cmp}
 use Rattle.std.specs.Cmp.{IsTotalOrder}
 use Rattle.std.proofs.lemmas.Map.Lookups.{CmpEqualImpliesEq}
 use Rattle.std.proofs.lemmas.Map.Views.{tells_apart}
-use Rattle.opa_cells.specs.Rows.{insert_each, lesser, least, seen_in, tree_map}
+use Rattle.opa_cells.specs.Rows.{insert_each, seen_in, tree_map}
 use Rattle.opa_cells.proofs.Orders.{instance_exact, instance_total}
 use Rattle.opa_cells.proofs.Rowed.{or_none}
 use Rattle.opa_cells.proofs.Inner.{equal, hash_distinct}
@@ -98,19 +98,3 @@ module _ {V : Type 0} where
   -- a row, as its cells come one after another
   pub row_each : (es : List (InstanceId × V)) → IsDistinct equal (keys_of es) → insert_each empty es ≡ from_entries {R = instance_cmp} es
   row_each es d = all_each instance_cmp instance_total instance_exact es (hash_distinct es d)
-
-  pub put_lesser : (es : List (InstanceId × V)) (e : InstanceId × V) → lesser (slice_get es 0) e ≡ slice_get (put instance_cmp e.0 e.1 es) 0
-  put_lesser [] e = refl
-  put_lesser (x ∷ es) e = elim (instance_cmp e.0 x.0) as (λ o. instance_cmp e.0 x.0 ≡ o → cond (is_gt o) (Some x) (Some e) ≡ slice_get (by_order o (e ∷ x ∷ es) ((x.0, e.1) ∷ es) (x ∷ put instance_cmp e.0 e.1 es)) 0) [
-    | Less ↦ λ _. refl
-    | Equal ↦ λ h. ap (λ i. Some (i, e.1)) (instance_exact e.0 x.0 h)
-    | Greater ↦ λ _. refl
-  ] refl
-
-  pub least_each : (m : FinMap instance_cmp V) (es : List (InstanceId × V)) → least (slice_get (entries m) 0) es ≡ slice_get (entries (insert_each m es)) 0
-  least_each m [] = refl
-  least_each m (e ∷ es) = ap (λ b. least b es) (put_lesser (entries m) e ∙ ap (λ xs. slice_get xs 0) (sym (entries-insert instance_total m e.0 e.1))) ∙ least_each (insert m e.0 e.1) es
-
-  -- the first of a row's cells
-  pub row_first : (es : List (InstanceId × V)) → IsDistinct equal (keys_of es) → least None es ≡ slice_get (entries (from_entries {R = instance_cmp} es)) 0
-  row_first es d = ap (λ b. least b es) (ap (λ xs. slice_get xs 0) (sym (empty_entries instance_cmp))) ∙ least_each empty es ∙ ap (λ m. slice_get (entries m) 0) (row_each es d)

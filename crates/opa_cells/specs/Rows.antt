@@ -1,10 +1,10 @@
 -- A map that is kept as a row for each number, and in it a cell for each instance.
-use Rattle.std.specs.Prelude.{◌≡◌, ◌+◌, ℕ, Bool, false, cond, ◌==◌, not, List, [], ◌∷◌, ◌++◌, map, Option, None, Some, slice_get}
+use Rattle.std.specs.Prelude.{◌≡◌, ◌+◌, ℕ, Bool, false, cond, ◌==◌, not, List, [], ◌∷◌, ◌++◌, map, Option, None, Some}
 use denote.Ref.{Bor}
 use Rattle.std.specs.FinMap.{FinMap, empty, entries, from_entries, get, insert, remove, len, retain_keys}
 use Rattle.std.specs.BTreeMap.{is_at}
 use Rattle.std.specs.Map.{lookup}
-use Rattle.std.specs.Ordering.{nat_cmp, is_gt}
+use Rattle.std.specs.Ordering.{nat_cmp}
 use Rattle.std.specs.declared.cmp.Ordering.{Ordering}
 use Rattle.opa_cells.specs.declared.instance.InstanceId.{InstanceId}
 use Rattle.opa_cells.specs.Instances.{instance_cmp, is_same}
@@ -89,26 +89,9 @@ abbrev pub insert_each : {K V : Type 0} {R : K → K → Ordering} → FinMap R 
 insert_each m [] = m
 insert_each m (e ∷ es) = insert_each (insert m e.0 e.1) es
 
--- the entry of the lesser instance
-abbrev pub lesser : {V : Type 0} → Option (InstanceId × V) → InstanceId × V → Option (InstanceId × V)
-lesser None e = Some e
-lesser (Some b) e = cond (is_gt (instance_cmp e.0 b.0)) (Some b) (Some e)
-
--- the entry of the least instance
-abbrev pub least : {V : Type 0} → Option (InstanceId × V) → List (InstanceId × V) → Option (InstanceId × V)
-least b [] = b
-least b (e ∷ es) = least (lesser b e) es
-
--- the entry of the lesser number
-abbrev pub ahead : {V : Type 0} → Option ((ℕ × InstanceId) × V) → Option ((ℕ × InstanceId) × V) → Option ((ℕ × InstanceId) × V)
-ahead None e = e
-ahead (Some b) None = Some b
-ahead (Some b) (Some e) = cond (is_gt (nat_cmp e.0.0 b.0.0)) (Some b) (Some e)
-
--- the first entry of the least number that has one
-abbrev pub least_row : {V : Type 0} → Option ((ℕ × InstanceId) × V) → List (ℕ × FinMap instance_cmp V) → Option ((ℕ × InstanceId) × V)
-least_row b [] = b
-least_row b (r ∷ rs) = least_row (ahead b (slice_get (row_entries r.0 (entries r.1)) 0)) rs
+-- rows as a map of their numbers
+abbrev pub by_number : {V : Type 0} → List (ℕ × FinMap instance_cmp V) → FinMap nat_cmp (FinMap instance_cmp V)
+by_number rs = from_entries rs
 
 -- the map of what a tree refers to
 abbrev pub tree_map : {K V : Type 0} → (R : K → K → Ordering) → List (Bor K × Bor V) → FinMap R V

@@ -2,7 +2,7 @@
 ghost use Rattle.std.specs.Prelude.{map as items, ◌≡◌, OnOk, OnErr, IfOk, ℕ, Bool};
 ghost use Rattle.std.specs.Option.{option_copied};
 ghost use Rattle.std.specs.FinMap as map;
-ghost use Rattle.opa_cells.specs.Rows.{kept_if, cells_at, insert_all, seen};
+ghost use Rattle.opa_cells.specs.Rows.{kept_if, cells_at, seen};
 ghost use Rattle.opa_cells.specs.declared.instance.InstanceId.{InstanceId as InstanceView};
 
 use crate::instance::InstanceId;
@@ -113,26 +113,10 @@ impl<V: Drop> Cells<V> {
     pub fn copy<C: Copies<V>>(&self, alloc: Global, copier: &C) -> Result<Cells<V>, NoMemory>
         ensures { IfOk result (λ cells. cells ≡ self.now) }
     {
-        let each = self.each(alloc)?;
-        let mut copied = Cells::new(alloc);
-        copied.fill(alloc, &each, copier)?;
-        Ok(copied)
-    }
-
-    /// Inserts copies of cells, one after another.
-    fn fill<C: Copies<V>>(
-        &mut self,
-        alloc: Global,
-        cells: &[(u32, &InstanceId, &V)],
-        copier: &C,
-    ) -> Result<(), NoMemory>
-        ensures { OnOk result (self.new ≡ insert_all self.old (items seen cells.now)) }
-    {
-        for (number, inst, value) in cells {
-            let key = inst.copy(alloc)?;
-            let copied = copier.copy(alloc, value)?;
-            self.insert(*number, key, copied)?;
-        }
-        Ok(())
+        let rows = self.rows.copy(alloc, copier)?;
+        Ok(Cells {
+            rows,
+            count: self.count,
+        })
     }
 }

@@ -2,13 +2,13 @@
 #![tactic(auto)]
 
 mod cells;
-mod first;
 mod instance;
 mod keeps;
 mod lent;
 mod others;
 mod row;
 mod rows;
+mod unordered;
 
 pub use cells::{Cells, Copies};
 pub use instance::InstanceId;

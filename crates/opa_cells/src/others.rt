@@ -1,11 +1,12 @@
 // Cells of one number, found by hash.
-ghost use Rattle.std.specs.Prelude.{◌≡◌, ◌<◌, ◌^◌, map as items, slice_get, IfOk, OnOk, OnErr, is_some, not, Some, None};
-ghost use Rattle.std.specs.Option.{option_copied, option_map};
+ghost use Rattle.std.specs.Prelude.{◌≡◌, ◌<◌, ◌^◌, map as items, IfOk, OnOk, OnErr, is_some, not};
+ghost use Rattle.std.specs.Option.{option_copied};
 ghost use Rattle.std.specs.FinMap as map;
 ghost use Rattle.opa_cells.specs.Instances.{instance_cmp};
-ghost use Rattle.opa_cells.specs.Rows.{kept_if, insert_each, tree_map, least, lesser, seen_in};
+ghost use Rattle.opa_cells.specs.Rows.{kept_if, insert_each, tree_map, seen_in};
 ghost use Rattle.opa_cells.specs.declared.instance.InstanceId.{InstanceId as InstanceView};
 
+use crate::cells::Copies;
 use crate::instance::InstanceId;
 use crate::keeps::Keeps;
 use opa_io::NoMemory;
@@ -84,6 +85,49 @@ impl<V: Drop> Others<V> {
     }
 }
 
+impl<V: Drop> Others<V> {
+    /// Equal cells. They are copied as they are found, since a hash needs no order.
+    pub(crate) fn copy<C: Copies<V>>(
+        &self,
+        alloc: Global,
+        copier: &C,
+    ) -> Result<Others<V>, NoMemory>
+        ensures { IfOk result (λ others. others ≡ self.now) }
+    {
+        let cells = self.cells.len();
+        let mut copied = with_room(alloc, cells)?;
+        copy_each(alloc, &mut copied, &self.cells, copier)?;
+        Ok(copied)
+    }
+}
+
+/// No cells, and room for some.
+fn with_room<V>(alloc: Global, cells: usize) -> Result<Others<V>, NoMemory>
+    ensures { IfOk result (λ others. others ≡ map.empty) }
+{
+    match HashMap::with_capacity(alloc, cells) {
+        Ok(cells) => Ok(Others { cells }),
+        Err(_) => Err(NoMemory),
+    }
+}
+
+/// Inserts copies of cells, one after another.
+fn copy_each<V: Drop, C: Copies<V>>(
+    alloc: Global,
+    copied: &mut Others<V>,
+    cells: &HashMap<InstanceId, V>,
+    copier: &C,
+) -> Result<(), NoMemory>
+    ensures { OnOk result (copied.new ≡ insert_each copied.old cells.now.entries) }
+{
+    for (inst, value) in cells {
+        let key = inst.copy(alloc)?;
+        let value = copier.copy(alloc, value)?;
+        copied.insert(key, value)?;
+    }
+    Ok(())
+}
+
 impl<V> Others<V> {
     /// The cells in order of their instances.
     pub(crate) fn in_order(&self, alloc: Global) -> Result<BTreeMap<&InstanceId, &V>, NoMemory>
@@ -94,14 +138,6 @@ impl<V> Others<V> {
         add_each(&mut tree, &self.cells)?;
         let _count = tree.len();
         Ok(tree)
-    }
-
-    /// The cell of the least instance. None where there is no cell. It takes no memory.
-    pub(crate) fn first(&self) -> Option<(&InstanceId, &V)>
-        ensures { option_map seen_in result ≡ slice_get (map.entries self.now) 0 }
-    {
-        let _cells = self.cells.len();
-        least_of(&self.cells)
     }
 }
 
@@ -115,33 +151,4 @@ fn add_each<'a, V>(
         tree.insert(inst, value)?;
     }
     Ok(())
-}
-
-fn least_of<V>(cells: &HashMap<InstanceId, V>) -> Option<(&InstanceId, &V)>
-    ensures { option_map seen_in result ≡ least None cells.now.entries }
-{
-    let mut least = None;
-    for (inst, value) in cells {
-        least = lesser_of(least, inst, value);
-    }
-    least
-}
-
-pub(crate) fn lesser_of<'a, V>(
-    first: Option<(&'a InstanceId, &'a V)>,
-    inst: &'a InstanceId,
-    value: &'a V,
-) -> Option<(&'a InstanceId, &'a V)>
-    ensures { option_map seen_in result ≡ lesser (option_map seen_in first.entry) (inst.now, value.now) }
-{
-    match first {
-        Some((least, at)) => {
-            if inst.cmp(least).is_gt() {
-                Some((least, at))
-            } else {
-                Some((inst, value))
-            }
-        }
-        None => Some((inst, value)),
-    }
 }

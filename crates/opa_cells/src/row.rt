@@ -1,13 +1,14 @@
 // The cells of one number: one of them at hand, and the others.
-ghost use Rattle.std.specs.Prelude.{◌≡◌, map as items, slice_get, IfOk, OnOk, OnErr, is_some, not};
+ghost use Rattle.std.specs.Prelude.{◌≡◌, map as items, IfOk, OnOk, OnErr, is_some, not};
 ghost use Rattle.std.specs.Option.{option_copied, option_map};
 ghost use Rattle.std.specs.FinMap as map;
 ghost use Rattle.opa_cells.specs.Rows.{kept_if, holds, without, one_kept, seen_in};
 ghost use Rattle.opa_cells.specs.declared.instance.InstanceId.{InstanceId as InstanceView};
 
+use crate::cells::Copies;
 use crate::instance::InstanceId;
 use crate::keeps::Keeps;
-use crate::others::{Others, lesser_of};
+use crate::others::Others;
 use opa_io::NoMemory;
 use std::alloc::Global;
 use std::collections::BTreeMap;
@@ -100,9 +101,9 @@ impl<V: Drop> Row<V> {
             return Ok(false);
         }
         if self.one.is_none() {
-            let new = self.others.get(&inst).is_none();
+            let was = self.others.remove(&inst);
             self.one = Some((inst, value));
-            return Ok(new);
+            return Ok(!was);
         }
         self.others.insert(inst, value)
     }
@@ -164,6 +165,35 @@ fn kept<V: Drop, K: Keeps<V>>(
     }
 }
 
+impl<V: Drop> Row<V> {
+    /// An equal row.
+    pub(crate) fn copy<C: Copies<V>>(&self, alloc: Global, copier: &C) -> Result<Row<V>, NoMemory>
+        ensures { IfOk result (λ row. row ≡ self.now) }
+    {
+        let one = copy_one(alloc, &self.one, copier)?;
+        let others = self.others.copy(alloc, copier)?;
+        Ok(Row { one, others })
+    }
+}
+
+/// An equal cell, if there is one.
+fn copy_one<V: Drop, C: Copies<V>>(
+    alloc: Global,
+    one: &Option<(InstanceId, V)>,
+    copier: &C,
+) -> Result<Option<(InstanceId, V)>, NoMemory>
+    ensures { IfOk result (λ copied. copied ≡ one.now) }
+{
+    match one {
+        Some((inst, value)) => {
+            let key = inst.copy(alloc)?;
+            let value = copier.copy(alloc, value)?;
+            Ok(Some((key, value)))
+        }
+        None => Ok(None),
+    }
+}
+
 impl<V> Row<V> {
     /// The cells in order of their instances.
     pub(crate) fn in_order(&self, alloc: Global) -> Result<BTreeMap<&InstanceId, &V>, NoMemory>
@@ -176,16 +206,6 @@ impl<V> Row<V> {
                 tree.insert(inst, value)?;
                 Ok(tree)
             }
-        }
-    }
-
-    /// The cell of the least instance. None where there is no cell. It takes no memory.
-    pub(crate) fn first(&self) -> Option<(&InstanceId, &V)>
-        ensures { option_map seen_in result ≡ slice_get (map.entries self.now) 0 }
-    {
-        match &self.one {
-            None => self.others.first(),
-            Some((inst, value)) => lesser_of(self.others.first(), inst, value),
         }
     }
 }

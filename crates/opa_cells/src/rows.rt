@@ -1,12 +1,13 @@
-ghost use Rattle.std.specs.Prelude.{map as items, ◌≡◌, ◌<◌, ◌^◌, ◌++◌, length, IfOk, OnOk, OnErr, is_some, IsNone, Some, None, not, true, ℕ, Bool};
+ghost use Rattle.std.specs.Prelude.{map as items, ◌≡◌, ◌<◌, ◌^◌, ◌++◌, length, IfOk, OnOk, OnErr, is_some, IsNone, Some, None, not, true, [], ℕ, Bool};
 ghost use Rattle.std.specs.Option.{option_copied};
 ghost use Rattle.std.specs.FinMap as map;
 ghost use Rattle.std.specs.BTreeMap.{is_at};
 ghost use Rattle.std.specs.Map.{lookup};
 ghost use Rattle.std.specs.Ordering.{nat_cmp};
-ghost use Rattle.opa_cells.specs.Rows.{with_rows, kept_if, row_entries, all_entries, insert_each, tree_map, cells_in, cells_at, seen, seen_in};
+ghost use Rattle.opa_cells.specs.Rows.{with_rows, kept_if, row_entries, all_entries, insert_each, tree_map, by_number, cells_in, cells_at, seen, seen_in};
 ghost use Rattle.opa_cells.specs.declared.instance.InstanceId.{InstanceId as InstanceView};
 
+use crate::cells::Copies;
 use crate::instance::InstanceId;
 use crate::keeps::Keeps;
 use crate::row::Row;
@@ -123,6 +124,64 @@ impl<V: Drop> Rows<V> {
             row.retain(*number, keeper);
             true
         });
+    }
+}
+
+impl<V: Drop> Rows<V> {
+    /// An equal map. Its rows are copied as they are found, since a hash needs no order.
+    pub(crate) fn copy<C: Copies<V>>(&self, alloc: Global, copier: &C) -> Result<Rows<V>, NoMemory>
+        ensures { IfOk result (λ rows. rows ≡ self.now) }
+    {
+        let rows = copy_rows(alloc, &self.rows, copier)?;
+        Ok(Rows { alloc, rows })
+    }
+}
+
+fn copy_rows<V: Drop, C: Copies<V>>(
+    alloc: Global,
+    rows: &HashMap<u32, Row<V>>,
+    copier: &C,
+) -> Result<HashMap<u32, Row<V>>, NoMemory>
+    ensures { IfOk result (λ copied. with_rows copied.entries ≡ with_rows rows.now.entries) }
+{
+    let len = rows.len();
+    let mut copied = with_room(alloc, len)?;
+    copy_each(alloc, &mut copied, rows, copier)?;
+    Ok(copied)
+}
+
+/// No rows, and room for some.
+fn with_room<V>(alloc: Global, rows: usize) -> Result<HashMap<u32, Row<V>>, NoMemory>
+    ensures { IfOk result (λ rows. rows.entries ≡ []) }
+{
+    match HashMap::with_capacity(alloc, rows) {
+        Ok(rows) => Ok(rows),
+        Err(_) => Err(NoMemory),
+    }
+}
+
+/// Inserts copies of rows, one after another.
+fn copy_each<V: Drop, C: Copies<V>>(
+    alloc: Global,
+    copied: &mut HashMap<u32, Row<V>>,
+    rows: &HashMap<u32, Row<V>>,
+    copier: &C,
+) -> Result<(), NoMemory>
+    ensures { OnOk result (by_number copied.new.entries ≡ insert_each (by_number copied.old.entries) rows.now.entries) }
+{
+    for (number, row) in rows {
+        let row = row.copy(alloc, copier)?;
+        put(copied, *number, row)?;
+    }
+    Ok(())
+}
+
+fn put<V: Drop>(rows: &mut HashMap<u32, Row<V>>, number: u32, row: Row<V>) -> Result<(), NoMemory>
+    ensures { OnOk result (by_number rows.new.entries ≡ map.insert (by_number rows.old.entries) number row) }
+{
+    match rows.insert(number, row) {
+        Ok(_) => Ok(()),
+        Err(_) => Err(NoMemory),
     }
 }
 

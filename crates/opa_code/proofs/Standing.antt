@@ -1,5 +1,7 @@
 -- Lines that stand for meanings.
-use Rattle.std.proofs.Common.{◌≡◌, ℕ, zero, suc, ◌-◌, ◌<◌, Bool, true, false, List, [], ◌∷◌, ◌++◌, length, take, drop, map, Some, refl, sym, ◌∙◌, ap, subst}
+use Rattle.std.proofs.Common.{◌≡◌, ℕ, zero, suc, ◌-◌, ◌<◌, Bool, true, false, List, [], ◌∷◌, ◌++◌, length, take, drop, map, Some, refl, sym, ◌∙◌, ap, subst, arith}
+use Rattle.std.proofs.lemmas.List.{length-append}
+use Rattle.std.proofs.Math.Seq.{take-append_seam, drop-append_seam}
 use Rattle.opa_date.specs.declared.TheConstants.{DAYS}
 use Rattle.opa_value.specs.declared.value.Value.{Value}
 use Rattle.opa_value.specs.declared.value.Value.TheVariants.{Unknown}
@@ -18,6 +20,7 @@ use Rattle.opa_mean.specs.Operations.{op_of}
 use Rattle.opa_mean.proofs.Values.{window_more}
 use Rattle.opa_code.specs.OverLines.Lines.{Has as HasAll, Stand, meaning_of, values_at}
 use Rattle.opa_code.specs.Running.{put, node_meaning, operand_count, sole, chosen, IsStep}
+use Rattle.opa_code.specs.Steps.{IsChosen}
 use Rattle.opa_code.specs.declared.node.Node.{Node}
 use Rattle.opa_code.specs.declared.node.Node.TheVariants as node
 
@@ -39,6 +42,11 @@ has_made made l f is stands d lt = ap (λ k. day_value k d) is ∙ day_is made f
 pub each_lines : (lines : Lines) (enclosing : List InstanceId) (d : ℕ) → each (map meaning_of lines) enclosing d ≡ values_at lines d
 each_lines [] enclosing d = refl
 each_lines (l ∷ ls) enclosing d = ap (λ vs. day_value l d ∷ vs) (each_lines ls enclosing d)
+
+-- three that were added one after another
+three_behind : (ls : Lines) (x y z : List (ℕ × Value)) → ((ls ++ x ∷ []) ++ y ∷ []) ++ z ∷ [] ≡ ls ++ (x ∷ y ∷ z ∷ [])
+three_behind [] x y z = refl
+three_behind (l ∷ ls) x y z = ap (λ ks. l ∷ ks) (three_behind ls x y z)
 
 module _ (enclosing : List InstanceId) where
   pub stand_length : (ls : Lines) (ms : List Meaning) → Stand enclosing ls ms → length ls ≡ length ms
@@ -195,3 +203,14 @@ module _ (enclosing : List InstanceId) where
       (subst (λ xs. Stand enclosing (xs ++ line ∷ []) (take from st ++ node_meaning l n (drop from st) ∷ [])) (sym left_is)
       (stand_more (take from old) (take from st) line (node_meaning l n (drop from st)) (stand_take from old st h)
       (λ d lt. stands ok d lt ∙ node_same l n (drop from old) (drop from st) (stand_drop from old st h) d lt)))
+
+  -- a choice whose operands are taken one after another
+  pub chosen_stands : (l : Look) (old new : Lines) (st : List Meaning) → IsChosen old new → Stand enclosing old st → Stand enclosing new (put l node.Choose st)
+  chosen_stands l old new st c h =
+      let three = c.test ∷ c.value ∷ c.rest ∷ [] in
+      let is : old ≡ c.below ++ three = c.is ∙ three_behind c.below c.test c.value c.rest in
+      let from : length c.below ≡ length old - 3 = (let a = length-append c.below three in let b = ap length is in omega (arith, a, b)) in
+      let under : c.below ≡ take (length c.below) old = sym (ap (take (length c.below)) is ∙ take-append_seam c.below three) in
+      let over : three ≡ drop (length c.below) old = sym (ap (drop (length c.below)) is ∙ drop-append_seam c.below three) in
+      subst (λ ls. Stand enclosing ls (put l node.Choose st)) (sym c.new_is)
+      (put_stands l node.Choose old c.below st (length c.below) c.line from under (λ _. subst (λ ls. HasAll (chosen (map meaning_of ls) enclosing) c.line) over c.has) tt h)

@@ -12,9 +12,9 @@ use Rattle.opa_window.specs.Days.{day_value}
 use Rattle.opa_cells.specs.Instances.{named}
 use Rattle.opa_cells.specs.declared.instance.InstanceId.{InstanceId}
 use Rattle.opa_mean.specs.Looks.{Look}
-use Rattle.opa_mean.specs.Meaning.{Meaning, each, first_value, item, over}
+use Rattle.opa_mean.specs.Meaning.{Meaning, choose, each, first_value, item, over}
 use Rattle.opa_code.specs.OverLines.Additions.{Gathered, IsAdded}
-use Rattle.opa_code.specs.OverLines.Lines.{Stand, values_at}
+use Rattle.opa_code.specs.OverLines.Lines.{Has, Stand, values_at}
 use Rattle.opa_code.specs.OverLines.Tallies.{gather_of}
 use Rattle.opa_code.specs.declared.over_lines.gathering.Gathering.{Gathering}
 use Rattle.opa_code.specs.declared.over_lines.items.Items.{Items}
@@ -67,6 +67,17 @@ pub record IsRefuted (lines : List (List (ℕ × Value))) : Type 0 where
   pub newest : List (ℕ × Value)
   pub is : lines ≡ before ++ newest ∷ []
   pub false_always : (d : ℕ) → day_value newest d ≡ Truth false
+
+-- a condition, a value and what stands behind them are taken from the end, and what is chosen is put there
+pub record IsChosen (old new : List (List (ℕ × Value))) : Type 0 where
+  pub below : List (List (ℕ × Value))
+  pub test : List (ℕ × Value)
+  pub value : List (ℕ × Value)
+  pub rest : List (ℕ × Value)
+  pub line : List (ℕ × Value)
+  pub is : old ≡ ((below ++ test ∷ []) ++ value ∷ []) ++ rest ∷ []
+  pub new_is : new ≡ below ++ line ∷ []
+  pub has : Has (λ d. choose (day_value test d) (day_value value d) (day_value rest d)) line
 
 abbrev pub IsOver : Look → List InstanceId → List Node → Quant → RelId → ℕ → ℕ → List (ℕ × Value) → Type 0
 IsOver l enclosing operand q r source target line = (ms : List Meaning) → Run l operand [] ms → StandsFor DAYS (over_meaning l q r source target ms enclosing) line

@@ -1,5 +1,5 @@
 // A node, carried out over the lines of its operands.
-ghost use Rattle.std.specs.Prelude.{◌≡◌, ◌≤◌, ◌∷◌, ◌++◌, [], None, List as Seq, map, drop, IfOk, OnOk};
+ghost use Rattle.std.specs.Prelude.{◌≡◌, ◌≤◌, ◌∷◌, ◌++◌, [], None, List as Seq, map, drop, length, IfOk, IsTrue, OnOk};
 ghost use Rattle.opa_cells.specs.declared.instance.InstanceId.{InstanceId as Instance};
 ghost use Rattle.opa_date.specs.declared.TheConstants.{DAYS};
 ghost use Rattle.opa_line.specs.Lines.{StandsFor};
@@ -10,12 +10,13 @@ ghost use Rattle.opa_mean.specs.Places.{place};
 ghost use Rattle.opa_mean.specs.Looks.{Look as Looked};
 ghost use Rattle.opa_code.specs.OverLines.Lines.{Has, Stand, meaning_of};
 ghost use Rattle.opa_code.specs.Running.{IsStep, node_meaning, operand_count as count_of, put, sole, chosen};
-ghost use Rattle.opa_code.specs.Steps.{attribute_in};
+ghost use Rattle.opa_code.specs.Steps.{IsChosen, attribute_in};
+ghost use Rattle.opa_code.specs.declared.node.Node.TheVariants as nodes_of;
 
 use crate::node::Node;
 use crate::over_lines::{
-    Gathering, Operand, certain_line, choice_line, gathered_over, known_line, not_line, op_over,
-    rolling_line, window_line,
+    Gathering, Operand, certain_line, choice_line, choice_over, gathered_over, known_line, newest,
+    not_line, op_over, rolling_line, window_line,
 };
 use opa_case::InstanceId;
 use opa_io::NoMemory;
@@ -35,6 +36,45 @@ pub(crate) fn add<'a>(operands: &mut Vec<Operand<'a>>, operand: Operand<'a>) -> 
 
 /// Takes the operands of a node from the end, and puts there what it makes of them.
 pub(crate) fn carry_out<'a, K: Look>(
+    alloc: Global,
+    look: &'a K,
+    stack: &mut Vec<Operand<'a>>,
+    node: &Node,
+    enclosing: &[InstanceId],
+) -> Result<(), NoMemory>
+    ensures { OnOk result ((st : Seq meant.Meaning) → IsStep node.now → Stand enclosing.now stack.old.items st → Stand enclosing.now stack.new.items (put (K.looks look.now) node.now st)) }
+{
+    if can_choose(node, stack) {
+        choose(alloc, stack)
+    } else {
+        carry(alloc, look, stack, node, enclosing)
+    }
+}
+
+/// Whether a node is a choice whose operands are there.
+fn can_choose(node: &Node, stack: &[Operand<'_>]) -> bool
+    ensures { IsTrue result → (node.now ≡ nodes_of.Choose) × (3 ≤ length stack.now) }
+{
+    match node {
+        Node::Choose => stack.len() >= 3,
+        _ => false,
+    }
+}
+
+/// Takes a condition, a value and what stands behind them from the end, and puts there what is chosen.
+fn choose(alloc: Global, stack: &mut Vec<Operand<'_>>) -> Result<(), NoMemory>
+    requires { 3 ≤ length stack.old.items }
+    ensures { OnOk result (IsChosen stack.old.items stack.new.items) }
+{
+    let rest = newest(stack);
+    let value = newest(stack);
+    let cond = newest(stack);
+    let operand = choice_over(alloc, cond, value, rest)?;
+    add(stack, operand)
+}
+
+/// The same for any node, which reads its operands where they are.
+fn carry<'a, K: Look>(
     alloc: Global,
     look: &'a K,
     stack: &mut Vec<Operand<'a>>,

@@ -1,5 +1,5 @@
 // Code, carried out over whole lines.
-ghost use Rattle.std.specs.Prelude.{◌≡◌, ◌∷◌, [], IfOk};
+ghost use Rattle.std.specs.Prelude.{IfOk};
 ghost use Rattle.opa_date.specs.declared.TheConstants.{DAYS};
 ghost use Rattle.opa_line.specs.Lines.{StandsFor};
 ghost use Rattle.opa_value.specs.Fit.{fit_of};
@@ -10,12 +10,13 @@ use crate::Code;
 use crate::over_lines::{Operand, fitted_line, taken_first};
 use crate::run::run;
 use opa_case::InstanceId;
-use opa_io::{List, NoMemory};
+use opa_io::NoMemory;
 use opa_line::Line;
 use opa_mean::{Derive, Look};
 use opa_model::AttrId;
 use opa_value::Value;
 use std::alloc::Global;
+use std::slice;
 
 impl Derive for Code {
     ghost use Rattle.opa_code.specs.Rulebases.{rulebase_of};
@@ -32,21 +33,12 @@ impl Derive for Code {
         match self.of(attr) {
             None => Line::constant(alloc, Value::Unknown),
             Some(code) => {
-                let enclosing = alone(alloc, inst)?;
-                let lines = run(alloc, look, code.nodes.as_slice(), enclosing.as_slice())?;
+                let enclosing = slice::from_ref(inst);
+                let lines = run(alloc, look, code.nodes.as_slice(), enclosing)?;
                 concluded_line(alloc, code.money, lines)
             }
         }
     }
-}
-
-/// An instance as the only enclosing one.
-fn alone(alloc: Global, inst: &InstanceId) -> Result<List<InstanceId>, NoMemory>
-    ensures { IfOk result (λ all. all ≡ inst.now ∷ []) }
-{
-    let mut all = List::new(alloc);
-    all.push(inst.copy(alloc)?)?;
-    Ok(all)
 }
 
 /// What the nodes of a rule's tree left, concluded.

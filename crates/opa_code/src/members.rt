@@ -77,9 +77,6 @@ fn add_looked_up<'a, K: Look>(
 {
     match look.line(attr, inst) {
         None => items.add_value(alloc, &Value::Unknown),
-        Some(line) => {
-            let operand = Operand::seen(line);
-            items.add(alloc, &operand)
-        }
+        Some(line) => items.add(alloc, Operand::seen(line)),
     }
 }

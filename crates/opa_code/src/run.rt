@@ -22,6 +22,9 @@ use opa_tree::Quant;
 use opa_value::Value;
 use std::alloc::Global;
 
+/// How many operands a stack has room for at first.
+const FIRST_ROOM: usize = 8;
+
 /// The lines that nodes leave at enclosing instances.
 #[cycle(running)]
 pub(crate) fn run<'a, K: Look>(
@@ -32,7 +35,7 @@ pub(crate) fn run<'a, K: Look>(
 ) -> Result<Vec<Operand<'a>>, NoMemory>
     ensures { IfOk result (λ lines. Leaves (K.looks look.now) enclosing.now nodes.now lines.items) }
 {
-    let mut stack = Vec::new(alloc);
+    let mut stack = Vec::with_capacity(alloc, nodes.len().min(FIRST_ROOM))?;
     let mut rest = nodes;
     while let Some((node, after)) = front(rest) {
         rest = step(alloc, look, &mut stack, node, after, enclosing)?;
@@ -193,7 +196,7 @@ fn add_item<'a, K: Look>(
         Some((attr, owner)) => add_attribute(alloc, look, attr, owner, enclosing, items),
         None => {
             let lines = run(alloc, look, operand, enclosing)?;
-            items.add_item(alloc, quant, &lines)
+            items.add_item(alloc, quant, lines)
         }
     }
 }

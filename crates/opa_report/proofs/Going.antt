@@ -21,6 +21,7 @@ use Rattle.opa_report.specs.declared.found.Found.{Found}
 use Rattle.opa_report.specs.Adding.{Adds}
 use Rattle.opa_mean.specs.PartUses.{rows_uses}
 use Rattle.opa_report.specs.Spreading.{is_truth, all_false, none, AddsRows}
+use Rattle.opa_report.proofs.Choosing.{neither, either_way, twice}
 use Rattle.opa_report.proofs.Combining.{adds_nothing, adds_same, adds_both, adds_where}
 use Rattle.opa_report.proofs.Firsts.{picks, picks_more, picks_are, next_item, any_next, flat_next}
 
@@ -40,38 +41,48 @@ each_step D u xs i x f g h lt is before here = adds_same D _ _ f h (λ d _ _. fl
 
 -- the first of several that passes
 module _ {X : Type 0} (p : ℕ → X → Bool) (u : ℕ → X → List Use) (xs : List X) (days : List (ℕ × Bool)) where
-  pub record IsGoing (i : ℕ) (passed : List (ℕ × Bool)) (old new : Found) : Type 0 where
-    pub passes : StandsFor DAYS (λ d. list_any (p d) (take i xs)) passed
+  -- the days on which none of the first ones passes
+  abbrev pub AreLeft : ℕ → List (ℕ × Bool) → Type 0
+  AreLeft i left = StandsFor DAYS (λ d. on days d && not (list_any (p d) (take i xs))) left
+
+  pub left_start : (left : List (ℕ × Bool)) → StandsFor DAYS (λ d. on days d && on days d) left → AreLeft 0 left
+  left_start left h = λ d low. h d low ∙ ap Some (twice (on days d))
+
+  pub left_step : (i : ℕ) (x : X) (t : Bool) (line : List (ℕ × Value)) (left left' : List (ℕ × Bool)) → i < length xs → x ≡ get_or xs i x → ((d : ℕ) → d < DAYS → is_truth t (day_value line d) ≡ p d x)
+      → AreLeft i left → StandsFor DAYS (λ d. on left d && not (is_truth t (day_value line d))) left' → AreLeft (i + 1) left'
+  left_step i x t line left left' lt is value before here = λ d low.
+      here d low ∙ ap Some (ap₂ (λ a b. a && not b) (on_is _ left d before low) (value d low) ∙ neither (on days d) (list_any (p d) (take i xs)) (p d x) ∙ ap (λ b. on days d && not b) (sym (any_next (p d) xs i x lt is)))
+
+  pub left_end : (i : ℕ) (left : List (ℕ × Bool)) → take i xs ≡ xs → AreLeft i left → StandsFor DAYS (λ d. on days d && not (list_any (p d) xs)) left
+  left_end i left all are = λ d low. are d low ∙ ap (λ ys. Some (on days d && not (list_any (p d) ys))) all
+
+  pub record IsGoing (i : ℕ) (left : List (ℕ × Bool)) (old new : Found) : Type 0 where
+    pub are_left : AreLeft i left
     pub adds : Adds (on days) (λ d. picks (p d) (u d) (not (list_any (p d) xs)) false (take i xs)) old new
 
-  pub going_start : (passed : List (ℕ × Bool)) (f : Found) → StandsFor DAYS (λ _. false) passed → IsGoing 0 passed f f
-  going_start passed f h = record { passes = h; adds = adds_nothing (on days) f }
+  pub going_start : (left : List (ℕ × Bool)) (f : Found) → StandsFor DAYS (λ d. on days d && on days d) left → IsGoing 0 left f f
+  going_start left f h = record { are_left = left_start left h; adds = adds_nothing (on days) f }
 
-  pub going_step : (i : ℕ) (x : X) (t : Bool) (line : List (ℕ × Value)) (any passed passed' first : List (ℕ × Bool)) (f g h : Found) → i < length xs → x ≡ get_or xs i x → IsGoing i passed f g
+  pub going_step : (i : ℕ) (x : X) (t : Bool) (line : List (ℕ × Value)) (undecided left left' first : List (ℕ × Bool)) (f g h : Found) → i < length xs → x ≡ get_or xs i x → IsGoing i left f g
       → ((d : ℕ) → d < DAYS → is_truth t (day_value line d) ≡ p d x)
-      → StandsFor DAYS (λ d. list_any (p d) xs) any
-      → StandsFor DAYS (λ d. on days d && (not (on any d) || (not (on passed d) && is_truth t (day_value line d)))) first
-      → StandsFor DAYS (λ d. on passed d || is_truth t (day_value line d)) passed'
-      → Adds (on first) (λ d. u d x) g h → IsGoing (i + 1) passed' f h
-  going_step i x t line any passed passed' first f g h lt is going value anys firsts passes' here = record {
-    passes = λ d low.
-        passes' d low ∙ ap Some (ap₂ (λ a b. a || b) (on_is _ passed d going.passes low) (value d low) ∙ sym (any_next (p d) xs i x lt is));
+      → StandsFor DAYS (λ d. on days d && not (list_any (p d) xs)) undecided
+      → StandsFor DAYS (λ d. on undecided d || (on left d && is_truth t (day_value line d))) first
+      → StandsFor DAYS (λ d. on left d && not (is_truth t (day_value line d))) left'
+      → Adds (on first) (λ d. u d x) g h → IsGoing (i + 1) left' f h
+  going_step i x t line undecided left left' first f g h lt is going value opens firsts lefts here = record {
+    are_left = left_step i x t line left left' lt is value going.are_left lefts;
     adds = adds_same (on days) _ _ f h
         (λ d _ _. sym (picks_more (p d) (u d) (not (list_any (p d) xs)) false (take i xs) x) ∙ ap (picks (p d) (u d) (not (list_any (p d) xs)) false) (sym (next_item xs i x lt is)))
         (adds_both (on days) _ _ f g h going.adds
         (adds_where (on days) (λ d. not (list_any (p d) xs) || (not (list_any (p d) (take i xs)) && p d x)) (on first) (λ d. u d x) g h
         (λ d low. on_is _ first d firsts low
-        ∙ ap (λ b. on days d && (not b || (not (on passed d) && is_truth t (day_value line d)))) (on_is _ any d anys low)
-        ∙ ap (λ b. on days d && (not (list_any (p d) xs) || (not b && is_truth t (day_value line d)))) (on_is _ passed d going.passes low)
-        ∙ ap (λ b. on days d && (not (list_any (p d) xs) || (not (list_any (p d) (take i xs)) && b))) (value d low)) here));
+        ∙ ap₂ (λ a b. a || (b && is_truth t (day_value line d))) (on_is _ undecided d opens low) (on_is _ left d going.are_left low)
+        ∙ ap (λ b. (on days d && not (list_any (p d) xs)) || ((on days d && not (list_any (p d) (take i xs))) && b)) (value d low)
+        ∙ either_way (on days d) (list_any (p d) xs) (list_any (p d) (take i xs)) (p d x)) here));
   }
 
-  pub going_end : (i : ℕ) (passed : List (ℕ × Bool)) (f g : Found) → take i xs ≡ xs → IsGoing i passed f g → Adds (on days) (λ d. first_or_all (p d) (u d) xs) f g
-  going_end i passed f g all going = adds_same (on days) _ _ f g (λ d _ _. ap (picks (p d) (u d) (not (list_any (p d) xs)) false) all ∙ picks_are (p d) (u d) xs) going.adds
-
-pub any_step : {X : Type 0} (p : ℕ → X → Bool) (xs : List X) (i : ℕ) (x : X) (t : Bool) (line : List (ℕ × Value)) (any any' : List (ℕ × Bool)) → i < length xs → x ≡ get_or xs i x → ((d : ℕ) → d < DAYS → is_truth t (day_value line d) ≡ p d x)
-    → StandsFor DAYS (λ d. list_any (p d) (take i xs)) any → StandsFor DAYS (λ d. on any d || is_truth t (day_value line d)) any' → StandsFor DAYS (λ d. list_any (p d) (take (i + 1) xs)) any'
-any_step p xs i x t line any any' lt is value before here d low = here d low ∙ ap Some (ap₂ (λ a b. a || b) (on_is _ any d before low) (value d low) ∙ sym (any_next (p d) xs i x lt is))
+  pub going_end : (i : ℕ) (left : List (ℕ × Bool)) (f g : Found) → take i xs ≡ xs → IsGoing i left f g → Adds (on days) (λ d. first_or_all (p d) (u d) xs) f g
+  going_end i left f g all going = adds_same (on days) _ _ f g (λ d _ _. ap (picks (p d) (u d) (not (list_any (p d) xs)) false) all ∙ picks_are (p d) (u d) xs) going.adds
 
 -- rows, one behind the other
 module _ (s : Shape) (l : Look) where
@@ -116,11 +127,7 @@ module _ (s : Shape) (l : Look) where
   within_both false t us vs = refl
 
   pub rows_start : (enclosing : List InstanceId) (days rest : List (ℕ × Bool)) (f : Found) → StandsFor DAYS (λ d. on days d && on days d) rest → AddsRows s l [] enclosing days f f rest
-  rows_start enclosing days rest f h = record { adds = adds_nothing (on days) f; left = λ d low. h d low ∙ ap Some (same (on days d)) }
-    where
-      same : (b : Bool) → (b && b) ≡ (b && true)
-      same true = refl
-      same false = refl
+  rows_start enclosing days rest f h = record { adds = adds_nothing (on days) f; left = λ d low. h d low ∙ ap Some (twice (on days d)) }
 
   pub rows_step : (rs : List Row) (i : ℕ) (r : Row) (enclosing : List InstanceId) (days rest taken_days rest' : List (ℕ × Bool)) (line : List (ℕ × Value)) (f g h k : Found) → i < length rs → r ≡ get_or rs i r
       → AddsRows s l (take i rs) enclosing days f g rest → Adds (on rest) (uses s l r.cond enclosing) g h → StandsFor DAYS (value s l r.cond enclosing) line

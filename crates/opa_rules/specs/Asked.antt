@@ -8,7 +8,9 @@ use Rattle.opa_rules.specs.declared.reading.Mode.TheVariants as mode
 abbrev pub mode_named : List ℕ → Option Mode
 mode_named word =
     if bytes_eq word (codes "describe") then Some mode.Describe else
-    if bytes_eq word (codes "faults") then Some mode.Faults else None
+    if bytes_eq word (codes "faults") then Some mode.Faults else
+    if bytes_eq word (codes "print") then Some mode.Print else
+    if bytes_eq word (codes "review") then Some mode.Review else None
 
 abbrev pub begins_with_dash : List ℕ → Bool
 begins_with_dash [] = false

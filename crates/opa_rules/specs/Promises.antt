@@ -11,6 +11,8 @@ use Rattle.opa_tree.specs.declared.rulebase.Rulebase.{Rulebase}
 use Rattle.opa_rulebase.specs.Loading.{Opens}
 use Rattle.opa_rules.specs.Describing.Description.{described}
 use Rattle.opa_rules.specs.Faults.Finding.{Finds}
+use Rattle.opa_rules.specs.Printing.Prints.{IsPrintOf}
+use Rattle.opa_rules.specs.Reviewing.Findings.{reviewed}
 use Rattle.opa_rules.specs.declared.reading.Mode.{Mode}
 use Rattle.opa_rules.specs.declared.reading.Mode.TheVariants as mode
 use Rattle.opa_rules.specs.Asked.{asked_of, usage}
@@ -19,6 +21,11 @@ use Rattle.opa_rules.specs.Asked.{asked_of, usage}
 abbrev pub answer : Result Rulebase (List ℕ) → List ℕ
 answer (Ok base) = described base
 answer (Err text) = text
+
+-- the lines of what is found of an accepted rulebase, or the printed refusal
+abbrev pub review_answer : Result Rulebase (List ℕ) → List ℕ
+review_answer (Ok base) = reviewed base
+review_answer (Err text) = text
 
 -- What is told of the outside: the files of the shelf, the bytes that were written, and the counts of faults of taking files and of
 -- writing.
@@ -57,6 +64,49 @@ module _ (name : List ℕ) (old new : Outside) where
   Describes status.WriteFault = Rose old.writes new.writes × Opening (λ opened. AppendsFront old.written new.written (answer opened))
   Describes status.NoMemory = Appends old.written new.written []
   Describes status.InputLimit = ⊥
+
+  -- a rulebase, whose print was written
+  abbrev pub WrotePrint : Result Rulebase (List ℕ) → Type 0
+  WrotePrint (Ok base) = (text : List ℕ) × IsPrintOf name base text × Appends old.written new.written text
+  WrotePrint (Err text) = ⊥
+
+  -- a rulebase or a refusal, and a front of its print was written or of its text
+  abbrev pub WroteFrontOfPrint : Result Rulebase (List ℕ) → Type 0
+  WroteFrontOfPrint (Ok base) = (text : List ℕ) × IsPrintOf name base text × AppendsFront old.written new.written text
+  WroteFrontOfPrint (Err text) = AppendsFront old.written new.written text
+
+  -- a rulebase, and nothing was written
+  abbrev pub WroteNoPrint : Result Rulebase (List ℕ) → Type 0
+  WroteNoPrint (Ok base) = Appends old.written new.written []
+  WroteNoPrint (Err text) = ⊥
+
+  -- How a print ends: with Done the files open a rulebase, and a text was written that opens the same one; with Refused they open
+  -- a refusal, which was written. With WriteFault the sink failed, and a front of that was written. With InputLimit they open a
+  -- rulebase that can't be printed so. Then, and else, nothing was written: taking a file failed, or there was no memory.
+  abbrev pub Prints : Status → Type 0
+  Prints status.Done = Opening WrotePrint
+  Prints status.Refused = Opening WroteRefusal
+  Prints status.Usage = ⊥
+  Prints status.ReadFault = Rose old.takes new.takes × Appends old.written new.written []
+  Prints status.WriteFault = Rose old.writes new.writes × Opening WroteFrontOfPrint
+  Prints status.NoMemory = Appends old.written new.written []
+  Prints status.InputLimit = Opening WroteNoPrint
+
+  -- a rulebase, and the lines of its findings were written
+  abbrev pub WroteReview : Result Rulebase (List ℕ) → Type 0
+  WroteReview (Ok base) = Appends old.written new.written (reviewed base)
+  WroteReview (Err text) = ⊥
+
+  -- How a review ends: with Done the files open a rulebase, and the lines of its findings were written, none if nothing was found.
+  -- All else is as with a description.
+  abbrev pub Reviews : Status → Type 0
+  Reviews status.Done = Opening WroteReview
+  Reviews status.Refused = Opening WroteRefusal
+  Reviews status.Usage = ⊥
+  Reviews status.ReadFault = Rose old.takes new.takes × Appends old.written new.written []
+  Reviews status.WriteFault = Rose old.writes new.writes × Opening (λ opened. AppendsFront old.written new.written (review_answer opened))
+  Reviews status.NoMemory = Appends old.written new.written []
+  Reviews status.InputLimit = ⊥
 
   -- what is found in the files under the name is of this sort
   abbrev pub Finding : (Option (List ℕ) → Type 0) → Type 0
@@ -103,5 +153,9 @@ pub record Promises (words : List (String Global)) (old new : Outside) (result :
   pub describe : (name : List ℕ) → Asks words mode.Describe name → Describes name old new result
   -- The mode `faults` lists the errors of the rulebase of the name.
   pub faults : (name : List ℕ) → Asks words mode.Faults name → Faults name old new result
+  -- The mode `print` prints what the files open under the name as one file.
+  pub print : (name : List ℕ) → Asks words mode.Print name → Prints name old new result
+  -- The mode `review` says what is worth a look in what the files open under the name.
+  pub review : (name : List ℕ) → Asks words mode.Review name → Reviews name old new result
   -- The files stay as they are.
   pub files : new.files ≡ old.files

@@ -17,3 +17,4 @@ mod whole;
 
 pub use describing::description;
 pub use laws::one_description;
+pub(crate) use origins::file_name;

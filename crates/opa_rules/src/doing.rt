@@ -3,7 +3,9 @@ ghost use Rattle.opa_rules.specs.Promises.{outside, Promises};
 
 use crate::describe::describe;
 use crate::faults::faults;
+use crate::print::print;
 use crate::reading::{Mode, read_words};
+use crate::review::review;
 use opa_io::{Shelf, Sink, Status};
 use opa_talk::tell;
 use std::alloc::Global;
@@ -24,6 +26,8 @@ pub fn rules<F: Shelf, K: Sink>(
         Some(asked) => match asked.mode {
             Mode::Describe => describe(alloc, asked.name, shelf, out),
             Mode::Faults => faults(alloc, asked.name, shelf, out),
+            Mode::Print => print(alloc, asked.name, shelf, out),
+            Mode::Review => review(alloc, asked.name, shelf, out),
         },
     }
 }

@@ -8,6 +8,8 @@ ghost use Rattle.opa_rules.specs.Asked as meant;
 pub enum Mode {
     Describe,
     Faults,
+    Print,
+    Review,
 }
 
 /// A mode, and the name of its rulebase.
@@ -24,6 +26,8 @@ fn mode_named(word: &str) -> Option<Mode>
     match word {
         "describe" => Some(Mode::Describe),
         "faults" => Some(Mode::Faults),
+        "print" => Some(Mode::Print),
+        "review" => Some(Mode::Review),
         _ => None,
     }
 }

@@ -118,7 +118,7 @@ fn factor<'t>(alloc: Global, names: &Names, tokens: Cursor<'t>) -> Result<Step<'
         Class::Number => Ok(finished(number_literal(text), rest)),
         Class::Date => Ok(finished(date_literal(text), rest)),
         Class::Text => {
-            let literal = Reading::literal(Value::Words(unquoted(alloc, text)?));
+            let literal = Reading::literal(Value::Words(unquoted(alloc, text)?.shared()?));
             Ok(Step::Done(literal, rest))
         }
         Class::True => Ok(Step::Done(Reading::literal(Value::Bool(true)), rest)),

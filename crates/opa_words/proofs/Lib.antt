@@ -14,6 +14,7 @@ pub mod QuoteLaws
 pub mod FrontLaws
 pub mod Separate
 pub mod LongestPieces
+pub mod QuotedTexts
 pub mod Ascii
 pub mod AsciiLetters
 pub mod FirstCharacter

@@ -1,13 +1,13 @@
 -- Which token is the longest, by what follows it.
 use Rattle.std.proofs.Common.{◌≡◌, ◌≤◌, ◌<◌, ℕ, List, [], ◌∷◌, ◌++◌, length, Bool, true, false, refl, sym, ap, subst, ◌∙◌, arith}
-use Rattle.std.specs.Prelude.{◌||◌, ◌==◌, cond, nat_le}
+use Rattle.std.specs.Prelude.{◌||◌, ◌==◌, nat_le}
 use Rattle.opa_io.proofs.Bools.{never_both}
-use Rattle.opa_io.proofs.Characters.{quote_test}
 use Rattle.opa_words.specs.declared.kinds.TokenKind.{TokenKind}
 use Rattle.opa_words.specs.declared.kinds.TokenKind.TheVariants as kind
-use Rattle.opa_words.specs.Kinds.{IsToken, IsLongest, is_single, is_symbol, doubled, quoted}
+use Rattle.opa_words.specs.Kinds.{IsToken, IsLongest, is_single, is_symbol}
 use Rattle.opa_words.proofs.Letters.{starts, token_starts, Peers, peers}
 use Rattle.opa_words.specs.Written.{parts}
+use Rattle.opa_words.proofs.QuotedTexts.{text_goes_on}
 use Rattle.opa_words.proofs.Separate.{parts_none}
 
 -- what is written after a token that is read on into nothing
@@ -30,47 +30,6 @@ longer (b ∷ p) [] rest r e h = absurd (omega (arith, h))
 longer (b ∷ p) (c ∷ f) rest r e h =
     let x = longer p f rest r (let k : f ++ r ≡ p ++ rest = cc e in k) (omega (arith, h)) in
     record { first = x.first; later = x.later; is = (let k : c ≡ b = cc e in ap (λ y. y ∷ f) k) ∙ ap (λ y. b ∷ y) x.is; back = x.back; from = x.from }
-
-not_quote : (c : ℕ) (t : Bool) → (c == 34) ≡ t → t ≡ false → c ≡ 34 → ⊥
-not_quote c t e f q = never_both (c == 34) (quote_test c q) (e ∙ f)
-
--- after a text between quotes comes a quote, or no longer text between quotes goes on there
-goes_on : (xs ys : List ℕ) (c : ℕ) (g : List ℕ) → doubled ys ++ 34 ∷ [] ≡ doubled xs ++ 34 ∷ c ∷ g → c ≡ 34
-goes_on [] [] c g e = absurd (cc e)
-goes_on [] (y ∷ ys) c g e = go (y == 34) refl e
-  where
-    go : (t : Bool) → (y == 34) ≡ t → cond t (34 ∷ 34 ∷ doubled ys) (y ∷ doubled ys) ++ 34 ∷ [] ≡ 34 ∷ c ∷ g → c ≡ 34
-    go true h k = let f : 34 ≡ c = cc k in sym f
-    go false h k = absurd (not_quote y (y == 34) refl h (let f : y ≡ 34 = cc k in f))
-goes_on (x ∷ xs) [] c g e = go (x == 34) refl e
-  where
-    nothing : (zs : List ℕ) → [] ≡ zs ++ 34 ∷ c ∷ g → ⊥
-    nothing [] k = absurd (cc k)
-    nothing (z ∷ zs) k = absurd (cc k)
-
-    go : (t : Bool) → (x == 34) ≡ t → 34 ∷ [] ≡ cond t (34 ∷ 34 ∷ doubled xs) (x ∷ doubled xs) ++ 34 ∷ c ∷ g → c ≡ 34
-    go true h k = absurd (cc k)
-    go false h k = absurd (nothing (doubled xs) (let f : [] ≡ doubled xs ++ 34 ∷ c ∷ g = cc k in f))
-goes_on (x ∷ xs) (y ∷ ys) c g e = go (x == 34) (y == 34) refl refl e (goes_on xs ys c g)
-  where
-    go : (s t : Bool) → (x == 34) ≡ s → (y == 34) ≡ t → cond t (34 ∷ 34 ∷ doubled ys) (y ∷ doubled ys) ++ 34 ∷ [] ≡ cond s (34 ∷ 34 ∷ doubled xs) (x ∷ doubled xs) ++ 34 ∷ c ∷ g
-        → (doubled ys ++ 34 ∷ [] ≡ doubled xs ++ 34 ∷ c ∷ g → c ≡ 34) → c ≡ 34
-    go true true h k e r = r (let f : doubled ys ++ 34 ∷ [] ≡ doubled xs ++ 34 ∷ c ∷ g = cc e in f)
-    go true false h k e r = absurd (not_quote y (y == 34) refl k (let f : y ≡ 34 = cc e in f))
-    go false true h k e r = absurd (not_quote x (x == 34) refl h (let f : 34 ≡ x = cc e in sym f))
-    go false false h k e r = r (let f : doubled ys ++ 34 ∷ [] ≡ doubled xs ++ 34 ∷ c ∷ g = cc e in f)
-
--- two texts that begin alike
-text_goes_on : (p f : List ℕ) (c : ℕ) (g : List ℕ) → IsToken kind.Text p → IsToken kind.Text f → f ≡ p ++ c ∷ g → parts c ≡ true → ⊥
-text_goes_on p f c g s t e h =
-    let k : quoted t.0 ≡ quoted s.0 ++ c ∷ g = sym t.2 ∙ e ∙ ap (λ x. x ++ c ∷ g) s.2 in
-    let m : doubled t.0 ++ 34 ∷ [] ≡ (doubled s.0 ++ 34 ∷ []) ++ c ∷ g = cc k in
-    let q : c ≡ 34 = goes_on s.0 t.0 c g (m ∙ seam (doubled s.0)) in
-    never_both (parts c) h (ap parts q)
-  where
-    seam : (xs : List ℕ) → (xs ++ 34 ∷ []) ++ c ∷ g ≡ xs ++ 34 ∷ c ∷ g
-    seam [] = refl
-    seam (x ∷ xs) = ap (λ y. x ∷ y) (seam xs)
 
 -- no token goes on over the end of another
 abbrev Kinds : TokenKind → TokenKind → Type 0
@@ -109,7 +68,7 @@ alike : (k l : TokenKind) (b c : ℕ) → b ≡ c → starts k b ≡ true → st
 alike k l b c e s t = peers_kinds k l (peers k l b s (subst (λ x. starts l x ≡ true) (sym e) t))
 
 no_longer : (k l : TokenKind) (b c : ℕ) (p g : List ℕ) → Kinds k l → IsToken k (b ∷ p) → IsToken l (b ∷ (p ++ c ∷ g)) → parts c ≡ true → ⊥
-no_longer kind.Text kind.Text b c p g a s t h = text_goes_on (b ∷ p) (b ∷ (p ++ c ∷ g)) c g s t refl h
+no_longer kind.Text kind.Text b c p g a s t h = never_both (parts c) h (ap parts (text_goes_on (b ∷ p) (b ∷ (p ++ c ∷ g)) c g s t refl))
 no_longer kind.Word kind.Text b c p g a s t h = a
 no_longer kind.Number kind.Text b c p g a s t h = a
 no_longer kind.Date kind.Text b c p g a s t h = a

@@ -1,4 +1,4 @@
-//! For who writes rules: prints what a rulebase declares, or lists its errors in words.
+//! For who writes rules: prints what a rulebase declares, lists its errors in words, or prints it as one file.
 #![tactic(auto)]
 
 use opa_io::{FileShelf, Gathered, Status, StdSink, flushed};

@@ -1,5 +1,5 @@
 -- Items that come one after another.
-use Rattle.std.proofs.Common.{◌≡◌, ℕ, ◌+◌, ◌<◌, ◌^◌, Bool, List, [], ◌∷◌, ◌++◌, Some, length, take, get_or, refl, sym, ◌∙◌, ap, subst, arith, append_assoc}
+use Rattle.std.proofs.Common.{◌≡◌, ℕ, ◌+◌, ◌<◌, ◌^◌, Bool, true, List, [], ◌∷◌, ◌++◌, Some, length, take, get_or, refl, sym, ◌∙◌, ap, subst, arith, append_assoc}
 use Rattle.std.specs.Prelude.{Result, Ok}
 use Rattle.std.specs.Fn.{Shared}
 use Rattle.std.proofs.lemmas.List.{map-append, length-map, length-append, length-take, take_more}
@@ -15,13 +15,17 @@ use Rattle.opa_tree.specs.declared.kinds.Quant.TheVariants as quant
 use Rattle.opa_window.specs.Days.{day_value}
 use Rattle.opa_code.specs.OverLines.Additions.{Alike, Gathered, HasRoom, IsAdded, KeepsFirst}
 use Rattle.opa_code.specs.OverLines.Lines.{values_at}
-use Rattle.opa_code.specs.OverLines.Tallies.{IsTally, IsBoth, IsCounted, AreConstant, AreSmall, told, gather_of, is_most}
+use Rattle.opa_code.specs.OverLines.Extremes.{AreBests, AreBothBests, bests_in, told_best}
+use Rattle.opa_code.specs.OverLines.Sweeps.{AreBeside, is_best}
+use Rattle.opa_code.specs.OverLines.Tallies.{IsTally, IsCounted, AreConstant, AreSmall, told, gather_of, is_most}
+use Rattle.opa_code.specs.declared.over_lines.bests.Bests.{Bests}
 use Rattle.opa_code.specs.declared.over_lines.gathering.Gathering.{Gathering}
 use Rattle.opa_code.specs.declared.over_lines.items.Items.{Items}
 use Rattle.opa_code.specs.declared.over_lines.tally.Tally.{Tally}
-use Rattle.opa_code.proofs.over_lines.Halving.{Tallied, tally_at, some_same}
-use Rattle.opa_code.proofs.over_lines.Likeness.{alike_is, alike_then, alike_both, alike_swap, alike_tally}
-use Rattle.opa_code.proofs.over_lines.Tallying.{tally_both, sums_small, told_is}
+use Rattle.opa_code.proofs.over_lines.Besting.{bests_both, bests_alike, tally_bests, best_gathered}
+use Rattle.opa_code.proofs.over_lines.Halving.{HaveBests, bests_at, some_same}
+use Rattle.opa_code.proofs.over_lines.Likeness.{alike_is, alike_then, alike_both, alike_swap}
+use Rattle.opa_code.proofs.over_lines.Tallying.{sums_small, told_is}
 
 abbrev Lines : Type 0
 Lines = List (List (ℕ × Value))
@@ -172,25 +176,35 @@ plain_told how values held v line same none is stands h d lt =
     days : 0 < DAYS
     days = omega arith
 
-module _ {F E : Type 0} (g : Shared F (Bor Tally × Unit {0}) (Result Tally E)) (f : F) where
-  -- what was counted before is counted beside the lines
-  pub counted_beside : (most : Bool) (lines : Lines) (counted : Tally) (halves l : List (ℕ × Tally)) → Tallied most lines halves → ((p : Bor Tally) (z : Tally) → g.post f (p, tt) (Ok z) → IsBoth most counted p.now z) → EachDay (Maps g f halves) DAYS l
-      → (before : List Value) → IsTally most before counted → EachDay (λ d t. IsTally most (before ++ values_at lines d) t) DAYS l
-  counted_beside most lines counted halves l tallied means each before h d lt =
+module _ {F E : Type 0} (g : Shared F (Bor Bests × Unit {0}) (Result Bests E)) (f : F) where
+  -- the best of others beside the lines
+  pub bests_beside : (most : Bool) (lines : Lines) (others : Bests) (halves l : List (ℕ × Bests)) → HaveBests most lines halves → ((p : Bor Bests) (z : Bests) → g.post f (p, tt) (Ok z) → AreBothBests most others p.now z) → EachDay (Maps g f halves) DAYS l
+      → (before : List Value) → AreBests most before others → EachDay (λ d t. AreBests most (before ++ values_at lines d) t) DAYS l
+  bests_beside most lines others halves l have means each before h d lt =
       let e = each d lt in let m = e.1 in
-      (e.0, tally_both most before (values_at lines d) counted m.first.now e.0 h (tally_at most lines halves d m.first.now lt tallied m.left) (means m.first e.0 m.says), e.2)
+      (e.0, bests_both most before (values_at lines d) others m.first.now e.0 h (bests_at most lines halves d m.first.now lt have m.left) (means m.first e.0 m.says), e.2)
 
--- all items are tallied
-pub all_tallied : (values : ℕ → List Value) (held : Items) (l : List (ℕ × Tally)) → Gathered values held
-    → ((before : List Value) → IsTally (is_most held.gathering) before held.constant → EachDay (λ d t. IsTally (is_most held.gathering) (before ++ values_at held.dated d) t) DAYS l) → EachDay (λ d t. IsTally (is_most held.gathering) (values d) t) DAYS l
-all_tallied values held l h beside d lt =
-    let e = beside h.constants h.tallied d lt in (e.0, alike_tally (is_most held.gathering) (h.constants ++ values_at held.dated d) (values d) e.0 (h.alike d lt) e.1, e.2)
+-- the best of all items
+pub all_bests : (values : ℕ → List Value) (held : Items) (lines : Lines) (others : Bests) (l : List (ℕ × Bests)) → lines ≡ held.dated → others ≡ bests_in held.constant → Gathered values held
+    → ((before : List Value) → AreBests (is_most held.gathering) before others → EachDay (λ d t. AreBests (is_most held.gathering) (before ++ values_at lines d) t) DAYS l) → EachDay (λ d t. AreBests (is_most held.gathering) (values d) t) DAYS l
+all_bests values held lines others l same is h beside d lt =
+    let most = is_most held.gathering in
+    let e = beside h.constants (subst (AreBests most h.constants) (sym is) (tally_bests most h.constants held.constant h.tallied)) d lt in
+    (e.0, bests_alike most (h.constants ++ values_at held.dated d) (values d) e.0 (h.alike d lt) (subst (λ ls. AreBests most (h.constants ++ values_at ls d) e.0) same e.1), e.2)
 
-module _ {F E : Type 0} (g : Shared F (Bor Tally × (Bor Value × Unit {0})) (Result Value E)) (f : F) where
-  pub values_told : (how : Gathering) (values : ℕ → List Value) (tallies : List (ℕ × Tally)) (first l : List (ℕ × Value)) → EachDay (λ d t. IsTally (is_most how) (values d) t) DAYS tallies → ((d : ℕ) → d < DAYS → day_value first d ≡ first_value (values d))
-      → ((p : Bor Tally) (q : Bor Value) (z : Value) → g.post f (p, (q, tt)) (Ok z) → z ≡ told how p.now q.now) → EachDay (Joins g f tallies first) DAYS l → StandsFor DAYS (λ d. gather_of how (values d)) l
-  values_told how values tallies first l h s means each d lt =
+module _ {F E : Type 0} (g : Shared F (Bor Bests × (Bor Value × Unit {0})) (Result Value E)) (f : F) where
+  pub bests_told : (how : Gathering) (values : ℕ → List Value) (bests : List (ℕ × Bests)) (first l : List (ℕ × Value)) → is_best how ≡ true → EachDay (λ d t. AreBests (is_most how) (values d) t) DAYS bests → ((d : ℕ) → d < DAYS → day_value first d ≡ first_value (values d))
+      → ((p : Bor Bests) (q : Bor Value) (z : Value) → g.post f (p, (q, tt)) (Ok z) → z ≡ told_best p.now q.now) → EachDay (Joins g f bests first) DAYS l → StandsFor DAYS (λ d. gather_of how (values d)) l
+  bests_told how values bests first l best h s means each d lt =
       let e = each d lt in let j = e.1 in let k = h d lt in
       let v : j.second.now ≡ first_value (values d) = ap (value_or Unknown) (sym j.right) ∙ s d lt in
-      let t : IsTally (is_most how) (values d) j.first.now = subst (IsTally (is_most how) (values d)) (some_same k.0 j.first.now (sym k.2 ∙ j.left)) k.1 in
-      e.2 ∙ ap Some (means j.first j.second e.0 j.says ∙ ap (told how j.first.now) v ∙ told_is how (values d) j.first.now t)
+      let t : AreBests (is_most how) (values d) j.first.now = subst (AreBests (is_most how) (values d)) (some_same k.0 j.first.now (sym k.2 ∙ j.left)) k.1 in
+      e.2 ∙ ap Some (means j.first j.second e.0 j.says ∙ ap (told_best j.first.now) v ∙ best_gathered how (values d) j.first.now best t)
+
+-- the lines that are kept have their values beside those that were counted
+pub gathered_beside : (values : ℕ → List Value) (held : Items) (lines : Lines) → lines ≡ held.dated → Gathered values held → AreBeside held.gathering held.constant lines values
+gathered_beside values held lines same h = record {
+  others = h.constants;
+  tallied = h.tallied;
+  alike = λ d lt. subst (λ ls. Alike (h.constants ++ values_at ls d) (values d)) (sym same) (h.alike d lt);
+}

@@ -7,6 +7,7 @@ use Rattle.opa_value.specs.declared.value.Value.{Value}
 use Rattle.opa_value.specs.declared.value.Value.TheVariants.{Unknown, Bool as Truth}
 use Rattle.opa_mean.specs.Meaning.{choose}
 use Rattle.opa_code.specs.OverLines.Choices.{choice_of, taken_or}
+use Rattle.opa_code.specs.OverLines.Lines.{Has}
 
 pub chooses : (c v rest : Value) → taken_or (choice_of c v) rest ≡ choose c v rest
 chooses (Truth true) v rest = refl
@@ -19,3 +20,9 @@ pub chosen_always : (holds : Bool) (test value rest line : List (ℕ × Value)) 
     → StandsFor DAYS (λ d. choose (day_value test d) (day_value value d) (day_value rest d)) line
 chosen_always true test value rest line is h d lt = h d lt ∙ ap Some (sym (ap (λ t. choose t (day_value value d) (day_value rest d)) (is d)))
 chosen_always false test value rest line is h d lt = h d lt ∙ ap Some (sym (ap (λ t. choose t (day_value value d) (day_value rest d)) (is d)))
+
+pub value_chosen : (test value rest : List (ℕ × Value)) → ((d : ℕ) → day_value test d ≡ Truth true) → Has (λ d. choose (day_value test d) (day_value value d) (day_value rest d)) value
+value_chosen test value rest is d lt = sym (ap (λ t. choose t (day_value value d) (day_value rest d)) (is d))
+
+pub rest_chosen : (test value rest : List (ℕ × Value)) → ((d : ℕ) → day_value test d ≡ Truth false) → Has (λ d. choose (day_value test d) (day_value value d) (day_value rest d)) rest
+rest_chosen test value rest is d lt = sym (ap (λ t. choose t (day_value value d) (day_value rest d)) (is d))

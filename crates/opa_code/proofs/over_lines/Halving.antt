@@ -1,8 +1,8 @@
 -- Lines of tallies.
-use Rattle.std.proofs.Common.{◌≡◌, ℕ, ◌<◌, ◌≤◌, ◌^◌, get_or, take, drop, arith, Bool, List, [], ◌∷◌, ◌++◌, Some, length, refl, sym, ◌∙◌, ap, subst}
+use Rattle.std.proofs.Common.{◌≡◌, ℕ, ◌<◌, ◌≤◌, get_or, take, drop, arith, Bool, true, List, [], ◌∷◌, ◌++◌, Some, length, refl, sym, ◌∙◌, ap, subst}
 use Rattle.std.specs.Prelude.{Result, Ok, Option, None, IfSome}
 use Rattle.std.specs.Fn.{Shared}
-use Rattle.std.proofs.lemmas.List.{map-append, length-map, take-append-drop}
+use Rattle.std.proofs.lemmas.List.{map-append, take-append-drop}
 use denote.Ref.{Bor}
 use Rattle.opa_date.specs.declared.TheConstants.{DAYS}
 use Rattle.opa_value.specs.declared.value.Value.{Value}
@@ -12,16 +12,18 @@ use Rattle.opa_line.specs.Pointwise.{EachDay, Joins}
 use Rattle.opa_mean.specs.Meaning.{first_value}
 use Rattle.opa_window.specs.Days.{day_value}
 use Rattle.opa_code.specs.OverLines.Lines.{Has, values_at}
-use Rattle.opa_code.specs.OverLines.Tallies.{IsTally, IsBoth, AreSmall, told, gather_of, is_most}
+use Rattle.opa_code.specs.OverLines.Extremes.{AreBests, AreBothBests, told_best}
+use Rattle.opa_code.specs.OverLines.Sweeps.{is_best}
+use Rattle.opa_code.specs.OverLines.Tallies.{gather_of, is_most}
 use Rattle.opa_code.specs.declared.over_lines.gathering.Gathering.{Gathering}
-use Rattle.opa_code.specs.declared.over_lines.tally.Tally.{Tally}
-use Rattle.opa_code.proofs.over_lines.Tallying.{tally_both, sums_small, told_is}
+use Rattle.opa_code.specs.declared.over_lines.bests.Bests.{Bests}
+use Rattle.opa_code.proofs.over_lines.Besting.{bests_both, best_gathered}
 
 abbrev Lines : Type 0
 Lines = List (List (ℕ × Value))
 
-abbrev pub Tallied : Bool → Lines → List (ℕ × Tally) → Type 0
-Tallied most lines tallies = EachDay (λ d t. IsTally most (values_at lines d) t) DAYS tallies
+abbrev pub HaveBests : Bool → Lines → List (ℕ × Bests) → Type 0
+HaveBests most lines bests = EachDay (λ d t. AreBests most (values_at lines d) t) DAYS bests
 
 pub no_items : {X : Type 0} (xs : List X) → length xs < 1 → xs ≡ []
 no_items [] h = refl
@@ -47,29 +49,25 @@ pub stands_whole : (l : List (ℕ × Value)) → IsLine DAYS l → StandsFor DAY
 stands_whole [] form d lt = absurd form
 stands_whole (p ∷ l) form d lt = refl
 
--- the tally that a line has at a day
-pub tally_at : (most : Bool) (lines : Lines) (tallies : List (ℕ × Tally)) (d : ℕ) (t : Tally) → d < DAYS → Tallied most lines tallies → at tallies d ≡ Some t → IsTally most (values_at lines d) t
-tally_at most lines tallies d t lt h is = let e = h d lt in subst (IsTally most (values_at lines d)) (some_same e.0 t (sym e.2 ∙ is)) e.1
+pub bests_at : (most : Bool) (lines : Lines) (bests : List (ℕ × Bests)) (d : ℕ) (t : Bests) → d < DAYS → HaveBests most lines bests → at bests d ≡ Some t → AreBests most (values_at lines d) t
+bests_at most lines bests d t lt h is = let e = h d lt in subst (AreBests most (values_at lines d)) (some_same e.0 t (sym e.2 ∙ is)) e.1
 
-pub small_at : (most : Bool) (lines : Lines) (tallies : List (ℕ × Tally)) (d : ℕ) (t : Tally) → length lines < 2 ^ 63 → d < DAYS → Tallied most lines tallies → at tallies d ≡ Some t → AreSmall t.sums
-small_at most lines tallies d t few lt h is = sums_small (values_at lines d) t.sums (subst (λ n. n < 2 ^ 63) (sym (length-map lines (λ l. day_value l d))) few) (tally_at most lines tallies d t lt h is).sums
-
-module _ {F E : Type 0} (g : Shared F (Bor Tally × (Bor Tally × Unit {0})) (Result Tally E)) (f : F) where
-  pub tallied_both : (most : Bool) (lines left right : Lines) (first second l : List (ℕ × Tally)) → left ++ right ≡ lines → Tallied most left first → Tallied most right second
-      → ((p q : Bor Tally) (z : Tally) → g.post f (p, (q, tt)) (Ok z) → IsBoth most p.now q.now z) → EachDay (Joins g f first second) DAYS l → Tallied most lines l
-  tallied_both most lines left right first second l parts h k means each d lt =
+module _ {F E : Type 0} (g : Shared F (Bor Bests × (Bor Bests × Unit {0})) (Result Bests E)) (f : F) where
+  pub bests_joined : (most : Bool) (lines left right : Lines) (first second l : List (ℕ × Bests)) → left ++ right ≡ lines → HaveBests most left first → HaveBests most right second
+      → ((p q : Bor Bests) (z : Bests) → g.post f (p, (q, tt)) (Ok z) → AreBothBests most p.now q.now z) → EachDay (Joins g f first second) DAYS l → HaveBests most lines l
+  bests_joined most lines left right first second l parts h k means each d lt =
       let e = each d lt in let j = e.1 in
       let vs : values_at left d ++ values_at right d ≡ values_at lines d = sym (map-append (λ l. day_value l d) left right) ∙ ap (λ ls. values_at ls d) parts in (
         e.0,
-        subst (λ us. IsTally most us e.0) vs (tally_both most (values_at left d) (values_at right d) j.first.now j.second.now e.0
-            (tally_at most left first d j.first.now lt h j.left) (tally_at most right second d j.second.now lt k j.right) (means j.first j.second e.0 j.says)),
+        subst (λ us. AreBests most us e.0) vs (bests_both most (values_at left d) (values_at right d) j.first.now j.second.now e.0
+            (bests_at most left first d j.first.now lt h j.left) (bests_at most right second d j.second.now lt k j.right) (means j.first j.second e.0 j.says)),
         e.2,
       )
 
-module _ {F E : Type 0} (g : Shared F (Bor Tally × (Bor Value × Unit {0})) (Result Value E)) (f : F) where
-  pub gathered_stands : (how : Gathering) (lines : Lines) (tallies : List (ℕ × Tally)) (first l : List (ℕ × Value)) → Tallied (is_most how) lines tallies → Has (λ d. first_value (values_at lines d)) first
-      → ((p : Bor Tally) (q : Bor Value) (z : Value) → g.post f (p, (q, tt)) (Ok z) → z ≡ told how p.now q.now) → EachDay (Joins g f tallies first) DAYS l → StandsFor DAYS (λ d. gather_of how (values_at lines d)) l
-  gathered_stands how lines tallies first l h s means each d lt =
+module _ {F E : Type 0} (g : Shared F (Bor Bests × (Bor Value × Unit {0})) (Result Value E)) (f : F) where
+  pub best_stands : (how : Gathering) (lines : Lines) (bests : List (ℕ × Bests)) (first l : List (ℕ × Value)) → is_best how ≡ true → HaveBests (is_most how) lines bests → Has (λ d. first_value (values_at lines d)) first
+      → ((p : Bor Bests) (q : Bor Value) (z : Value) → g.post f (p, (q, tt)) (Ok z) → z ≡ told_best p.now q.now) → EachDay (Joins g f bests first) DAYS l → StandsFor DAYS (λ d. gather_of how (values_at lines d)) l
+  best_stands how lines bests first l best h s means each d lt =
       let e = each d lt in let j = e.1 in
       let v : j.second.now ≡ first_value (values_at lines d) = ap (value_or Unknown) (sym j.right) ∙ s d lt in
-      e.2 ∙ ap Some (means j.first j.second e.0 j.says ∙ ap (told how j.first.now) v ∙ told_is how (values_at lines d) j.first.now (tally_at (is_most how) lines tallies d j.first.now lt h j.left))
+      e.2 ∙ ap Some (means j.first j.second e.0 j.says ∙ ap (told_best j.first.now) v ∙ best_gathered how (values_at lines d) j.first.now best (bests_at (is_most how) lines bests d j.first.now lt h j.left))

@@ -1,15 +1,14 @@
 -- Lists of values with one tally.
-use Rattle.std.proofs.Common.{◌≡◌, ℕ, ◌+◌, Bool, true, false, cond, List, ◌++◌, Option, None, Some, length, refl, sym, ◌∙◌, ap, subst, arith}
-use Rattle.std.specs.Prelude.{ℤ, ◌+ℤ◌, ◌≤ℤ◌, ◌≤◌, ◌*◌, ◌^◌, pos, neg_ℤ, ◌||◌, filter}
+use Rattle.std.proofs.Common.{◌≡◌, ℕ, ◌+◌, Bool, true, false, cond, List, ◌++◌, Option, None, Some, length, refl, sym, ◌∙◌, ap, arith}
+use Rattle.std.specs.Prelude.{ℤ, ◌+ℤ◌, ◌≤ℤ◌, ◌≤◌, ◌||◌, filter}
 use Rattle.std.proofs.lemmas.List.{length-append}
 use Rattle.std.proofs.lemmas.List.Elements.{filter-append}
 use Rattle.opa_value.specs.declared.value.Value.{Value}
 use Rattle.opa_value.specs.Truth.{is_true}
 use Rattle.opa_window.specs.Folds.{total}
 use Rattle.opa_code.specs.OverLines.Additions.{Alike}
-use Rattle.opa_code.specs.OverLines.Tallies.{IsTally, marks_of, both_marks, winner, ahead, peak, number_in, day_in, beats_number, beats_day}
+use Rattle.opa_code.specs.OverLines.Tallies.{marks_of, both_marks, winner, ahead, peak, number_in, day_in, beats_number, beats_day}
 use Rattle.opa_code.specs.declared.over_lines.marks.Marks.{Marks}
-use Rattle.opa_code.specs.declared.over_lines.tally.Tally.{Tally}
 use Rattle.opa_code.proofs.over_lines.Tallying.{total-append, peak-append, number_assoc, day_assoc, both_marks_are}
 
 -- of two it doesn't matter which comes first
@@ -103,18 +102,3 @@ alike_swap vs ws = record {
   where
     sum_swap : (a b : ℤ) → (a +ℤ b) ≡ (b +ℤ a)
     sum_swap a b = grind arith
-
-pub alike_tally : (most : Bool) (vs ws : List Value) (t : Tally) → Alike vs ws → IsTally most vs t → IsTally most ws t
-alike_tally most vs ws t a h = record {
-  marks = h.marks ∙ a.marks;
-  sums = record {
-    trues = h.sums.trues ∙ a.trues;
-    total = h.sums.total ∙ a.total;
-    low = subst (λ n. neg_ℤ (pos (n * 10 ^ 17)) ≤ℤ t.sums.total) a.size h.sums.low;
-    high = subst (λ n. t.sums.total ≤ℤ pos (n * 10 ^ 17)) a.size h.sums.high;
-  };
-  peaks = record {
-    number = h.peaks.number ∙ a.number most;
-    day = h.peaks.day ∙ a.day most;
-  };
-}

@@ -112,7 +112,7 @@ both_sums_are vs ws s t r h k b =
       high = subst (λ z. z ≤ℤ pos (length (vs ++ ws) * 10 ^ 17)) (sym b.total) (subst (λ n. (s.total +ℤ t.total) ≤ℤ pos n) (sym size) (upper (length vs * 10 ^ 17) (length ws * 10 ^ 17) s.total t.total h.high k.high));
     }
 
-both_peaks_are : (most : Bool) (vs ws : List Value) (s t r : Peaks) → ArePeaks most vs s → ArePeaks most ws t → AreBothPeaks most s t r → ArePeaks most (vs ++ ws) r
+pub both_peaks_are : (most : Bool) (vs ws : List Value) (s t r : Peaks) → ArePeaks most vs s → ArePeaks most ws t → AreBothPeaks most s t r → ArePeaks most (vs ++ ws) r
 both_peaks_are most vs ws s t r h k b = record {
   number = ap (λ c. held_if c r.number) b.has_number ∙ ap (held_if (s.has_number || t.has_number)) b.number ∙ better_is (beats_number most) s.has_number t.has_number s.number t.number
       ∙ ap (λ o. ahead (beats_number most) o (held_if t.has_number t.number)) h.number ∙ ap (ahead (beats_number most) (peak (beats_number most) number_in vs)) k.number ∙ sym (peak-append (beats_number most) (number_assoc most) number_in vs ws);
@@ -234,7 +234,7 @@ beats_words t false (Num n) = refl
 beats_words t false (Day d) = refl
 beats_words t false _ = refl
 
-best_is : (most : Bool) (vs : List Value) (t : Peaks) → ArePeaks most vs t → best_told t (first_value vs) ≡ best (is_beaten_of most) vs
+pub best_is : (most : Bool) (vs : List Value) (t : Peaks) → ArePeaks most vs t → best_told t (first_value vs) ≡ best (is_beaten_of most) vs
 best_is most [] t h = refl
 best_is most (Num n ∷ vs) t h = let r = best_numbers most n vs in ap number_or (h.number ∙ r.1) ∙ sym r.2
 best_is most (Day d ∷ vs) t h = let r = best_days most d vs in ap day_or (h.day ∙ r.1) ∙ sym r.2

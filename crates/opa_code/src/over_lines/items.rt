@@ -1,5 +1,5 @@
 // Items that come one after another, and what is gathered from them.
-ghost use Rattle.std.specs.Prelude.{◌≡◌, ◌∷◌, ◌++◌, [], ℕ, ◌<◌, List as Seq, IfOk, OnOk};
+ghost use Rattle.std.specs.Prelude.{◌≡◌, ◌∷◌, ◌++◌, [], ℕ, ◌<◌, true, List as Seq, IfOk, OnOk};
 ghost use Rattle.opa_date.specs.declared.TheConstants.{DAYS};
 ghost use Rattle.opa_value.specs.declared.value.Value.{Value as Meant};
 ghost use Rattle.opa_line.specs.Lines.{StandsFor};
@@ -7,13 +7,17 @@ ghost use Rattle.opa_line.specs.Pointwise.{EachDay};
 ghost use Rattle.opa_window.specs.Days.{day_value};
 ghost use Rattle.opa_mean.specs.Meaning as meant;
 ghost use Rattle.opa_code.specs.OverLines.Additions.{Gathered, HasRoom, IsAdded, KeepsFirst, gathers};
+ghost use Rattle.opa_code.specs.OverLines.Extremes as extremes;
 ghost use Rattle.opa_code.specs.OverLines.Lines.{values_at};
+ghost use Rattle.opa_code.specs.OverLines.Sweeps.{is_best as best_of};
 ghost use Rattle.opa_code.specs.OverLines.Tallies as tallies;
 
+use crate::over_lines::bests::Bests;
 use crate::over_lines::gathering::Gathering;
-use crate::over_lines::lines::{is_most, item_line, tallied};
+use crate::over_lines::lines::{bests_over, is_best, is_most, item_over};
 use crate::over_lines::operand::{Operand, first_of};
 use crate::over_lines::steady::{constant_of, counted, told_first};
+use crate::over_lines::sweep::swept_over;
 use crate::over_lines::tally::Tally;
 use opa_io::{List, NoMemory};
 use opa_line::Line;
@@ -46,17 +50,17 @@ impl<'a> Items<'a> {
     }
 
     /// One item more.
-    pub fn add(&mut self, alloc: Global, operand: &Operand<'a>) -> Result<(), NoMemory>
+    pub fn add(&mut self, alloc: Global, operand: Operand<'a>) -> Result<(), NoMemory>
         requires { HasRoom self.old }
-        ensures { OnOk result (IsAdded (day_value operand.now) self.old self.new) }
+        ensures { OnOk result (IsAdded (day_value operand.entry) self.old self.new) }
     {
-        keep_first(alloc, &mut self.first, operand)?;
+        keep_first(alloc, &mut self.first, &operand)?;
         match constant_of(operand.line()) {
             Some(value) => {
                 self.constant = counted(is_most(self.gathering), &self.constant, value);
                 Ok(())
             }
-            None => self.dated.push(operand.copy(alloc)?),
+            None => self.dated.push(operand),
         }
     }
 
@@ -75,19 +79,13 @@ impl<'a> Items<'a> {
         &mut self,
         alloc: Global,
         quant: Quant,
-        operands: &[Operand<'a>],
+        operands: Vec<Operand<'a>>,
     ) -> Result<(), NoMemory>
         requires { HasRoom self.old }
-        ensures { OnOk result (IsAdded (λ d. meant.item quant (values_at operands.now d)) self.old self.new) }
+        ensures { OnOk result (IsAdded (λ d. meant.item quant (values_at operands.entry.items d)) self.old self.new) }
     {
-        match operands {
-            [operand] => self.add(alloc, operand),
-            _ => {
-                let line = item_line(alloc, quant, operands)?;
-                let operand = Operand::made(line);
-                self.add(alloc, &operand)
-            }
-        }
+        let operand = item_over(alloc, quant, operands)?;
+        self.add(alloc, operand)
     }
 
     /// What is gathered from the items at each day.
@@ -107,37 +105,44 @@ impl<'a> Items<'a> {
         requires { HasRoom self.now }
         ensures { IfOk result (λ line. (values : ℕ → Seq Meant) → Gathered values self.now → StandsFor DAYS (λ d. tallies.gather_of self.now.gathering (values d)) line) }
     {
-        let gathering = self.gathering;
-        let none = Line::constant(alloc, Value::Uncertain)?;
-        let first = first_of(self.first.as_slice(), &none);
-        let tallies = self.tallies(alloc)?;
-        tallies.zip(alloc, first, move |t: &Tally, v: &Value| {
-            t.told(alloc, gathering, v)
-        })
+        if is_best(self.gathering) {
+            self.best_by_day(alloc)
+        } else {
+            swept_over(alloc, self.gathering, &self.constant, self.dated.as_slice())
+        }
     }
 
-    /// The tallies of all items.
-    fn tallies(&self, alloc: Global) -> Result<Line<Tally>, NoMemory>
-        requires { HasRoom self.now }
-        ensures { IfOk result (λ line. (values : ℕ → Seq Meant) → Gathered values self.now → EachDay (λ d t. tallies.IsTally (tallies.is_most self.now.gathering) (values d) t) DAYS line) }
+    fn best_by_day(&self, alloc: Global) -> Result<Line<Value>, NoMemory>
+        requires { best_of self.now.gathering ≡ true }
+        ensures { IfOk result (λ line. (values : ℕ → Seq Meant) → Gathered values self.now → StandsFor DAYS (λ d. tallies.gather_of self.now.gathering (values d)) line) }
+    {
+        let none = Line::constant(alloc, Value::Uncertain)?;
+        let first = first_of(self.first.as_slice(), &none);
+        let bests = self.bests(alloc)?;
+        bests.zip(alloc, first, move |t: &Bests, v: &Value| t.told(alloc, v))
+    }
+
+    /// What the best of all items is told from.
+    fn bests(&self, alloc: Global) -> Result<Line<Bests>, NoMemory>
+        ensures { IfOk result (λ line. (values : ℕ → Seq Meant) → Gathered values self.now → EachDay (λ d t. extremes.AreBests (tallies.is_most self.now.gathering) (values d) t) DAYS line) }
     {
         let most = is_most(self.gathering);
-        tallied_beside(alloc, most, self.constant, self.dated.as_slice())
+        let before = Bests::of_tally(&self.constant);
+        bests_beside(alloc, most, before, self.dated.as_slice())
     }
 }
 
-/// The tallies of operands beside what was counted before.
-fn tallied_beside(
+/// What the best is told from, of operands beside others.
+fn bests_beside(
     alloc: Global,
     most: bool,
-    before: Tally,
+    before: Bests,
     operands: &[Operand<'_>],
-) -> Result<Line<Tally>, NoMemory>
-    requires { tallies.AreSmall before.sums }
-    ensures { IfOk result (λ line. (values : Seq Meant) → tallies.IsTally most values before → EachDay (λ d t. tallies.IsTally most (values ++ values_at operands.now d) t) DAYS line) }
+) -> Result<Line<Bests>, NoMemory>
+    ensures { IfOk result (λ line. (values : Seq Meant) → extremes.AreBests most values before → EachDay (λ d t. extremes.AreBests most (values ++ values_at operands.now d) t) DAYS line) }
 {
-    let halves = tallied(alloc, most, operands)?;
-    halves.map(alloc, move |t: &Tally| Ok(Tally::both(most, &before, t)))
+    let halves = bests_over(alloc, most, operands)?;
+    halves.map(alloc, move |t: &Bests| Ok(Bests::both(most, &before, t)))
 }
 
 /// Keeps the first item.

@@ -1,5 +1,5 @@
 // Lines whose value at each day is made of the values of other lines at that day.
-ghost use Rattle.std.specs.Prelude.{◌≡◌, ◌∷◌, [], cond as condition, IfOk};
+ghost use Rattle.std.specs.Prelude.{◌≡◌, ◌∷◌, [], cond as condition, true, IfOk};
 ghost use Rattle.opa_date.specs.declared.TheConstants.{DAYS};
 ghost use Rattle.opa_line.specs.Lines.{StandsFor};
 ghost use Rattle.opa_line.specs.Pointwise.{EachDay};
@@ -9,15 +9,19 @@ ghost use Rattle.opa_value.specs.declared.value.Value.TheVariants as values;
 ghost use Rattle.opa_window.specs.Days.{day_value};
 ghost use Rattle.opa_mean.specs.Meaning as meant;
 ghost use Rattle.opa_mean.specs.Operations.{op_of};
-ghost use Rattle.opa_code.specs.OverLines.Lines.{values_at};
-ghost use Rattle.opa_code.specs.OverLines.Tallies.{IsOne, IsTally, gather_of, is_most as most_of};
+ghost use Rattle.opa_code.specs.OverLines.Lines.{Has, values_at};
+ghost use Rattle.opa_code.specs.OverLines.Extremes.{AreBests, IsOneBest};
+ghost use Rattle.opa_code.specs.OverLines.Sweeps.{is_best as best_of};
+ghost use Rattle.opa_code.specs.OverLines.Tallies.{gather_of, is_most as most_of};
 
+use crate::over_lines::bests::Bests;
 use crate::over_lines::choice::Choice;
 use crate::over_lines::gathering::Gathering;
-use crate::over_lines::operand::{Operand, first_of, seen_each};
+use crate::over_lines::operand::{Operand, first_of, only, seen_each};
 use crate::over_lines::operations::{strict_one, strict_two};
 use crate::over_lines::steady::{constant_tally, told_first, truth_of};
 use crate::over_lines::sums::amount;
+use crate::over_lines::sweep::swept_over;
 use crate::over_lines::tally::Tally;
 use opa_io::NoMemory;
 use opa_line::Line;
@@ -141,6 +145,26 @@ pub fn choice_line(
     }
 }
 
+/// The same over operands: one that is chosen on every day isn't copied.
+pub(crate) fn choice_over<'a>(
+    alloc: Global,
+    cond: Operand<'a>,
+    value: Operand<'a>,
+    rest: Operand<'a>,
+) -> Result<Operand<'a>, NoMemory>
+    ensures { IfOk result (Has (λ d. meant.choose (day_value cond.entry d) (day_value value.entry d)
+        (day_value rest.entry d))) }
+{
+    match truth_of(cond.line()) {
+        Some(true) => Ok(value),
+        Some(false) => Ok(rest),
+        None => {
+            let line = choice_by_day(alloc, cond.line(), value.line(), rest.line())?;
+            Ok(Operand::made(line))
+        }
+    }
+}
+
 /// The first if it holds, else the second.
 fn either<'a>(holds: bool, first: &'a Line<Value>, second: &'a Line<Value>) -> &'a Line<Value>
     ensures { result.now ≡ condition holds first.now second.now }
@@ -197,12 +221,26 @@ fn gathered_by_day(
 ) -> Result<Line<Value>, NoMemory>
     ensures { IfOk result (StandsFor DAYS (λ d. gather_of gathering (values_at operands.now d))) }
 {
+    if is_best(gathering) {
+        best_by_day(alloc, gathering, operands)
+    } else {
+        let none = Tally::none();
+        swept_over(alloc, gathering, &none, operands)
+    }
+}
+
+fn best_by_day(
+    alloc: Global,
+    gathering: Gathering,
+    operands: &[Operand<'_>],
+) -> Result<Line<Value>, NoMemory>
+    requires { best_of gathering ≡ true }
+    ensures { IfOk result (StandsFor DAYS (λ d. gather_of gathering (values_at operands.now d))) }
+{
     let none = Line::constant(alloc, Value::Uncertain)?;
     let first = first_of(operands, &none);
-    let tallies = tallied(alloc, is_most(gathering), operands)?;
-    tallies.zip(alloc, first, move |t: &Tally, v: &Value| {
-        t.told(alloc, gathering, v)
-    })
+    let bests = bests_over(alloc, is_most(gathering), operands)?;
+    bests.zip(alloc, first, move |t: &Bests, v: &Value| t.told(alloc, v))
 }
 
 /// The first line, uncertain on every day where there is none.
@@ -215,33 +253,34 @@ pub fn first_line(alloc: Global, lines: &[Line<Value>]) -> Result<Line<Value>, N
     }
 }
 
-/// The tallies of operands at each day. These are halved, so that each change point is met once for each halving.
+/// What the best of operands is told from at each day. These are halved, so that each change point is met once for each
+/// halving.
 #[cycle(halves)]
-pub(crate) fn tallied(
+pub(crate) fn bests_over(
     alloc: Global,
     most: bool,
     operands: &[Operand<'_>],
-) -> Result<Line<Tally>, NoMemory>
-    ensures { IfOk result (EachDay (λ d t. IsTally most (values_at operands.now d) t) DAYS) }
+) -> Result<Line<Bests>, NoMemory>
+    ensures { IfOk result (EachDay (λ d t. AreBests most (values_at operands.now d) t) DAYS) }
 {
     match operands {
-        [] => Line::constant(alloc, Tally::none()),
-        [operand] => one_tally(alloc, operand.line()),
+        [] => Line::constant(alloc, Bests::none()),
+        [operand] => one_best(alloc, operand.line()),
         _ => {
             let (left, right) = operands.split_at(operands.len() / 2);
-            let first = tallied(alloc, most, left)?;
-            let second = tallied(alloc, most, right)?;
-            first.zip(alloc, &second, move |s: &Tally, t: &Tally| {
-                Ok(Tally::both(most, s, t))
+            let first = bests_over(alloc, most, left)?;
+            let second = bests_over(alloc, most, right)?;
+            first.zip(alloc, &second, move |s: &Bests, t: &Bests| {
+                Ok(Bests::both(most, s, t))
             })
         }
     }
 }
 
-fn one_tally(alloc: Global, line: &Line<Value>) -> Result<Line<Tally>, NoMemory>
-    ensures { IfOk result (EachDay (λ d t. IsOne (day_value line.now d) t) DAYS) }
+fn one_best(alloc: Global, line: &Line<Value>) -> Result<Line<Bests>, NoMemory>
+    ensures { IfOk result (EachDay (λ d t. IsOneBest (day_value line.now d) t) DAYS) }
 {
-    line.map(alloc, |v: &Value| Ok(Tally::one(v)))
+    line.map(alloc, |v: &Value| Ok(Bests::one(v)))
 }
 
 /// What a quantifier makes of a listed instance's operands.
@@ -260,6 +299,21 @@ pub fn item_line(
         (_, [operand]) => same_line(alloc, operand.line()),
         _ => Line::constant(alloc, Value::Uncertain),
     }
+}
+
+/// The same of operands that are handed over: one by itself isn't copied.
+pub(crate) fn item_over<'a>(
+    alloc: Global,
+    quant: Quant,
+    operands: Vec<Operand<'a>>,
+) -> Result<Operand<'a>, NoMemory>
+    ensures { IfOk result (Has (λ d. meant.item quant (values_at operands.entry.items d))) }
+{
+    if operands.len() == 1 {
+        return Ok(only(operands));
+    }
+    let line = item_line(alloc, quant, &operands)?;
+    Ok(Operand::made(line))
 }
 
 /// What a quantifier makes of the items.
@@ -289,4 +343,11 @@ pub(crate) fn is_most(gathering: Gathering) -> bool
         Gathering::Best(most) => most,
         _ => true,
     }
+}
+
+/// Whether it is the greatest or the least.
+pub(crate) fn is_best(gathering: Gathering) -> bool
+    ensures { result ≡ best_of gathering }
+{
+    matches!(gathering, Gathering::Best(_))
 }

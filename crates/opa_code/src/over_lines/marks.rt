@@ -2,7 +2,6 @@
 ghost use Rattle.std.specs.Prelude.{◌≡◌, ◌∷◌, [], ◌||◌};
 ghost use Rattle.opa_code.specs.OverLines.Tallies as tallies;
 
-use opa_io::Same;
 use opa_value::Value;
 
 #[derive(Clone, Copy, Debug)]
@@ -11,15 +10,6 @@ pub struct Marks {
     pub some_true: bool,
     pub unknown: bool,
     pub uncertain: bool,
-}
-
-impl Same for Marks {
-    fn same(&self, other: &Marks) -> bool {
-        self.some_false == other.some_false
-            && self.some_true == other.some_true
-            && self.unknown == other.unknown
-            && self.uncertain == other.uncertain
-    }
 }
 
 impl Marks {

@@ -1,5 +1,5 @@
 // Lines as operands: those that are looked up stay where they are.
-ghost use Rattle.std.specs.Prelude.{◌≡◌, ◌++◌, ◌∷◌, [], IfOk, MatchOption};
+ghost use Rattle.std.specs.Prelude.{◌≡◌, ◌<◌, ◌++◌, ◌∷◌, [], length, IfOk, MatchOption};
 ghost use Rattle.opa_date.specs.declared.TheConstants.{DAYS};
 ghost use Rattle.opa_line.specs.Lines.{StandsFor};
 ghost use Rattle.opa_value.specs.declared.value.Value.TheVariants.{Uncertain};
@@ -115,6 +115,25 @@ pub fn take_newest<'a>(operands: &mut Vec<Operand<'a>>) -> Option<Operand<'a>>
         (λ x. operands.old.items ≡ operands.new.items ++ x ∷ []) }
 {
     operands.pop()
+}
+
+/// Takes the newest operand away, where there is one.
+pub fn newest<'a>(operands: &mut Vec<Operand<'a>>) -> Operand<'a>
+    requires { 0 < length operands.old.items }
+    ensures { operands.old.items ≡ operands.new.items ++ result ∷ [] }
+{
+    let Some(operand) = take_newest(operands) else {
+        unreachable!()
+    };
+    operand
+}
+
+/// The only operand.
+pub fn only(mut operands: Vec<Operand<'_>>) -> Operand<'_>
+    requires { length operands.items ≡ 1 }
+    ensures { operands.entry.items ≡ result ∷ [] }
+{
+    newest(&mut operands)
 }
 
 /// The first operand's line by itself, uncertain on every day where there is none.

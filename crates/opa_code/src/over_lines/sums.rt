@@ -5,7 +5,6 @@ ghost use Rattle.opa_window.specs.Folds as folds;
 ghost use Rattle.opa_mean.specs.Meaning as meant;
 ghost use Rattle.opa_code.specs.OverLines.Tallies as tallies;
 
-use opa_io::Same;
 use opa_mean::number_of;
 use opa_value::Value;
 
@@ -13,12 +12,6 @@ use opa_value::Value;
 pub struct Sums {
     pub trues: u64,
     pub total: i128,
-}
-
-impl Same for Sums {
-    fn same(&self, other: &Sums) -> bool {
-        self.trues == other.trues && self.total == other.total
-    }
 }
 
 impl Sums {
@@ -60,7 +53,7 @@ fn count_true(value: &Value) -> u64
 }
 
 /// A number's count, and 0 for another value.
-fn count_of(value: &Value) -> i128
+pub(crate) fn count_of(value: &Value) -> i128
     ensures value { result ≡ folds.count_of value.now }
     ensures low { neg_ℤ (pos (10 ^ 17)) ≤ℤ result }
     ensures high { result ≤ℤ pos (10 ^ 17) }
@@ -88,7 +81,7 @@ pub fn amount(count: u64) -> Value
     number_of(ten_thousands(count))
 }
 
-fn ten_thousands(count: u64) -> i128
+pub(crate) fn ten_thousands(count: u64) -> i128
     ensures { result ≡ pos (count * 10000) }
 {
     (u128::from(count) * 10_000) as i128

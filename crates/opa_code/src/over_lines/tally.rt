@@ -6,7 +6,7 @@ use crate::over_lines::gathering::Gathering;
 use crate::over_lines::marks::Marks;
 use crate::over_lines::peaks::Peaks;
 use crate::over_lines::sums::{Sums, amount};
-use opa_io::{NoMemory, Same};
+use opa_io::NoMemory;
 use opa_mean::number_of;
 use opa_value::Value;
 use std::alloc::Global;
@@ -18,14 +18,6 @@ pub struct Tally {
     pub marks: Marks,
     pub sums: Sums,
     pub peaks: Peaks,
-}
-
-impl Same for Tally {
-    fn same(&self, other: &Tally) -> bool {
-        self.marks.same(&other.marks)
-            && self.sums.same(&other.sums)
-            && self.peaks.same(&other.peaks)
-    }
 }
 
 impl Tally {

@@ -78,7 +78,7 @@ are_short files = list_all (λ f. nat_le (length f.text) 1048576) files
 
 -- how many errors are listed at most behind the first: fewer where a file is long, since all is read anew for each
 abbrev pub most_listed : List SourceFile → ℕ
-most_listed files = if are_short files then 99 else 9
+most_listed files = if are_short files then 99 else 2
 
 -- The text of the errors of files: the first one as it is found in loading, and then later ones.
 pub data AreErrors (files : List SourceFile) : List ℕ → Type 0 where

@@ -1,19 +1,16 @@
 -- What another case makes new, one by one.
 use Rattle.std.proofs.Common.{◌≡◌, ◌⊎◌, inl, inr, ℕ, ◌+◌, ◌<◌, Bool, true, false, cond, not, List, [], ◌∷◌, ◌++◌, length, get_or, take, map, Option, None, Some, is_some, Contains, refl, sym, ◌∙◌, ap, subst}
 use Rattle.std.specs.Prelude.{◌&&◌, flat_map}
-use Rattle.std.specs.FinMap.{FinMap, get, entries, find, get-entries}
-use Rattle.std.specs.Ordering.{eq_by_cmp}
+use Rattle.std.specs.FinMap.{get}
 use denote.Ref.{Bor}
 use Rattle.std.proofs.lemmas.Bool.{and_parts, and_from}
 use Rattle.std.proofs.lemmas.List.{append-nil, take_more}
 use Rattle.std.proofs.lemmas.List.Elements.{filter-append, Contains-append_left, Contains-append_right, Contains-append_cases}
-use Rattle.std.proofs.lemmas.Map.Views.{tells_apart}
 use Rattle.opa_date.specs.declared.TheConstants.{DAYS}
 use Rattle.opa_model.specs.declared.ids.AttrId.{AttrId}
-use Rattle.opa_cells.specs.Keys.{cell_cmp}
 use Rattle.opa_cells.specs.Rows.{seen}
+use Rattle.opa_cells.specs.Unordered.{HasCells}
 use Rattle.opa_cells.specs.declared.instance.InstanceId.{InstanceId}
-use Rattle.opa_cells.proofs.Orders.{cell_exact}
 use Rattle.opa_case.specs.Cases.{Answer, CaseView, list_of}
 use Rattle.opa_case.specs.declared.question.Question.{Question}
 use Rattle.opa_case.specs.declared.question.Question.TheVariants as question
@@ -29,7 +26,7 @@ use Rattle.opa_mean.specs.Sameness.{same_names}
 use Rattle.opa_mean.proofs.ChangesAre.{no_difference}
 use Rattle.opa_tree.specs.Rules.{rule_of}
 use Rattle.opa_tree.specs.declared.rulebase.Rulebase.{Rulebase}
-use Rattle.opa_tree.proofs.Members.{none_in, contains_head, contains_tail, contains_cases, flat_in, flat_out}
+use Rattle.opa_tree.proofs.Members.{none_in, contains_head, contains_cases, flat_in, flat_out}
 use Rattle.opa_session.specs.Readers.Indexes.{Table, slots_at, readers_in}
 use Rattle.opa_session.specs.Readers.Renewing.{fresh_among, attr_at, rel_at, answer_told, newly_told, list_told, AreAnswersTold, AreGiven}
 use Rattle.opa_session.specs.declared.readers.index.Index.{Index}
@@ -57,27 +54,13 @@ fresh_next r c c' slots k s old new lt is before next =
 
 -- ---- questions
 
-find_in : {V : Type 0} (k : ℕ × InstanceId) (es : List ((ℕ × InstanceId) × V)) (v : V) → find cell_cmp k es ≡ Some v → Contains es (k, v)
-find_in k [] v h = absurd (cc h)
-find_in {V} k (e ∷ es) v h = go (eq_by_cmp cell_cmp k e.0) refl h (find_in k es v)
+-- where a slot stands, there is a set of slots
+slot_at : (m : Table) (k : ℕ × InstanceId) (x : AttrId × InstanceId) → Contains (slots_at m k) x → (v : BTreeSet Slot) × (get m k ≡ Some v)
+slot_at m k x h = go (get m k) refl h
   where
-    go : (t : Bool) → eq_by_cmp cell_cmp k e.0 ≡ t → cond t (Some e.1) (find cell_cmp k es) ≡ Some v → (find cell_cmp k es ≡ Some v → Contains es (k, v)) → Contains (e ∷ es) (k, v)
-    go true q g rest =
-        let key : k ≡ e.0 = tells_apart cell_exact k e.0 q in let val : e.1 ≡ v = cc g in
-        subst (λ (x : ℕ × InstanceId). let y : (ℕ × InstanceId) × V = (x, v) in Contains (e ∷ es) y) (sym key) (subst (λ (x : V). let y : (ℕ × InstanceId) × V = (e.0, x) in Contains (e ∷ es) y) val (contains_head e es))
-    go false q g rest = contains_tail e (k, v) es (rest g)
-
--- where a map has something, there is an entry
-entry_at : {V : Type 0} (m : FinMap cell_cmp V) (k : ℕ × InstanceId) (v : V) → get m k ≡ Some v → Contains (entries m) (k, v)
-entry_at m k v e = find_in k (entries m) v (sym (get-entries m k) ∙ e)
-
--- so there is where a slot stands
-entry_of : (m : Table) (k : ℕ × InstanceId) (x : AttrId × InstanceId) → Contains (slots_at m k) x → (v : BTreeSet Slot) × Contains (entries m) (k, v)
-entry_of m k x h = go (get m k) refl h
-  where
-    go : (o : Option (BTreeSet Slot)) → get m k ≡ o → Contains (pairs_of (slots_in o)) x → (v : BTreeSet Slot) × Contains (entries m) (k, v)
+    go : (o : Option (BTreeSet Slot)) → get m k ≡ o → Contains (pairs_of (slots_in o)) x → (v : BTreeSet Slot) × (get m k ≡ Some v)
     go None e g = absurd (none_in x g)
-    go (Some v) e g = (v, entry_at m k v e)
+    go (Some v) e g = (v, e)
 
 -- cells that are lent, as entries
 flat_seen : {V : Type 0} (f : ℕ × InstanceId → List Question) (cells : List (ℕ × Bor InstanceId × Bor V)) → flat_map (λ x. f (x.0, x.1.now)) cells ≡ flat_map (λ (e : (ℕ × InstanceId) × V). f e.0) (map seen cells)
@@ -136,58 +119,59 @@ module _ (r : Rulebase) (c c' : CaseView) where
       one_answers e e' =
           cc (sym does_differ ∙ ap (λ o. differing o (get c'.answers (a.0, i))) e ∙ ap (differing None) e' ∙ ap is_some (no_difference DAYS (line_value None)))
 
-    abbrev before : List Question
-    before = flat_map (λ (e : (ℕ × InstanceId) × Answer). answer_told r c c' e.0) (entries c.answers)
+    module _ (es es' : List ((ℕ × InstanceId) × Answer)) (has : HasCells c.answers es) (has' : HasCells c'.answers es') where
+      abbrev before : List Question
+      before = flat_map (λ (e : (ℕ × InstanceId) × Answer). answer_told r c c' e.0) es
 
-    abbrev newly : List Question
-    newly = flat_map (λ (e : (ℕ × InstanceId) × Answer). newly_told r c c' e.0) (entries c'.answers)
+      abbrev newly : List Question
+      newly = flat_map (λ (e : (ℕ × InstanceId) × Answer). newly_told r c c' e.0) es'
 
-    out : (q : Question) → Contains before q ⊎ Contains newly q → given_too q
-    out q (inl h) = let e = flat_out (λ (e : (ℕ × InstanceId) × Answer). answer_told r c c' e.0) (entries c.answers) q h in answer_out e.0.0 q e.1.1
-    out q (inr h) = let e = flat_out (λ (e : (ℕ × InstanceId) × Answer). newly_told r c c' e.0) (entries c'.answers) q h in newly_out e.0.0 q e.1.1
+      out : (q : Question) → Contains before q ⊎ Contains newly q → given_too q
+      out q (inl h) = let e = flat_out (λ (e : (ℕ × InstanceId) × Answer). answer_told r c c' e.0) es q h in answer_out e.0.0 q e.1.1
+      out q (inr h) = let e = flat_out (λ (e : (ℕ × InstanceId) × Answer). newly_told r c c' e.0) es' q h in newly_out e.0.0 q e.1.1
 
-    into : (a : AttrId) (i : InstanceId) → is_given r (question.Attr a i) ≡ true → is_changed r c c' (question.Attr a i) ≡ true → Contains (before ++ newly) (question.Attr a i)
-    into a i g h = go (get c.answers (a.0, i)) refl
-      where
-        then : get c.answers (a.0, i) ≡ None → (o : Option Answer) → get c'.answers (a.0, i) ≡ o → Contains newly (question.Attr a i)
-        then e None e' = absurd (one_answers a i g h e e')
-        then e (Some v) e' = flat_in (λ (x : (ℕ × InstanceId) × Answer). newly_told r c c' x.0) (entries c'.answers) ((a.0, i), v) (question.Attr a i) (entry_at c'.answers (a.0, i) v e') (newly_in a i g h e)
+      into : (a : AttrId) (i : InstanceId) → is_given r (question.Attr a i) ≡ true → is_changed r c c' (question.Attr a i) ≡ true → Contains (before ++ newly) (question.Attr a i)
+      into a i g h = go (get c.answers (a.0, i)) refl
+        where
+          then : get c.answers (a.0, i) ≡ None → (o : Option Answer) → get c'.answers (a.0, i) ≡ o → Contains newly (question.Attr a i)
+          then e None e' = absurd (one_answers a i g h e e')
+          then e (Some v) e' = flat_in (λ (x : (ℕ × InstanceId) × Answer). newly_told r c c' x.0) es' ((a.0, i), v) (question.Attr a i) (has' (a.0, i) v e') (newly_in a i g h e)
 
-        go : (o : Option Answer) → get c.answers (a.0, i) ≡ o → Contains (before ++ newly) (question.Attr a i)
-        go None e = Contains-append_right before newly (question.Attr a i) (then e (get c'.answers (a.0, i)) refl)
-        go (Some v) e =
-            Contains-append_left before newly (question.Attr a i)
-            (flat_in (λ (x : (ℕ × InstanceId) × Answer). answer_told r c c' x.0) (entries c.answers) ((a.0, i), v) (question.Attr a i) (entry_at c.answers (a.0, i) v e) (answer_in a i g h))
+          go : (o : Option Answer) → get c.answers (a.0, i) ≡ o → Contains (before ++ newly) (question.Attr a i)
+          go None e = Contains-append_right before newly (question.Attr a i) (then e (get c'.answers (a.0, i)) refl)
+          go (Some v) e =
+              Contains-append_left before newly (question.Attr a i)
+              (flat_in (λ (x : (ℕ × InstanceId) × Answer). answer_told r c c' x.0) es ((a.0, i), v) (question.Attr a i) (has (a.0, i) v e) (answer_in a i g h))
 
-    all_told : (told : List Question) → told ≡ before ++ newly → AreAnswersTold r c c' told
-    all_told told are = record {
-      given = λ q h. (out q (Contains-append_cases before newly q (subst (λ qs. Contains qs q) are h))).0;
-      differ = λ q h. (out q (Contains-append_cases before newly q (subst (λ qs. Contains qs q) are h))).1;
-      all = λ a i g h. subst (λ qs. Contains qs (question.Attr a i)) (sym are) (into a i g h);
-    }
+      all_told : (told : List Question) → told ≡ before ++ newly → AreAnswersTold r c c' told
+      all_told told are = record {
+        given = λ q h. (out q (Contains-append_cases before newly q (subst (λ qs. Contains qs q) are h))).0;
+        differ = λ q h. (out q (Contains-append_cases before newly q (subst (λ qs. Contains qs q) are h))).1;
+        all = λ a i g h. subst (λ qs. Contains qs (question.Attr a i)) (sym are) (into a i g h);
+      }
 
-    pub are_answers_told : (first then : List (ℕ × Bor InstanceId × Bor Answer)) (none mid told : List Question) → map seen first ≡ entries c.answers → map seen then ≡ entries c'.answers → none ≡ []
+    pub are_answers_told : (first then : List (ℕ × Bor InstanceId × Bor Answer)) (none mid told : List Question) → HasCells c.answers (map seen first) → HasCells c'.answers (map seen then) → none ≡ []
         → mid ≡ none ++ flat_map (λ x. answer_told r c c' (x.0, x.1.now)) first → told ≡ mid ++ flat_map (λ x. newly_told r c c' (x.0, x.1.now)) then → AreAnswersTold r c c' told
-    are_answers_told first then none mid told ef et en em e = all_told told
-        (e ∙ ap (λ qs. mid ++ qs) (flat_seen (newly_told r c c') then ∙ ap (flat_map (λ (x : (ℕ × InstanceId) × Answer). newly_told r c c' x.0)) et)
-        ∙ ap (λ qs. qs ++ newly) (em ∙ ap (λ qs. qs ++ flat_map (λ x. answer_told r c c' (x.0, x.1.now)) first) en ∙ flat_seen (answer_told r c c') first ∙ ap (flat_map (λ (x : (ℕ × InstanceId) × Answer). answer_told r c c' x.0)) ef))
+    are_answers_told first then none mid told ef et en em e = all_told (map seen first) (map seen then) ef et told
+        (e ∙ ap (λ qs. mid ++ qs) (flat_seen (newly_told r c c') then)
+        ∙ ap (λ qs. qs ++ newly (map seen first) (map seen then) ef et) (em ∙ ap (λ qs. qs ++ flat_map (λ x. answer_told r c c' (x.0, x.1.now)) first) en ∙ flat_seen (answer_told r c c') first))
 
   list_out : (k : ℕ × InstanceId) (q : Question) → Contains (list_told c c' k) q → given_too q
   list_out k q h = let one = in_if _ (question.Members (rel_at k.0) k.1) q h in subst given_too one.1 (refl, one.0)
 
-  module _ (index : Index) (answers : List Question) (tell : AreAnswersTold r c c' answers) where
+  module _ (index : Index) (answers : List Question) (tell : AreAnswersTold r c c' answers) (es : List ((ℕ × InstanceId) × BTreeSet Slot)) (has : HasCells index.lists es) where
     abbrev lists : List Question
-    lists = flat_map (λ (e : (ℕ × InstanceId) × BTreeSet Slot). list_told c c' e.0) (entries index.lists)
+    lists = flat_map (λ (e : (ℕ × InstanceId) × BTreeSet Slot). list_told c c' e.0) es
 
     given_out : (q : Question) → Contains answers q ⊎ Contains lists q → given_too q
     given_out q (inl h) = (tell.given q h, tell.differ q h)
-    given_out q (inr h) = let e = flat_out (λ (e : (ℕ × InstanceId) × BTreeSet Slot). list_told c c' e.0) (entries index.lists) q h in list_out e.0.0 q e.1.1
+    given_out q (inr h) = let e = flat_out (λ (e : (ℕ × InstanceId) × BTreeSet Slot). list_told c c' e.0) es q h in list_out e.0.0 q e.1.1
 
     given_into : (q : Question) (x : AttrId × InstanceId) → Contains (readers_in index q) x → is_given r q ≡ true → is_changed r c c' q ≡ true → Contains (answers ++ lists) q
     given_into (question.Attr a i) x there g h = Contains-append_left answers lists (question.Attr a i) (tell.all a i g h)
     given_into (question.Members m i) x there g h =
-        let e = entry_of index.lists (m.0, i) x there in
-        Contains-append_right answers lists (question.Members m i) (flat_in (λ (e : (ℕ × InstanceId) × BTreeSet Slot). list_told c c' e.0) (entries index.lists) ((m.0, i), e.0) (question.Members m i) e.1
+        let e = slot_at index.lists (m.0, i) x there in
+        Contains-append_right answers lists (question.Members m i) (flat_in (λ (e : (ℕ × InstanceId) × BTreeSet Slot). list_told c c' e.0) es ((m.0, i), e.0) (question.Members m i) (has (m.0, i) e.0 e.1)
         (if_in (not (same_names (list_of c m i) (list_of c' m i))) (question.Members m i) h))
 
     all_given : (told : List Question) → told ≡ answers ++ lists → AreGiven r c c' (readers_in index) told
@@ -197,5 +181,5 @@ module _ (r : Rulebase) (c c' : CaseView) where
       all = λ q x there g h. subst (λ qs. Contains qs q) (sym are) (given_into q x there g h);
     }
 
-    pub are_given : (by_list : List (ℕ × Bor InstanceId × Bor (BTreeSet Slot))) (told : List Question) → map seen by_list ≡ entries index.lists → told ≡ answers ++ flat_map (λ x. list_told c c' (x.0, x.1.now)) by_list → AreGiven r c c' (readers_in index) told
-    are_given by_list told es et = all_given told (et ∙ ap (λ qs. answers ++ qs) (flat_seen (list_told c c') by_list ∙ ap (flat_map (λ (e : (ℕ × InstanceId) × BTreeSet Slot). list_told c c' e.0)) es))
+  pub are_given : (index : Index) (answers : List Question) → AreAnswersTold r c c' answers → (by_list : List (ℕ × Bor InstanceId × Bor (BTreeSet Slot))) (told : List Question) → HasCells index.lists (map seen by_list) → told ≡ answers ++ flat_map (λ x. list_told c c' (x.0, x.1.now)) by_list → AreGiven r c c' (readers_in index) told
+  are_given index answers tell by_list told has et = all_given index answers tell (map seen by_list) has told (et ∙ ap (λ qs. answers ++ qs) (flat_seen (list_told c c') by_list))

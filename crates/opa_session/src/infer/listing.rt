@@ -2,9 +2,7 @@
 ghost use Rattle.std.specs.Prelude.{◌≡◌, ◌≢◌, ◌+◌, ◌≤◌, ◌<◌, ◌^◌, [], length, map, Ok, Err, IfOk, IfErr, OnOk, OnErr};
 ghost use Rattle.std.specs.Option.{option_copied};
 ghost use Rattle.opa_case.specs.Cases.{CaseView};
-ghost use Rattle.opa_case.specs.Live.{Population};
 ghost use Rattle.opa_case.specs.Overlays.{relisted_case};
-ghost use Rattle.opa_case.specs.Turns.{Turns};
 ghost use Rattle.opa_case.specs.declared.change.Refusal.{Refusal as Refused};
 ghost use Rattle.opa_case.specs.declared.change.Refusal.TheVariants as refusals;
 ghost use Rattle.opa_code.specs.Rulebases.{rulebase_of};
@@ -26,7 +24,7 @@ use crate::readers::{Index, Renewal, begin_list, lists_told};
 use crate::settlement::settle;
 use crate::store::{Owners, Store};
 use opa_case::{
-    Case, InstanceId, Refusal, Relisted, models_are_shapes, step_fits, step_keeps_containers,
+    Case, InstanceId, Moves, Refusal, Relisted, models_are_shapes, step_fits, step_keeps_containers,
 };
 use opa_code::Code;
 use opa_io::{List, NoMemory, Steps, Txt};
@@ -37,12 +35,19 @@ use opa_tree::Rulebase;
 use std::alloc::Global;
 use std::sync::ledger::Ledger;
 
-/// What is ready before a list is written: what is told, what goes, and how the readers are renewed.
+/// What is ready before a list is written: what is told, what the list moves, and how the readers are renewed.
 #[derive(Drop)]
 pub(crate) struct Prepared {
     pub(crate) ready: Ready,
-    pub(crate) went: List<(InstanceId, InstanceId)>,
+    pub(crate) moves: Moves,
     pub(crate) renewal: Renewal,
+}
+
+/// The same without what the list moves.
+#[derive(Drop)]
+struct Staged {
+    ready: Ready,
+    renewal: Renewal,
 }
 
 /// Stages what a list reaches that is set, or forgotten where there are no names, and makes all ready for it; or its refusal.
@@ -69,7 +74,7 @@ pub(crate) fn prepare_list<L: Ledger>(
     requires current { AreCurrent base.now held.now (kept_of store.old) }
     requires empty { store.old.slots ≡ [] }
     requires fewer { length listeners.old.items < 2 ^ 64 }
-    ensures prepared { IfOk result (λ p. IsPrepared base.now held.now rel inst.now (option_copied names.entry) (readers_in readers.now) (staged_of store.new) p.went p.renewal) }
+    ensures prepared { IfOk result (λ p. IsPrepared base.now held.now rel inst.now (option_copied names.entry) (readers_in readers.now) (staged_of store.new) p.moves p.renewal) }
     ensures dirty { OnOk result ((c : CaseView) → relists base.now held.now rel inst.now (option_copied names.entry) ≡ Ok c → length store.new.slots ≡ reached base.now held.now c) }
     ensures counted { OnOk result ((c : CaseView) → relists base.now held.now rel inst.now (option_copied names.entry) ≡ Ok c → steps.new ≡ steps.old + reached base.now held.now c) }
     ensures ready { IfOk result (λ p. (c : CaseView) → relists base.now held.now rel inst.now (option_copied names.entry) ≡ Ok c → IsReady base.now held.now c (map (λ l. state l) listeners.old.items) (map (λ l. state l) listeners.new.items) (map (λ v. v.items) p.ready.lists.items) p.ready.count) }
@@ -88,7 +93,11 @@ pub(crate) fn prepare_list<L: Ledger>(
     match stage_list(
         alloc, base, owners, code, readers, held, &next, store, steps, listeners,
     ) {
-        Ok(prepared) => Ok(prepared),
+        Ok(staged) => Ok(Prepared {
+            ready: staged.ready,
+            moves: next.into_moves(),
+            renewal: staged.renewal,
+        }),
         Err(_) => {
             store.abandon();
             Err(Refusal::NoMemory)
@@ -135,7 +144,7 @@ fn stage_list<L: Ledger>(
     store: &mut Store<L>,
     steps: &mut Steps<L>,
     listeners: &mut Vec<Box<dyn Listener>>,
-) -> Result<Prepared, NoMemory>
+) -> Result<Staged, NoMemory>
     requires owners { AreOwners base.now owners.now }
     requires code { rulebase_of code.now ≡ base.now }
     requires case { held.now ≡ next.now.case.now }
@@ -145,7 +154,6 @@ fn stage_list<L: Ledger>(
     requires empty { store.old.slots ≡ [] }
     requires fewer { length listeners.old.items < 2 ^ 64 }
     ensures settled { OnOk result (AreSettled (shift base.now next.now.case.now (relisted_case next.now)) (staged_of store.new)) }
-    ensures turns { IfOk result (λ p. (come : Population) × Turns next.now.case.now.live (relisted_case next.now).live p.went come next.now.inst.now) }
     ensures renews { IfOk result (λ p. IsRenewal (shift base.now next.now.case.now (relisted_case next.now)) (readers_in readers.now) p.renewal) }
     ensures dirty { OnOk result (length store.new.slots ≡ reached base.now next.now.case.now (relisted_case next.now)) }
     ensures counted { OnOk result (steps.new ≡ steps.old + reached base.now next.now.case.now (relisted_case next.now)) }
@@ -161,27 +169,6 @@ fn stage_list<L: Ledger>(
     let tasks = begin_list(alloc, base, owners, next, readers, questions)?;
     settle(alloc, base, code, readers, held, next, store, tasks, steps)?;
     let renewal = readers.renewal(alloc, base, owners, held, next, questions)?;
-    let _came = next.came();
-    let went = copied(alloc, next.went())?;
     let ready = made_ready(alloc, base, held, next, store, listeners)?;
-    Ok(Prepared {
-        ready,
-        went,
-        renewal,
-    })
-}
-
-fn copied(
-    alloc: Global,
-    instances: &[(InstanceId, InstanceId)],
-) -> Result<List<(InstanceId, InstanceId)>, NoMemory>
-    ensures { IfOk result (λ all. all ≡ instances.now) }
-{
-    let mut all = List::new(alloc);
-    for (inst, home) in instances {
-        let inst = inst.copy(alloc)?;
-        let home = home.copy(alloc)?;
-        all.push((inst, home))?;
-    }
-    Ok(all)
+    Ok(Staged { ready, renewal })
 }

@@ -18,10 +18,10 @@ ghost use Rattle.opa_session.specs.Store.Stores.{kept_of, staged_of};
 
 use crate::infer::listing::{Prepared, prepare_list};
 use crate::infer::session::Session;
-use crate::readers::{Index, same_are_readers};
+use crate::readers::{Index, Renewal, same_are_readers};
 use crate::settlement::same_are_current;
 use crate::store::{Owners, Store, dropped_are_current};
-use opa_case::{Case, InstanceId, Refusal};
+use opa_case::{Case, InstanceId, Moves, Refusal};
 use opa_io::{List, NoMemory, Steps, Txt};
 use opa_listen::{Listener, tell};
 use opa_model::RelId;
@@ -72,6 +72,11 @@ impl<L: Ledger> Session<L> {
             steps,
             listeners,
         )?;
+        let Prepared {
+            ready,
+            moves,
+            renewal,
+        } = prepared;
         let dirty = keep_list(
             alloc,
             &self.base,
@@ -81,12 +86,13 @@ impl<L: Ledger> Session<L> {
             rel,
             inst,
             names,
-            &prepared,
+            moves,
+            &renewal,
             &mut self.store,
         )?;
         self.dirty = dirty;
-        tell(listeners, prepared.ready.lists);
-        Ok(prepared.ready.count)
+        tell(listeners, ready.lists);
+        Ok(ready.count)
     }
 }
 
@@ -101,7 +107,8 @@ fn keep_list<L: Ledger>(
     rel: RelId,
     inst: &InstanceId,
     names: Option<List<Txt>>,
-    prepared: &Prepared,
+    moves: Moves,
+    renewal: &Renewal,
     store: &mut Store<L>,
 ) -> Result<u64, NoMemory>
     requires declared { HasRelation base.now.model rel }
@@ -109,7 +116,7 @@ fn keep_list<L: Ledger>(
     requires owners { AreOwners base.now owners.now }
     requires exact { AreReaders base.now case.old (readers_in readers.old) }
     requires held { AreCurrent base.now case.old (kept_of store.old) }
-    requires prepared { IsPrepared base.now case.old rel inst.now names (readers_in readers.old) (staged_of store.old) prepared.now.went prepared.now.renewal }
+    requires prepared { IsPrepared base.now case.old rel inst.now names (readers_in readers.old) (staged_of store.old) moves renewal.now }
     ensures case { OnOk result (relists base.now case.old rel inst.now names ≡ Ok case.new) }
     ensures fits { OnOk result (IsOf base.now case.new) }
     ensures current { OnOk result (AreCurrent base.now case.new (kept_of store.new)) }
@@ -122,18 +129,18 @@ fn keep_list<L: Ledger>(
 {
     same_are_current();
     same_are_readers();
-    if readers.add(alloc, &prepared.renewal).is_err() {
+    if readers.add(alloc, renewal).is_err() {
         store.abandon();
         return Err(NoMemory);
     }
-    match write_names(base, case, rel, inst, names) {
-        Ok(()) => {
-            readers.take_out(&prepared.renewal);
-            let dirty = keep_staged(base, owners, store, prepared.went.as_slice());
+    match case.write_list(&base.model, &base.ruled, rel, inst, names, moves) {
+        Ok(went) => {
+            readers.take_out(renewal);
+            let dirty = keep_staged(base, owners, store, &went);
             Ok(dirty)
         }
         Err(_) => {
-            readers.take_back(&prepared.renewal);
+            readers.take_back(renewal);
             store.abandon();
             Err(NoMemory)
         }
@@ -157,27 +164,4 @@ fn keep_staged<L: Ledger>(
     store.commit();
     store.drop_slots(base, owners, went);
     dirty
-}
-
-/// Writes a list, or takes it away.
-fn write_names(
-    base: &Rulebase,
-    case: &mut Case,
-    rel: RelId,
-    inst: &InstanceId,
-    names: Option<List<Txt>>,
-) -> Result<(), NoMemory>
-    requires declared { HasRelation base.now.model rel }
-    requires fits { IsOf base.now case.old }
-    ensures case { OnOk result (relists base.now case.old rel inst.now names ≡ Ok case.new) }
-    ensures unchanged { OnErr result (case.new ≡ case.old) }
-{
-    let done = match names {
-        Some(names) => case.set_list(&base.model, &base.ruled, rel, inst, names),
-        None => case.forget(&base.model, &base.ruled, rel, inst),
-    };
-    match done {
-        Ok(()) => Ok(()),
-        Err(_) => Err(NoMemory),
-    }
 }

@@ -2,18 +2,23 @@
 ghost use Rattle.std.specs.Prelude.{◌≡◌, ◌<◌, ◌≤◌, ◌+◌, ◌^◌, [], length, map, IfOk, OnOk, OnErr};
 ghost use Rattle.opa_case.specs.Fits.{Fits};
 ghost use Rattle.opa_case.specs.Shapes.{shape_of};
-ghost use Rattle.opa_mean.specs.Reached.Settling.{AreCurrent, AreSettled, IsByAnswers, laid_over, shift};
+ghost use Rattle.opa_mean.specs.Reached.Settling.{AreCurrent, AreReaders, AreSettled, IsByAnswers, SameLines, laid_over, shift};
+ghost use Rattle.opa_code.specs.Rulebases.{rulebase_of};
+ghost use Rattle.opa_session.specs.Infer.Ready.{IsReady};
+ghost use Rattle.opa_session.specs.Readers.Indexes.{readers_in};
 ghost use Rattle.opa_session.specs.Infer.Sessions.{rules_of, held_of, reached_of, reached, Tells};
 ghost use Rattle.opa_listen.specs.Hearing.{hearer};
 ghost use Rattle.opa_mean.specs.Rulebases.{IsOf};
 ghost use Rattle.opa_session.specs.Store.Stores.{kept_of, staged_of};
 
+use crate::infer::ready::Ready;
 use crate::infer::session::Session;
 use crate::infer::settling::prepare_change;
 use crate::readers::{Index, are_by_answers, begin, begin_answers};
 use crate::settlement::same_are_current;
 use crate::store::Store;
 use opa_case::Case;
+use opa_code::Code;
 use opa_io::{NoMemory, Steps};
 use opa_listen::{Listener, tell};
 use opa_mean::{laid_stay_current, readers_stay};
@@ -80,23 +85,29 @@ impl<L: Ledger> Session<L> {
         let _count = self.base.model.attribute_count();
         readers_stay();
         same_are_current();
-        let tasks = begin_answers(alloc, &self.base, &self.case, &case, &self.readers)?;
-        let ready = prepare_change(
+        let prepared = prepare_answers(
             alloc,
             &self.base,
             &self.code,
             &self.case,
             &case,
             &self.readers,
-            tasks,
             &mut self.store,
             steps,
             listeners,
-        )?;
-        self.dirty = keep_answers(&self.base, &self.case, &case, &mut self.store);
-        self.case = case;
-        tell(listeners, ready.lists);
-        Ok(ready.count)
+        );
+        match prepared {
+            Ok(ready) => {
+                self.dirty = keep_answers(&self.base, &self.case, &case, &mut self.store);
+                self.case = case;
+                tell(listeners, ready.lists);
+                Ok(ready.count)
+            }
+            Err(NoMemory) => {
+                drop(case);
+                Err(NoMemory)
+            }
+        }
     }
 
     /// The same of any two cases: the readers are found anew.
@@ -122,26 +133,110 @@ impl<L: Ledger> Session<L> {
         ensures bound { steps.new ≤ steps.old + reached (rules_of self.old) (held_of self.old) case }
     {
         let _count = self.base.model.attribute_count();
-        let readers = Index::of(alloc, &self.base, &case)?;
-        let tasks = begin(alloc, &self.base, &self.case, &case, &readers)?;
-        let ready = prepare_change(
+        let prepared = prepare_lists(
             alloc,
             &self.base,
             &self.code,
             &self.case,
             &case,
-            &readers,
-            tasks,
             &mut self.store,
             steps,
             listeners,
-        )?;
-        self.dirty = keep_change(&self.base, &case, &mut self.store);
-        self.case = case;
-        self.readers = readers;
-        tell(listeners, ready.lists);
-        Ok(ready.count)
+        );
+        match prepared {
+            Ok(regained) => {
+                let Regained { ready, readers } = regained;
+                let dirty = keep_change(&self.base, &case, &mut self.store);
+                self.dirty = dirty;
+                self.case = case;
+                self.readers = readers;
+                tell(listeners, ready.lists);
+                Ok(ready.count)
+            }
+            Err(NoMemory) => {
+                drop(case);
+                Err(NoMemory)
+            }
+        }
     }
+}
+
+/// What is ready before a case with other lists is held: what is told, and the readers.
+#[derive(Drop)]
+struct Regained {
+    ready: Ready,
+    readers: Index,
+}
+
+/// Stages what a case with other answers reaches. Without memory nothing is staged.
+fn prepare_answers<L: Ledger>(
+    alloc: Global,
+    base: &Rulebase,
+    code: &Code,
+    held: &Case,
+    next: &Case,
+    readers: &Index,
+    store: &mut Store<L>,
+    steps: &mut Steps<L>,
+    listeners: &mut Vec<Box<dyn Listener>>,
+) -> Result<Ready, NoMemory>
+    requires code { rulebase_of code.now ≡ base.now }
+    requires before { IsOf base.now held.now }
+    requires after { IsOf base.now next.now }
+    requires answers { IsByAnswers (shift base.now held.now next.now) }
+    requires exact { AreReaders base.now next.now (readers_in readers.now) }
+    requires current { AreCurrent base.now held.now (kept_of store.old) }
+    requires empty { store.old.slots ≡ [] }
+    requires fewer { length listeners.old.items < 2 ^ 64 }
+    ensures settled { OnOk result (AreSettled (shift base.now held.now next.now) (staged_of store.new)) }
+    ensures kept { SameLines (kept_of store.old) (kept_of store.new) }
+    ensures empty { OnErr result (store.new.slots ≡ []) }
+    ensures dirty { OnOk result (length store.new.slots ≡ reached base.now held.now next.now) }
+    ensures counted { OnOk result (steps.new ≡ steps.old + reached base.now held.now next.now) }
+    ensures bound { steps.new ≤ steps.old + reached base.now held.now next.now }
+    ensures ready { IfOk result (λ ready. IsReady base.now held.now next.now (map (λ l. state l) listeners.old.items) (map (λ l. state l) listeners.new.items) (map (λ v. v.items) ready.lists.items) ready.count) }
+    ensures quiet { map (λ l. hearer (state l)) listeners.new.items ≡ map (λ l. hearer (state l)) listeners.old.items }
+{
+    let tasks = begin_answers(alloc, base, held, next, readers)?;
+    let ready = prepare_change(
+        alloc, base, code, held, next, readers, tasks, store, steps, listeners,
+    )?;
+    Ok(ready)
+}
+
+/// Stages what a case with other lists reaches, and finds its readers anew. Without memory nothing is staged.
+fn prepare_lists<L: Ledger>(
+    alloc: Global,
+    base: &Rulebase,
+    code: &Code,
+    held: &Case,
+    next: &Case,
+    store: &mut Store<L>,
+    steps: &mut Steps<L>,
+    listeners: &mut Vec<Box<dyn Listener>>,
+) -> Result<Regained, NoMemory>
+    requires code { rulebase_of code.now ≡ base.now }
+    requires before { IsOf base.now held.now }
+    requires after { IsOf base.now next.now }
+    requires current { AreCurrent base.now held.now (kept_of store.old) }
+    requires empty { store.old.slots ≡ [] }
+    requires fewer { length listeners.old.items < 2 ^ 64 }
+    ensures current { OnOk result (AreCurrent base.now next.now (laid_over next.now (kept_of store.new) (staged_of store.new))) }
+    ensures exact { IfOk result (λ r. AreReaders base.now next.now (readers_in r.readers)) }
+    ensures kept { SameLines (kept_of store.old) (kept_of store.new) }
+    ensures empty { OnErr result (store.new.slots ≡ []) }
+    ensures dirty { OnOk result (length store.new.slots ≡ reached base.now held.now next.now) }
+    ensures counted { OnOk result (steps.new ≡ steps.old + reached base.now held.now next.now) }
+    ensures bound { steps.new ≤ steps.old + reached base.now held.now next.now }
+    ensures ready { IfOk result (λ r. IsReady base.now held.now next.now (map (λ l. state l) listeners.old.items) (map (λ l. state l) listeners.new.items) (map (λ v. v.items) r.ready.lists.items) r.ready.count) }
+    ensures quiet { map (λ l. hearer (state l)) listeners.new.items ≡ map (λ l. hearer (state l)) listeners.old.items }
+{
+    let readers = Index::of(alloc, base, next)?;
+    let tasks = begin(alloc, base, held, next, &readers)?;
+    let ready = prepare_change(
+        alloc, base, code, held, next, &readers, tasks, store, steps, listeners,
+    )?;
+    Ok(Regained { ready, readers })
 }
 
 /// Keeps what is staged, where the same instances are live. It takes no memory, and tells how many slots were staged.

@@ -30,7 +30,7 @@ pub fn given_changes(
     ensures { IfOk result (AreGiven base.now old.now new.now (readers_in index.now)) }
 {
     let mut told = answers_told(alloc, base, old, new)?;
-    let lists = index.lists.each(alloc)?;
+    let lists = index.lists.unordered(alloc)?;
     add_lists(alloc, old, new, lists.as_slice(), &mut told)?;
     Ok(told)
 }

@@ -15,4 +15,4 @@ returns-in-None g c =
 pub returns-in-Some : goal.returns-in-Some
 returns-in-Some g c =
     on_ok_weaker c.add.result
-    (added_same (day_value c.seen-operand.result) ((g.K.Look.looks c.args.look.now).value c.args.attr c.args.inst.now) c.args.items.now c.add.new.self (λ d lt. ap (λ l. day_value l d) c.seen-operand.ensures ∙ ap (λ o. line_value (option_copied o) d) (sym c.in-Some.is) ∙ c.line.ensures d lt)) c.add.ensures
+    (added_same (day_value c.seen.result) ((g.K.Look.looks c.args.look.now).value c.args.attr c.args.inst.now) c.args.items.now c.add.new.self (λ d lt. ap (λ l. day_value l d) c.seen.ensures ∙ ap (λ o. line_value (option_copied o) d) (sym c.in-Some.is) ∙ c.line.ensures d lt)) c.add.ensures

@@ -7,7 +7,7 @@ use Rattle.opa_line.specs.Lines.{StandsFor}
 use Rattle.opa_line.proofs.Zipping.{ok_weaker}
 use Rattle.opa_cells.specs.Instances.{global, named}
 use Rattle.opa_mean.specs.Meaning.{item}
-use Rattle.opa_code.specs.OverLines.Additions.{HasRoom, IsAdded}
+use Rattle.opa_code.specs.OverLines.Additions.{HasRoom}
 use Rattle.opa_code.specs.OverLines.Lines.{values_at}
 use Rattle.opa_code.specs.Steps.{Collected}
 use Rattle.opa_code.proofs.Listing.{count_listed, first_listed, gathered_listed, none_first, some_first, lines_item, attribute_item, none_collected, collected_room, collected_more, collected_all, few_taken, place_again, place_begun}
@@ -95,5 +95,4 @@ add_item-returns-in-Some g t c =
 pub add_item-returns-in_ok-lines-in-None : goal.add_item-returns-in_ok-lines-in-None
 add_item-returns-in_ok-lines-in-None g t c =
     on_ok_weaker c.add_item.result
-    (λ added. lines_item (g.K.Look.looks c.args.look.now) c.args.enclosing.now c.args.operand.now c.args.quant c.in_ok-lines-in-None.lines.items c.args.items.now c.add_item.new.self c.in_ok-lines-in-None.ensures
-    (subst (λ ls. IsAdded (λ d. item c.args.quant (values_at ls d)) c.args.items.now c.add_item.new.self) c.deref.ensures.value added)) c.add_item.ensures
+    (lines_item (g.K.Look.looks c.args.look.now) c.args.enclosing.now c.args.operand.now c.args.quant c.in_ok-lines-in-None.lines.items c.args.items.now c.add_item.new.self c.in_ok-lines-in-None.ensures) c.add_item.ensures

@@ -128,14 +128,14 @@ spread_each-returns g t c = λ live.
 pub spread_firsts-loop-tree-preserved : goal.spread_firsts-loop-tree-preserved
 spread_firsts-loop-tree-preserved g t c = λ live.
     let s = g.S.Sight.shape c.args.sight.now in let l = g.S.Sight.look c.args.sight.now in let E = c.args.enclosing.now in
-    going_step (λ d e. is_truth c.args.truth (value s l e E d)) (λ d e. uses s l e E d) c.args.trees.now c.args.days.now c.loop-tree.tree-index c.tree-item.result c.args.truth c.in_ok-line.line c.in_ok-any.any c.loop-tree.passed c.in_ok-passed-2.passed c.in_ok-first.first
+    going_step (λ d e. is_truth c.args.truth (value s l e E d)) (λ d e. uses s l e E d) c.args.trees.now c.args.days.now c.loop-tree.tree-index c.tree-item.result c.args.truth c.in_ok-line.line c.in_ok-undecided.undecided c.loop-tree.left c.in_ok-left-2.left c.in_ok-first.first
     c.args.found.now c.loop-tree.found c.spread.new.found c.loop-tree-test.true c.tree-item.is (c.loop-tree.invariant live) (λ d lt. ap (is_truth c.args.truth) (line_at _ c.in_ok-line.line d (c.in_ok-line.ensures live) lt))
-    (c.in_ok-any.ensures live) c.in_ok-first.ensures c.in_ok-passed-2.ensures (c.in_ok-spread.ensures live)
+    (c.in_ok-undecided.ensures live) c.in_ok-first.ensures c.in_ok-left-2.ensures (c.in_ok-spread.ensures live)
 
 pub spread_firsts-returns : goal.spread_firsts-returns
 spread_firsts-returns g t c = λ live.
     let s = g.S.Sight.shape c.args.sight.now in let l = g.S.Sight.look c.args.sight.now in let E = c.args.enclosing.now in
-    going_end (λ d e. is_truth c.args.truth (value s l e E d)) (λ d e. uses s l e E d) c.args.trees.now c.args.days.now c.loop-tree.tree-index c.loop-tree.passed c.args.found.now c.loop-tree.found
+    going_end (λ d e. is_truth c.args.truth (value s l e E d)) (λ d e. uses s l e E d) c.args.trees.now c.args.days.now c.loop-tree.tree-index c.loop-tree.left c.args.found.now c.loop-tree.found
     (take_whole c.args.trees.now c.loop-tree.tree-index c.loop-tree-test.false) (c.loop-tree.invariant live)
 
 pub spread_rows-loop-row-preserved : goal.spread_rows-loop-row-preserved
@@ -213,15 +213,15 @@ first_members-loop-name-preserved g t c = λ names live.
     let inner' : c.as_slice-in-loop-name.result.now ≡ named c.args.target c.name-item.result ∷ E = c.as_slice-in-loop-name.ensures ∙ c.in_ok-inner.ensures in
     let lives' : AllByRecursion (g.S.Sight.live c.args.sight.now) (named c.args.target c.name-item.result ∷ E) = (all_at (λ n. g.S.Sight.live c.args.sight.now (named c.args.target n)) c.args.names.now c.loop-name.name-index c.name-item.result names c.loop-name-test.true c.name-item.is, live) in
     let within' = subst (AllByRecursion (g.S.Sight.live c.args.sight.now)) (sym inner') lives' in
-    going_step (λ d n. is_truth c.args.truth (value s l c.args.tree.now (named c.args.target n ∷ E) d)) (λ d n. uses s l c.args.tree.now (named c.args.target n ∷ E) d) c.args.names.now c.args.days.now c.loop-name.name-index c.name-item.result c.args.truth c.in_ok-line.line c.in_ok-any.any c.loop-name.passed c.in_ok-passed-2.passed c.in_ok-first.first
+    going_step (λ d n. is_truth c.args.truth (value s l c.args.tree.now (named c.args.target n ∷ E) d)) (λ d n. uses s l c.args.tree.now (named c.args.target n ∷ E) d) c.args.names.now c.args.days.now c.loop-name.name-index c.name-item.result c.args.truth c.in_ok-line.line c.in_ok-undecided.undecided c.loop-name.left c.in_ok-left-2.left c.in_ok-first.first
     c.args.found.now c.loop-name.found c.spread.new.found c.loop-name-test.true c.name-item.is (c.loop-name.invariant names live)
     (λ d lt. ap (is_truth c.args.truth) (line_at _ c.in_ok-line.line d (subst (λ es. StandsFor DAYS (value s l c.args.tree.now es) c.in_ok-line.line) inner (c.in_ok-line.ensures within)) lt))
-    (c.in_ok-any.ensures names live) c.in_ok-first.ensures c.in_ok-passed-2.ensures (subst (λ es. Adds (on c.in_ok-first.first) (uses s l c.args.tree.now es) c.loop-name.found c.spread.new.found) inner' (c.in_ok-spread.ensures within'))
+    (c.in_ok-undecided.ensures names live) c.in_ok-first.ensures c.in_ok-left-2.ensures (subst (λ es. Adds (on c.in_ok-first.first) (uses s l c.args.tree.now es) c.loop-name.found c.spread.new.found) inner' (c.in_ok-spread.ensures within'))
 
 pub first_members-returns : goal.first_members-returns
 first_members-returns g t c = λ names live.
     let s = g.S.Sight.shape c.args.sight.now in let l = g.S.Sight.look c.args.sight.now in let E = c.args.enclosing.now in
-    going_end (λ d n. is_truth c.args.truth (value s l c.args.tree.now (named c.args.target n ∷ E) d)) (λ d n. uses s l c.args.tree.now (named c.args.target n ∷ E) d) c.args.names.now c.args.days.now c.loop-name.name-index c.loop-name.passed c.args.found.now c.loop-name.found
+    going_end (λ d n. is_truth c.args.truth (value s l c.args.tree.now (named c.args.target n ∷ E) d)) (λ d n. uses s l c.args.tree.now (named c.args.target n ∷ E) d) c.args.names.now c.args.days.now c.loop-name.name-index c.loop-name.left c.args.found.now c.loop-name.found
     (take_whole c.args.names.now c.loop-name.name-index c.loop-name-test.false) (c.loop-name.invariant names live)
 
 pub taken_members-loop-name-preserved : goal.taken_members-loop-name-preserved

@@ -1,7 +1,8 @@
 use Rattle.std.proofs.Common.{◌∙◌}
 use Rattle.opa_io.proofs.Appended.{Appends-none}
 use Rattle.opa_rules.specs.Promises.{Outside, outside}
-use Rattle.opa_rules.proofs.DescribeLaws.{tells_description, tells_refusal, not_taken}
+use Rattle.opa_rules.proofs.DescribeLaws.{tells_description, tells_refusal}
+use Rattle.opa_rules.proofs.OpeningLaws.{not_taken}
 use Rattle.opa_rules.proofs.describe.describe.Goals as goal
 
 pub returns-in-Ok-text-clause-describes : goal.returns-in-Ok-text-clause-describes

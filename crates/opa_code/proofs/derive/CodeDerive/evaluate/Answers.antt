@@ -23,6 +23,6 @@ returns-in_ok-lines-in-Some g c =
     let code = c.in-Some.code.now in
     let some : find (is_for c.args.attr) (map (coded s) base.rules) ≡ Some code = ap (find (is_for c.args.attr)) (sym c.args.self.now.compiled) ∙ (sym c.of.ensures ∙ ap option_copied c.in-Some.is) in
     let found = code_found s c.args.attr base.rules code some in
-    let at_inst = c.as_slice-in-Some.ensures ∙ c.in_ok-enclosing-in-Some.ensures in
-    let left = subst (λ e. Leaves l e code.nodes c.in_ok-lines-in-Some.lines.items) at_inst (subst (λ ns. Leaves l c.as_slice-in-Some.result.now ns c.in_ok-lines-in-Some.lines.items) c.as_slice.ensures c.in_ok-lines-in-Some.ensures) in
+    let at_inst = c.from_ref-enclosing.ensures.value in
+    let left = subst (λ e. Leaves l e code.nodes c.in_ok-lines-in-Some.lines.items) at_inst (subst (λ ns. Leaves l c.from_ref-enclosing.result.now ns c.in_ok-lines-in-Some.lines.items) c.as_slice.ensures c.in_ok-lines-in-Some.ensures) in
     ok_weaker c.concluded_line.result _ _ (λ line h. code_derived s l c.args.attr c.args.inst.now base.rules code c.in_ok-lines-in-Some.lines.items line base.formed found left h) c.concluded_line.ensures

@@ -1,9 +1,10 @@
-use Rattle.std.proofs.Common.{map, ◌∙◌, ap}
+use Rattle.std.proofs.Common.{map, sym, ap, subst}
 use Rattle.opa_cells.specs.Rows.{seen}
+use Rattle.opa_cells.specs.Unordered.{HasCells}
 use Rattle.opa_session.proofs.readers.Renewed.{are_given}
 use Rattle.opa_session.proofs.readers.given.given_changes.Goals as goal
 
 pub returns : goal.returns
 returns c =
     are_given c.args.base.now c.args.old.now c.args.new.now c.args.index.now c.in_ok-told.told c.in_ok-told.ensures c.as_slice.result.now c.add_lists.new.told
-    (ap (map seen) c.as_slice.ensures.value ∙ c.in_ok-lists.ensures) c.in_ok-add_lists.ensures
+    (subst (HasCells c.args.index.now.lists) (sym (ap (map seen) c.as_slice.ensures.value)) c.in_ok-lists.ensures) c.in_ok-add_lists.ensures

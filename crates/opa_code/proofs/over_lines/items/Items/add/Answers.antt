@@ -7,9 +7,9 @@ use Rattle.opa_code.proofs.over_lines.items.Items.add.Goals as goal
 
 pub returns-in-Some : goal.returns-in-Some
 returns-in-Some c =
-    constant_added (day_value c.args.operand.now) c.in-Some.value.now c.args.self.now _ (λ d. ap (λ l. day_value l d) (sym c.line.ensures) ∙ c.in-Some.ensures d) refl
+    constant_added (day_value c.args.operand) c.in-Some.value.now c.args.self.now _ (λ d. ap (λ l. day_value l d) (sym c.line.ensures) ∙ c.in-Some.ensures d) refl
     (subst (λ m. IsCounted m c.in-Some.value.now c.args.self.now.constant c.counted-self.result) c.is_most.ensures c.counted-self.ensures) refl c.in_ok-keep_first.ensures
 
-pub returns-in_ok-copy-in-None : goal.returns-in_ok-copy-in-None
-returns-in_ok-copy-in-None c =
-    on_ok_weaker c.push.result (λ e. dated_added (day_value c.args.operand.now) c.in_ok-copy-in-None.field-0 c.args.self.now _ c.in_ok-copy-in-None.ensures refl refl e c.in_ok-keep_first.ensures) c.push.ensures.ok
+pub returns-in-None : goal.returns-in-None
+returns-in-None c =
+    on_ok_weaker c.push.result (λ e. dated_added (day_value c.args.operand) c.args.operand c.args.self.now _ (λ d lt. refl) refl refl e c.in_ok-keep_first.ensures) c.push.ensures.ok

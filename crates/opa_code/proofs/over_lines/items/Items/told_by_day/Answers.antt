@@ -1,13 +1,7 @@
-use Rattle.std.proofs.Common.{rules, of_calls, ◌∙◌, ap}
 use Rattle.opa_line.proofs.Zipping.{ok_weaker}
-use Rattle.opa_mean.specs.Meaning.{first_value}
-use Rattle.opa_code.specs.OverLines.Lines.{values_at}
-use Rattle.opa_code.proofs.over_lines.Adding.{first_is, values_told}
+use Rattle.opa_code.proofs.over_lines.Adding.{gathered_beside}
 use Rattle.opa_code.proofs.over_lines.items.Items.told_by_day.Goals as goal
 
-pub returns : goal.returns
-returns c =
-    let held = c.args.self.now in
-    ok_weaker c.zip.result _ _ (λ l h values gathered. values_told _ _ held.gathering values c.in_ok-tallies.tallies c.first_of-first.result.now l (c.in_ok-tallies.ensures values gathered)
-    (λ d lt. c.first_of-first.ensures d lt ∙ ap (λ ls. first_value (values_at ls d)) c.as_slice.ensures ∙ first_is values held gathered d lt)
-    (λ p q z says. search (rules, of_calls, says)) h) c.zip.ensures
+pub returns-else-is_best : goal.returns-else-is_best
+returns-else-is_best c =
+    ok_weaker c.swept_over.result _ _ (λ line h values held. h values (gathered_beside values c.args.self.now c.as_slice.result.now c.as_slice.ensures held)) c.swept_over.ensures

@@ -16,7 +16,7 @@ keep_list-requires-clause-exact g c = known c.args.self.now.base c.args.self.now
 pub keep_list-requires-clause-prepared : goal.keep_list-requires-clause-prepared
 keep_list-requires-clause-prepared g c =
     let s = c.args.self.now in
-    subst (λ (o : Option Names). IsPrepared s.base s.case c.args.rel c.args.inst.now o (readers_in s.readers) (staged_of c.prepare_list.new.store) c.in_ok-prepared.prepared.went c.in_ok-prepared.prepared.renewal) c.as_ref.ensures.value c.in_ok-prepared.ensures.prepared
+    subst (λ (o : Option Names). IsPrepared s.base s.case c.args.rel c.args.inst.now o (readers_in s.readers) (staged_of c.prepare_list.new.store) c.in_ok-prepared.prepared.moves c.in_ok-prepared.prepared.renewal) c.as_ref.ensures.value c.in_ok-prepared.ensures.prepared
 
 pub returns-clause-told : goal.returns-clause-told
 returns-clause-told g c =

@@ -3,14 +3,11 @@ use Rattle.opa_session.proofs.infer.Heard.{tells}
 use Rattle.opa_session.proofs.infer.Known.{still_known}
 use Rattle.opa_session.proofs.infer.session.Session.replace_answers.Goals as goal
 
-pub begin_answers-requires-clause-readers : goal.begin_answers-requires-clause-readers
-begin_answers-requires-clause-readers g c = let s = c.args.self.now in still_known c.readers_stay.ensures s.base s.case c.args.case (readers_in s.readers) c.requires.answers s.exact
+pub prepare_answers-prepared-requires-clause-exact : goal.prepare_answers-prepared-requires-clause-exact
+prepare_answers-prepared-requires-clause-exact g c = let s = c.args.self.now in still_known c.readers_stay.ensures s.base s.case c.args.case (readers_in s.readers) c.requires.answers s.exact
 
-pub prepare_change-requires-clause-exact : goal.prepare_change-requires-clause-exact
-prepare_change-requires-clause-exact g c = let s = c.args.self.now in still_known c.readers_stay.ensures s.base s.case c.args.case (readers_in s.readers) c.requires.answers s.exact
-
-pub invariant_of-self-2 : goal.invariant_of-self-2
-invariant_of-self-2 g c =
+pub invariant_of-self : goal.invariant_of-self
+invariant_of-self g c =
     let s = c.args.self.now in
     record {
       owned = s.owned;
@@ -23,5 +20,5 @@ invariant_of-self-2 g c =
       exact = ∣ still_known c.readers_stay.ensures s.base s.case c.args.case (readers_in s.readers) c.requires.answers s.exact ∣₁;
     }
 
-pub returns-clause-told : goal.returns-clause-told
-returns-clause-told g c = tells _ _ _ _ _ _ _ _ _ c.in_ok-ready.ensures.ready c.tell.ensures
+pub returns-in-Ok-clause-told : goal.returns-in-Ok-clause-told
+returns-in-Ok-clause-told g c = tells _ _ _ _ _ _ _ _ _ c.in-Ok.ensures.ready c.tell.ensures

@@ -1,0 +1,5 @@
+use Rattle.std.proofs.Common.{◌≡◌, take}
+use Rattle.opa_rules.proofs.printing.same_models.same_verbs.Given as goal
+
+abbrev pub invariant-loop-n : goal.invariant-loop-n
+invariant-loop-n l = take l.n l.model.verbs ≡ take l.n l.other.verbs

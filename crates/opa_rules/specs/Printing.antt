@@ -1,0 +1,4 @@
+pub mod Prints
+pub mod Same
+pub mod SameMeaning
+pub mod Shelves
