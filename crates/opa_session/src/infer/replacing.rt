@@ -85,7 +85,7 @@ impl<L: Ledger> Session<L> {
         let _count = self.base.model.attribute_count();
         readers_stay();
         same_are_current();
-        let prepared = prepare_answers(
+        let prepared = stage_answers(
             alloc,
             &self.base,
             &self.code,
@@ -133,7 +133,7 @@ impl<L: Ledger> Session<L> {
         ensures bound { steps.new ≤ steps.old + reached (rules_of self.old) (held_of self.old) case }
     {
         let _count = self.base.model.attribute_count();
-        let prepared = prepare_lists(
+        let prepared = stage_lists(
             alloc,
             &self.base,
             &self.code,
@@ -169,7 +169,7 @@ struct Regained {
 }
 
 /// Stages what a case with other answers reaches. Without memory nothing is staged.
-fn prepare_answers<L: Ledger>(
+fn stage_answers<L: Ledger>(
     alloc: Global,
     base: &Rulebase,
     code: &Code,
@@ -205,7 +205,7 @@ fn prepare_answers<L: Ledger>(
 }
 
 /// Stages what a case with other lists reaches, and finds its readers anew. Without memory nothing is staged.
-fn prepare_lists<L: Ledger>(
+fn stage_lists<L: Ledger>(
     alloc: Global,
     base: &Rulebase,
     code: &Code,

@@ -3,8 +3,8 @@ use Rattle.opa_session.proofs.infer.Heard.{tells}
 use Rattle.opa_session.proofs.infer.Known.{still_known}
 use Rattle.opa_session.proofs.infer.session.Session.replace_answers.Goals as goal
 
-pub prepare_answers-prepared-requires-clause-exact : goal.prepare_answers-prepared-requires-clause-exact
-prepare_answers-prepared-requires-clause-exact g c = let s = c.args.self.now in still_known c.readers_stay.ensures s.base s.case c.args.case (readers_in s.readers) c.requires.answers s.exact
+pub stage_answers-prepared-requires-clause-exact : goal.stage_answers-prepared-requires-clause-exact
+stage_answers-prepared-requires-clause-exact g c = let s = c.args.self.now in still_known c.readers_stay.ensures s.base s.case c.args.case (readers_in s.readers) c.requires.answers s.exact
 
 pub invariant_of-self : goal.invariant_of-self
 invariant_of-self g c =
