@@ -76,6 +76,18 @@ write("quoted.txt", table.replace("t.csv", "q.csv"), FILE)
 write("q.csv", filled('conclusion x,y\n"', '""', FILE), FILE)
 run("a_table_of_quotes_that_never_close", "check quoted.txt")
 
+# Rows of tables that `rules review` compares: as many as 200,000 nodes let, which differ in all, or in the last part
+def review(name, parts, rows):
+    heads = [f"x{n}" for n in range(parts)]
+    write(f"{name}.txt", "global\n" + "".join(f"  number {head}\n" for head in heads) + f'  number y\ntable "{name}.csv"\n', FILE)
+    cells = "1," * (parts - 1)
+    write(f"{name}.csv", ",".join(heads) + ",= y\n" + "".join(f"{cells}{n},1\n" for n in range(rows)) + "otherwise" + "," * parts + "0\n", FILE)
+    timed(f"a_review_of_{name}", f'"$3" review {name}.txt')
+
+
+review("rows_that_differ", 1, 39_999)
+review("rows_that_differ_at_their_ends", 10, 6_060)
+
 # Saved cases
 write("case.txt", HEAD, FILE)
 write("load_input.txt", 'load "s.json"\n' * 10, FILE)

@@ -92,7 +92,7 @@ class Rules(unittest.TestCase):
         for words in ([], ["describe"], ["describe", "-x"], ["check", "food.txt"], ["describe", "food.txt", "food.txt"], ["describe", "--", "food.txt"]):
             with self.subTest(words=words):
                 done = ran(*words)
-                self.assertEqual((done.returncode, done.stdout), (2, "usage: rules MODE NAME\n"))
+                self.assertEqual((done.returncode, done.stdout), (2, "usage: rules MODE NAME | rules review --json NAME\n"))
 
 
 if __name__ == "__main__":

@@ -12,7 +12,7 @@ use Rattle.opa_rulebase.specs.Loading.{Opens}
 use Rattle.opa_rules.specs.Describing.Description.{described}
 use Rattle.opa_rules.specs.Faults.Finding.{Finds}
 use Rattle.opa_rules.specs.Printing.Prints.{IsPrintOf}
-use Rattle.opa_rules.specs.Reviewing.Findings.{reviewed}
+use Rattle.opa_rules.specs.Reviewing.Findings.{reviewed, reviewed_json}
 use Rattle.opa_rules.specs.declared.reading.Mode.{Mode}
 use Rattle.opa_rules.specs.declared.reading.Mode.TheVariants as mode
 use Rattle.opa_rules.specs.Asked.{asked_of, usage}
@@ -22,10 +22,10 @@ abbrev pub answer : Result Rulebase (List ℕ) → List ℕ
 answer (Ok base) = described base
 answer (Err text) = text
 
--- the lines of what is found of an accepted rulebase, or the printed refusal
-abbrev pub review_answer : Result Rulebase (List ℕ) → List ℕ
-review_answer (Ok base) = reviewed base
-review_answer (Err text) = text
+-- what is found of an accepted rulebase, in a form, or the printed refusal
+abbrev pub review_answer : (Rulebase → List ℕ) → Result Rulebase (List ℕ) → List ℕ
+review_answer shown (Ok base) = shown base
+review_answer shown (Err text) = text
 
 -- What is told of the outside: the files of the shelf, the bytes that were written, and the counts of faults of taking files and of
 -- writing.
@@ -92,21 +92,21 @@ module _ (name : List ℕ) (old new : Outside) where
   Prints status.NoMemory = Appends old.written new.written []
   Prints status.InputLimit = Opening WroteNoPrint
 
-  -- a rulebase, and the lines of its findings were written
-  abbrev pub WroteReview : Result Rulebase (List ℕ) → Type 0
-  WroteReview (Ok base) = Appends old.written new.written (reviewed base)
-  WroteReview (Err text) = ⊥
+  -- a rulebase, and its findings were written in this form
+  abbrev pub WroteReview : (Rulebase → List ℕ) → Result Rulebase (List ℕ) → Type 0
+  WroteReview shown (Ok base) = Appends old.written new.written (shown base)
+  WroteReview shown (Err text) = ⊥
 
-  -- How a review ends: with Done the files open a rulebase, and the lines of its findings were written, none if nothing was found.
-  -- All else is as with a description.
-  abbrev pub Reviews : Status → Type 0
-  Reviews status.Done = Opening WroteReview
-  Reviews status.Refused = Opening WroteRefusal
-  Reviews status.Usage = ⊥
-  Reviews status.ReadFault = Rose old.takes new.takes × Appends old.written new.written []
-  Reviews status.WriteFault = Rose old.writes new.writes × Opening (λ opened. AppendsFront old.written new.written (review_answer opened))
-  Reviews status.NoMemory = Appends old.written new.written []
-  Reviews status.InputLimit = ⊥
+  -- How a review ends: with Done the files open a rulebase, and its findings were written in this form. All else is as with a
+  -- description.
+  abbrev pub Reviews : (Rulebase → List ℕ) → Status → Type 0
+  Reviews shown status.Done = Opening (WroteReview shown)
+  Reviews shown status.Refused = Opening WroteRefusal
+  Reviews shown status.Usage = ⊥
+  Reviews shown status.ReadFault = Rose old.takes new.takes × Appends old.written new.written []
+  Reviews shown status.WriteFault = Rose old.writes new.writes × Opening (λ opened. AppendsFront old.written new.written (review_answer shown opened))
+  Reviews shown status.NoMemory = Appends old.written new.written []
+  Reviews shown status.InputLimit = ⊥
 
   -- what is found in the files under the name is of this sort
   abbrev pub Finding : (Option (List ℕ) → Type 0) → Type 0
@@ -155,7 +155,10 @@ pub record Promises (words : List (String Global)) (old new : Outside) (result :
   pub faults : (name : List ℕ) → Asks words mode.Faults name → Faults name old new result
   -- The mode `print` prints what the files open under the name as one file.
   pub print : (name : List ℕ) → Asks words mode.Print name → Prints name old new result
-  -- The mode `review` says what is worth a look in what the files open under the name.
-  pub review : (name : List ℕ) → Asks words mode.Review name → Reviews name old new result
+  -- The mode `review` says what is worth a look in what the files open under the name, one line a finding: none if nothing was
+  -- found.
+  pub review : (name : List ℕ) → Asks words mode.Review name → Reviews name old new reviewed result
+  -- With `--json` it says the same as one JSON document.
+  pub review_json : (name : List ℕ) → Asks words mode.ReviewJson name → Reviews name old new reviewed_json result
   -- The files stay as they are.
   pub files : new.files ≡ old.files

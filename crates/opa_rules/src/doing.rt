@@ -6,6 +6,7 @@ use crate::faults::faults;
 use crate::print::print;
 use crate::reading::{Mode, read_words};
 use crate::review::review;
+use crate::reviewing::Form;
 use opa_io::{Shelf, Sink, Status};
 use opa_talk::tell;
 use std::alloc::Global;
@@ -22,12 +23,17 @@ pub fn rules<F: Shelf, K: Sink>(
         (outside F.files F.take_faults K.written K.faults shelf.new out.new) result }
 {
     match read_words(words) {
-        None => tell(Status::Usage, out, b"usage: rules MODE NAME\n"),
+        None => tell(
+            Status::Usage,
+            out,
+            b"usage: rules MODE NAME | rules review --json NAME\n",
+        ),
         Some(asked) => match asked.mode {
             Mode::Describe => describe(alloc, asked.name, shelf, out),
             Mode::Faults => faults(alloc, asked.name, shelf, out),
             Mode::Print => print(alloc, asked.name, shelf, out),
-            Mode::Review => review(alloc, asked.name, shelf, out),
+            Mode::Review => review(alloc, asked.name, Form::Lines, shelf, out),
+            Mode::ReviewJson => review(alloc, asked.name, Form::Json, shelf, out),
         },
     }
 }

@@ -12,4 +12,5 @@ mod told;
 mod unknown;
 mod words;
 
+pub(crate) use nearest::difference;
 pub(crate) use telling::faults;

@@ -17,4 +17,8 @@ pub use describing::{description, one_description};
 pub use doing::rules;
 pub use printing::same_rules_mean_the_same;
 pub use reading::{Asked, Mode};
-pub use reviewing::{Finding, UnreachedRow, findings_are_so};
+pub use reviewing::{
+    AlikeAttributes, AlikeLists, Compared, Comparison, Finding, Form, Level, Operand,
+    RoundedCurrency, SettledGoal, UncertainEnding, UnreachedRow, UnusedAttribute, Verdict,
+    all_are_found, bounds_are_kept, findings_are_so,
+};

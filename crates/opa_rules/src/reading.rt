@@ -10,6 +10,7 @@ pub enum Mode {
     Faults,
     Print,
     Review,
+    ReviewJson,
 }
 
 /// A mode, and the name of its rulebase.
@@ -52,12 +53,36 @@ fn taken<'a>(word: &str, name: &'a str) -> Option<Asked<'a>>
     Some(Asked { mode, name })
 }
 
+fn is_review_as_json(word: &str, option: &str) -> bool
+    ensures { result ≡ meant.is_review_as_json word.now option.now }
+{
+    word == "review" && option == "--json"
+}
+
+/// A mode with an option over a name.
+fn taken_as_json<'a>(word: &str, option: &str, name: &'a str) -> Option<Asked<'a>>
+    ensures { option_map (λ a. (a.mode, a.name.now)) result ≡ meant.taken_as_json word.now option.now name.now }
+{
+    if begins_with_dash(name) {
+        return None;
+    }
+    if is_review_as_json(word, option) {
+        Some(Asked {
+            mode: Mode::ReviewJson,
+            name,
+        })
+    } else {
+        None
+    }
+}
+
 /// The mode that the words of the command line ask for; the first word is the program's name.
 pub fn read_words<'a>(words: &'a [String]) -> Option<Asked<'a>>
     ensures { option_map (λ a. (a.mode, a.name.now)) result ≡ meant.asked_of (map string_bytes words.now) }
 {
-    if words.len() != 3 {
-        return None;
+    match words {
+        [_, word, name] => taken(word.as_str(), name.as_str()),
+        [_, word, option, name] => taken_as_json(word.as_str(), option.as_str(), name.as_str()),
+        _ => None,
     }
-    taken(words[1].as_str(), words[2].as_str())
 }

@@ -37,49 +37,49 @@ use Rattle.opa_rules.specs.Describing.Description
 use Rattle.opa_rules.specs.Describing.Parts
 
 -- no float, and so deep at most
-record IsPlain (n : ℕ) (d : Data) : Type 0 where
-  no_float : has_float d ≡ false
-  shallow : depth d ≤ n
+pub record IsPlain (n : ℕ) (d : Data) : Type 0 where
+  pub no_float : has_float d ≡ false
+  pub shallow : depth d ≤ n
 
-record ArePlain (n : ℕ) (ms : Members) : Type 0 where
-  no_float : members_have_float ms ≡ false
-  shallow : members_depth ms ≤ n
+pub record ArePlain (n : ℕ) (ms : Members) : Type 0 where
+  pub no_float : members_have_float ms ≡ false
+  pub shallow : members_depth ms ≤ n
 
 -- ---- parts
 
 plain_null : (n : ℕ) → IsPlain n null
 plain_null n = record { no_float = refl; shallow = omega arith }
 
-plain_text : (n : ℕ) (t : List ℕ) → IsPlain n (string t)
+pub plain_text : (n : ℕ) (t : List ℕ) → IsPlain n (string t)
 plain_text n t = record { no_float = refl; shallow = omega arith }
 
-plain_number : (n k : ℕ) → IsPlain n (number (unsigned k))
+pub plain_number : (n k : ℕ) → IsPlain n (number (unsigned k))
 plain_number n k = record { no_float = refl; shallow = omega arith }
 
 plain_option : (n : ℕ) (o : Option (List ℕ)) → IsPlain n (Parts.text_or_null o)
 plain_option n None = plain_null n
 plain_option n (Some t) = plain_text n t
 
-none : (n : ℕ) → ArePlain n no_members
+pub none : (n : ℕ) → ArePlain n no_members
 none n = record { no_float = refl; shallow = omega arith }
 
-more : {n : ℕ} {k : List ℕ} {d : Data} {ms : Members} → IsPlain n d → ArePlain n ms → ArePlain n (member k d ms)
+pub more : {n : ℕ} {k : List ℕ} {d : Data} {ms : Members} → IsPlain n d → ArePlain n ms → ArePlain n (member k d ms)
 more {n} {k} {d} {ms} p q = record { no_float = ap (λ b. b || members_have_float ms) p.no_float ∙ q.no_float; shallow = omega (arith, p.shallow, q.shallow) }
 
-plain_object : {n : ℕ} {ms : Members} → ArePlain n ms → IsPlain (suc n) (object ms)
+pub plain_object : {n : ℕ} {ms : Members} → ArePlain n ms → IsPlain (suc n) (object ms)
 plain_object {n} {ms} p = record { no_float = p.no_float; shallow = omega (arith, p.shallow) }
 
 abbrev Plain : ℕ → List Data → Type 0
 Plain n ds = AllByRecursion (IsPlain n) ds
 
-plain_list : (n : ℕ) (ds : List Data) → Plain n ds → IsPlain (suc n) (Parts.list_data ds)
+pub plain_list : (n : ℕ) (ds : List Data) → Plain n ds → IsPlain (suc n) (Parts.list_data ds)
 plain_list n [] all = record { no_float = refl; shallow = omega arith }
 plain_list n (d ∷ ds) all =
     let p : IsPlain n d = all.0 in
     let q = plain_list n ds all.1 in
     record { no_float = ap (λ b. b || items_have_float (items_of ds)) p.no_float ∙ q.no_float; shallow = omega (arith, p.shallow, q.shallow) }
 
-plain_each : {A : Type 0} (n : ℕ) (f : A → Data) → ((x : A) → IsPlain n (f x)) → (xs : List A) → Plain n (map f xs)
+pub plain_each : {A : Type 0} (n : ℕ) (f : A → Data) → ((x : A) → IsPlain n (f x)) → (xs : List A) → Plain n (map f xs)
 plain_each n f h [] = tt
 plain_each n f h (x ∷ xs) = (h x, plain_each n f h xs)
 

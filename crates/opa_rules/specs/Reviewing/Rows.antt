@@ -1,5 +1,5 @@
 -- Rows of tables that are never reached.
-use Rattle.std.specs.Prelude.{ℕ, zero, suc, ◌+◌, Bool, true, false, ◌||◌, List, [], ◌∷◌, ◌++◌, length, take, slice_get, position, Option, Some, None}
+use Rattle.std.specs.Prelude.{ℕ, zero, suc, ◌+◌, Bool, true, false, not, ◌||◌, ◌&&◌, List, [], ◌∷◌, ◌++◌, length, take, slice_get, position, Option, Some, None}
 use Rattle.opa_value.specs.declared.value.Value.TheVariants.{Bool as Truth}
 use Rattle.opa_tree.specs.declared.expr.Expr.{Expr}
 use Rattle.opa_tree.specs.declared.expr.Row.{Row}
@@ -33,25 +33,37 @@ is_always_by (Some r) = is_always r.cond
 abbrev pub is_always_at : List Row → ℕ → Bool
 is_always_at rows n = is_always_by (slice_get rows n)
 
+-- an earlier row with the same condition has another value
+abbrev pub differs : Row → Row → Bool
+differs earlier row = not (is_always earlier.cond) && not (same_tree earlier.value row.value)
+
+abbrev pub differs_by : Option Row → Row → Bool
+differs_by None row = false
+differs_by (Some r) row = differs r row
+
+abbrev pub differs_at : List Row → ℕ → Row → Bool
+differs_at rows n row = differs_by (slice_get rows n) row
+
 -- the row behind the earlier ones is never reached, because of the one at a place
-abbrev pub found_by : Rule → List Row → Option ℕ → List Finding
-found_by rule earlier None = []
-found_by rule earlier (Some n) = finding.Row (record {
+abbrev pub found_by : Rule → List Row → Row → Option ℕ → List Finding
+found_by rule earlier row None = []
+found_by rule earlier row (Some n) = finding.Row (record {
   attr = rule.attr;
   file = rule.file;
   line = rule.line;
   row = length earlier + 1;
   earlier = n + 1;
   always = is_always_at earlier n;
+  differs = differs_at earlier n row;
 }) ∷ []
 
--- what is found of a row with this condition, behind the earlier ones
-abbrev pub of_row : Rule → List Row → Expr → List Finding
-of_row rule earlier e = found_by rule earlier (covering earlier e)
+-- what is found of a row behind the earlier ones
+abbrev pub of_row : Rule → List Row → Row → List Finding
+of_row rule earlier row = found_by rule earlier row (covering earlier row.cond)
 
 abbrev pub of_option : Rule → List Row → Option Row → List Finding
 of_option rule earlier None = []
-of_option rule earlier (Some r) = of_row rule earlier r.cond
+of_option rule earlier (Some r) = of_row rule earlier r
 
 -- what is found of the row at a place
 abbrev pub of_place : Rule → List Row → ℕ → List Finding

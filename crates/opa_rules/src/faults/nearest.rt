@@ -53,7 +53,7 @@ fn before_back<'a>(left: &'a [u8], right: &'a [u8]) -> (&'a [u8], &'a [u8])
 }
 
 /// How far two texts are from one another.
-fn difference(left: &[u8], right: &[u8]) -> usize
+pub(crate) fn difference(left: &[u8], right: &[u8]) -> usize
     ensures { result ≡ difference_of left.now right.now }
 {
     let (first, second) = past_front(left, right);

@@ -1,62 +1,18 @@
 // How findings are printed.
 ghost use Rattle.std.specs.Prelude.{◌≡◌, ◌++◌, take, OnOk, IfOk};
 ghost use Rattle.std.specs.String.{string_bytes};
+ghost use Rattle.opa_rules.specs.declared.reviewing.finding.Finding.TheVariants as finding;
 ghost use Rattle.opa_rules.specs.Reviewing.Findings.{reviewed};
 ghost use Rattle.opa_rules.specs.Reviewing.Printed as meant;
 
 use crate::describing::file_name;
-use crate::reviewing::finding::{Finding, MOST_FINDINGS, UnreachedRow};
+use crate::reviewing::finding::{Finding, MOST_FINDINGS};
 use crate::reviewing::gathering::findings;
+use crate::reviewing::words::{file_of, level_of, level_text, line_of, words_of};
 use opa_io::NoMemory;
-use opa_model::{AttrId, Model};
 use opa_tree::Rulebase;
 use opa_words::printed_name;
 use std::alloc::Global;
-
-/// The phrase of an attribute, empty if it isn't declared.
-#[tactic(auto, using(std::proofs::lemmas::Option::slice_get_past))]
-fn phrase_of(model: &Model, attr: AttrId) -> &str
-    ensures { result.now ≡ meant.phrase_of model.now attr }
-{
-    if attr.0 < model.attribute_count() {
-        model.attribute(attr).phrase.as_str()
-    } else {
-        ""
-    }
-}
-
-/// What the earlier row has.
-fn reason(always: bool) -> &'static str
-    ensures { result.now ≡ meant.reason always }
-{
-    if always {
-        "is always true"
-    } else {
-        "has the same condition"
-    }
-}
-
-fn push_row(
-    alloc: Global,
-    out: &mut String,
-    base: &Rulebase,
-    row: UnreachedRow,
-) -> Result<(), NoMemory>
-    ensures { OnOk result (string_bytes out.new ≡ string_bytes out.old ++ meant.row_text base.now row) }
-{
-    let name = printed_name(alloc, file_name(base.files.as_slice(), row.file as usize))?;
-    let text = format!(in alloc;
-        "{}:{}: warning: in the rule for '{}' row {} is never reached: row {} {}\n",
-        name.as_str(),
-        row.line,
-        phrase_of(&base.model, row.attr),
-        row.row,
-        row.earlier,
-        reason(row.always)
-    )?;
-    out.push_str(text.as_str())?;
-    Ok(())
-}
 
 /// Puts the line of a finding behind a text.
 fn push_finding(
@@ -67,13 +23,24 @@ fn push_finding(
 ) -> Result<(), NoMemory>
     ensures { OnOk result (string_bytes out.new ≡ string_bytes out.old ++ meant.finding_text base.now finding) }
 {
-    match finding {
-        Finding::Row(row) => push_row(alloc, out, base, row),
-    }
+    let name = printed_name(
+        alloc,
+        file_name(base.files.as_slice(), file_of(finding) as usize),
+    )?;
+    let words = words_of(alloc, base, finding)?;
+    let text = format!(in alloc;
+        "{}:{}: {}: {}\n",
+        name.as_str(),
+        line_of(finding),
+        level_text(level_of(finding)),
+        words.as_str()
+    )?;
+    out.push_str(text.as_str())?;
+    Ok(())
 }
 
 /// The findings that are printed.
-fn first_ones(findings: &[Finding]) -> &[Finding]
+pub(crate) fn first_ones(findings: &[Finding]) -> &[Finding]
     ensures { result.now ≡ take 100 findings.now }
 {
     if findings.len() > MOST_FINDINGS {

@@ -1,35 +1,16 @@
 // Rows of tables that are never reached.
-ghost use Rattle.std.specs.Prelude.{◌≡◌, ◌++◌, ◌<◌, ◌≤◌, length, IfSome, OnOk};
+ghost use Rattle.std.specs.Prelude.{◌≡◌, ◌+◌, ◌++◌, ◌<◌, ◌≤◌, length, take, IfSome, OnOk};
+ghost use Rattle.std.specs.HashMap.{get};
+ghost use Rattle.opa_rules.specs.Reviewing.Earlier.{AreKnown};
 ghost use Rattle.opa_rules.specs.Reviewing.Rows as meant;
+ghost use Rattle.opa_rules.specs.Reviewing.Trees.{same_tree};
 
+use crate::reviewing::earlier::{Earlier, is_always};
 use crate::reviewing::finding::{Finding, UnreachedRow};
 use crate::same_trees::is_same;
 use opa_io::{List, NoMemory};
 use opa_tree::{Expr, Row, Rule};
-use opa_value::Value;
-
-/// Whether a condition is the literal `true`.
-fn is_always(cond: &Expr) -> bool
-    ensures { result ≡ meant.is_always cond.now }
-{
-    is_same(cond, &Expr::Const(Value::Bool(true)))
-}
-
-/// Whether an earlier condition leaves nothing to a later one.
-fn covers(earlier: &Expr, later: &Expr) -> bool
-    ensures { result ≡ meant.covers earlier.now later.now }
-{
-    is_always(earlier) || is_same(earlier, later)
-}
-
-/// The place of the first of the earlier rows that leaves nothing to a condition.
-#[tactic(auto, using(crate::proofs::reviewing::RowLaws::covering_within))]
-fn covering(earlier: &[Row], cond: &Expr) -> Option<usize>
-    ensures is { result ≡ meant.covering earlier.now cond.now }
-    ensures within { IfSome result (λ n. n < length earlier.now) }
-{
-    earlier.iter().position(|row| covers(&row.cond, cond))
-}
+use std::alloc::Global;
 
 /// Whether the row at a place is always true.
 fn is_always_at(rows: &[Row], place: usize) -> bool
@@ -41,16 +22,36 @@ fn is_always_at(rows: &[Row], place: usize) -> bool
     }
 }
 
+/// Whether an earlier row with the same condition has another value.
+fn differs(earlier: &Row, row: &Row) -> bool
+    ensures { result ≡ meant.differs earlier.now row.now }
+{
+    !is_always(&earlier.cond) && !is_same(&earlier.value, &row.value)
+}
+
+/// Whether the row at a place has another value.
+fn differs_at(rows: &[Row], place: usize, row: &Row) -> bool
+    ensures { result ≡ meant.differs_at rows.now place row.now }
+{
+    match rows.get(place) {
+        Some(earlier) => differs(earlier, row),
+        None => false,
+    }
+}
+
 /// Adds the row behind others, if one of these leaves nothing to its condition.
 fn push_behind(
     findings: &mut List<Finding>,
     rule: &Rule,
     earlier: &[Row],
-    cond: &Expr,
+    row: &Row,
+    covering: Option<usize>,
 ) -> Result<(), NoMemory>
-    ensures { OnOk result (findings.new ≡ findings.old ++ meant.of_row rule.now earlier.now cond.now) }
+    requires covering { covering ≡ meant.covering earlier.now row.now.cond }
+    requires within { IfSome covering (λ n. n < length earlier.now) }
+    ensures { OnOk result (findings.new ≡ findings.old ++ meant.of_row rule.now earlier.now row.now) }
 {
-    match covering(earlier, cond) {
+    match covering {
         None => Ok(()),
         Some(place) => findings.push(Finding::Row(UnreachedRow {
             attr: rule.attr,
@@ -59,32 +60,45 @@ fn push_behind(
             row: earlier.len() + 1,
             earlier: place + 1,
             always: is_always_at(earlier, place),
+            differs: differs_at(earlier, place, row),
         })),
     }
 }
 
 /// Adds what is found of the row at a place.
-fn push_row(
+fn push_row<'a>(
     findings: &mut List<Finding>,
+    known: &mut Earlier<'a>,
     rule: &Rule,
-    rows: &[Row],
+    rows: &'a [Row],
     place: usize,
 ) -> Result<(), NoMemory>
-    requires { place ≤ length rows.now }
-    ensures { OnOk result (findings.new ≡ findings.old ++ meant.of_place rule.now rows.now place) }
+    requires place { place ≤ length rows.now }
+    requires known { AreKnown (take place rows.now) (get same_tree known.old.places) known.old.always }
+    ensures found { OnOk result (findings.new ≡ findings.old ++ meant.of_place rule.now rows.now place) }
+    ensures known { OnOk result (place < length rows.now → AreKnown (take (place + 1) rows.now) (get same_tree known.new.places) known.new.always) }
 {
     match rows.get(place) {
-        Some(row) => push_behind(findings, rule, &rows[..place], &row.cond),
+        Some(row) => {
+            let covering = known.next(&rows[..place], row)?;
+            push_behind(findings, rule, &rows[..place], row, covering)
+        }
         None => Ok(()),
     }
 }
 
 /// Adds what is found of the rows of a rule.
-fn push_rows(findings: &mut List<Finding>, rule: &Rule, rows: &[Row]) -> Result<(), NoMemory>
+fn push_rows(
+    alloc: Global,
+    findings: &mut List<Finding>,
+    rule: &Rule,
+    rows: &[Row],
+) -> Result<(), NoMemory>
     ensures { OnOk result (findings.new ≡ findings.old ++ meant.of_rows rule.now rows.now (length rows.now)) }
 {
+    let mut known = Earlier::new(alloc);
     for place in 0..rows.len() {
-        push_row(findings, rule, rows, place)?;
+        push_row(findings, &mut known, rule, rows, place)?;
     }
     Ok(())
 }
@@ -111,8 +125,12 @@ fn rows_of(expr: &Expr) -> &[Row]
 }
 
 /// Adds the rows of a rule that are never reached.
-pub(crate) fn push_rule(findings: &mut List<Finding>, rule: &Rule) -> Result<(), NoMemory>
+pub(crate) fn push_rule(
+    alloc: Global,
+    findings: &mut List<Finding>,
+    rule: &Rule,
+) -> Result<(), NoMemory>
     ensures { OnOk result (findings.new ≡ findings.old ++ meant.of_rule rule.now) }
 {
-    push_rows(findings, rule, rows_of(&rule.expr))
+    push_rows(alloc, findings, rule, rows_of(&rule.expr))
 }
