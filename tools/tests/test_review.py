@@ -1,16 +1,22 @@
 """`rules review`: rulebases with findings and without, letter by letter; the most findings; what it says of the examples, and the
 same as JSON.
 
+Rows are told letter by letter. Comparisons, what goals look at, and notes are worked out here too, from what `rules describe` and
+`rules print` say, and compared with all that is printed, in its order.
+
 The program is the environment's RULES, or the built one of this repository.
 """
 from __future__ import annotations
 
 import json
+import operator
 import os
 import re
 import subprocess
 import tempfile
 import unittest
+from collections.abc import Callable, Iterable
+from decimal import Decimal
 from pathlib import Path
 from typing import Any
 
@@ -84,6 +90,101 @@ ROWS: dict[str, tuple[str, list[tuple[int, int, str]]]] = {
     ),
 }
 
+# Attributes behind a verb, goals and rules; and what is found of them: the line, and the words.
+ATTRIBUTES: dict[str, tuple[str, list[tuple[int, str]]]] = {
+    "a goal looks at all": (
+        "global\n  number the income\n  number the share\n  number the fee\ngoal the fee\nthe fee = the share + 1\nthe share = the income / 2\n",
+        [],
+    ),
+    "an attribute that no rule mentions": (
+        "global\n  number the income\n  number the age\n  number the fee\ngoal the fee\nthe fee = the income + 1\n",
+        [(0, "no goal looks at 'the age'")],
+    ),
+    "what only an unused rule mentions": (
+        "global\n  number the income\n  number the age\n  number the share\n  number the fee\ngoal the fee\n"
+        "the fee = the income + 1\nthe share = the age + the income\n",
+        [(0, "no goal looks at 'the age'"), (9, "no goal looks at 'the share'")],
+    ),
+    "a goal that another goal looks at": (
+        "global\n  number the income\n  number the share\n  number the fee\ngoal the fee\ngoal the share\nthe fee = the share + 1\nthe share = the income + 1\n",
+        [],
+    ),
+    "without goals nothing is said": (
+        "global\n  number the income\n  number the fee\nthe fee = the income + 1\n",
+        [],
+    ),
+    "a goal that is asked": (
+        "global\n  number the income\n  number the fee\ngoal the income\n",
+        [(0, "no goal looks at 'the fee'")],
+    ),
+    "a goal of literals": (
+        "global\n  number the fee\ngoal the fee\nthe fee = 1 + 2\n",
+        [(5, "no answer changes 'the fee'")],
+    ),
+    "a goal of literals over two rules": (
+        "global\n  number the share\n  number the fee\ngoal the fee\nthe fee = the share * 2\nthe share = 7\n",
+        [(6, "no answer changes 'the fee'")],
+    ),
+    "a goal of which one rule looks at an answer": (
+        "global\n  number the share\n  number the rate\n  number the fee\ngoal the fee\nthe fee = the share * the rate\nthe share = 7\n",
+        [],
+    ),
+    "a goal that counts a list": (
+        "global\n  number the fee\nentity the person\n  in global: the people\n  number the person's age\ngoal the fee\nthe fee = InstanceCount(the people)\n",
+        [(0, "no goal looks at 'the person's age'")],
+    ),
+}
+# Attributes that are answered: the least and the greatest number, and the decimals; None are those of all numbers.
+ANSWERED: dict[str, tuple[str | None, str | None, int]] = {
+    "the age": ("0", "120", 0),
+    "the share": ("0.5", "2", 1),
+    "the count": ("7", "7", 0),
+    "the income": ("0", None, 2),
+    "the debt": (None, "1000", 4),
+    "the child's age": ("0", "18", 0),
+}
+# Concluded ones have no bounds: a currency has two decimals, and a number may be any.
+CONCLUDED: dict[str, int | None] = {"the tax": 2, "the ratio": None, "the fee": None}
+NUMBERS = """global
+  number the age: from 0, to 120, decimals 0
+  number the share: from 0.5, to 2, decimals 1
+  number the count: from 7, to 7, decimals 0
+  currency the income: from 0
+  number the debt: to 1000
+  currency the tax
+  number the ratio: from 0, to 1
+  number the fee
+entity the child
+  in global: the children
+  number the child's age: from 0, to 18, decimals 0
+goal the fee
+the tax = the income * 0.1
+the ratio = the income / 3
+the fee =
+"""
+NUMBERS_LINE = NUMBERS.count("\n")
+SIGNS: dict[str, Callable[[Decimal, Decimal], bool]] = {
+    "=": operator.eq,
+    "<>": operator.ne,
+    "<": operator.lt,
+    "<=": operator.le,
+    ">": operator.gt,
+    ">=": operator.ge,
+}
+GREATEST = Decimal(10) ** 13
+UNIT = Decimal("0.0001")
+Range = tuple[Decimal, Decimal]
+# Of attributes: what lies between their bounds, and how many decimals they can have.
+Sides = dict[str, tuple[Range | None, int | None]]
+
+
+def range_of(least: object, most: object) -> Range:
+    return (-GREATEST if least is None else Decimal(str(least)), GREATEST if most is None else Decimal(str(most)))
+
+
+SIDES: Sides = {phrase: (range_of(least, most), decimals) for phrase, (least, most, decimals) in ANSWERED.items()}
+SIDES |= {phrase: (None, decimals) for phrase, decimals in CONCLUDED.items()}
+
 
 def between(phrase: str) -> str:
     return f"note: '{phrase}' is rounded to two decimals, and another currency is concluded from it"
@@ -142,7 +243,7 @@ NOTES: dict[str, tuple[str, list[str]]] = {
 
 
 def text_of(file: str, line: int, phrase: str, row: int, earlier: int, reason: str) -> str:
-    return f"{file}:{line}: warning: in the rule for '{phrase}' row {row} is never reached: row {earlier} {reason}\n"
+    return f"{file}:{line}: warning: in the rule for '{phrase}' row {row} is never reached: row {earlier} {reason}"
 
 
 def left(one: bytes, other: bytes) -> tuple[bytes, bytes]:
@@ -157,35 +258,181 @@ def differ_by_one(one: str, other: str) -> bool:
 
 
 def blocks(printed: str) -> dict[str, list[str]]:
-    """The lines of each rule of a printed rulebase, by what it concludes."""
+    """The lines of each rule of a printed rulebase, by what it concludes, in the order of the rules; and other lines."""
     found: dict[str, list[str]] = {}
     lines: list[str] = []
     for line in printed.splitlines():
         if line[:1] != " ":
             lines = []
-            found[line.partition(" =")[0]] = lines
-        lines.append(line)
+            found[line.partition(" =")[0].removesuffix(" if")] = lines
+        lines.append(re.sub('"(?:[^"]|"")*"', '""', line))
     return found
+
+
+def ruled_in(described: dict[str, Any], printed: str) -> list[tuple[dict[str, Any], list[str]]]:
+    """The attributes that have a rule, in the order of the rules, each with the lines of its rule."""
+    attributes = {each["phrase"]: each for each in described["attributes"] if each["rule"]}
+    return [(attributes[phrase], lines) for phrase, lines in blocks(printed).items() if phrase in attributes]
+
+
+def place_of(described: dict[str, Any], attribute: dict[str, Any]) -> str:
+    rule = attribute["rule"]
+    return f"{rule['file']}:{rule['line']}" if rule else f"{described['rulebase']}:0"
+
+
+# ---- comparisons
+
+
+def plain(number: Decimal) -> str:
+    text = f"{number:f}"
+    return text.rstrip("0").rstrip(".") if "." in text else text
+
+
+def values_near(mine: Range, others: Range) -> list[Decimal]:
+    """Values within bounds, at them and next to others: if a comparison with the others can be true, it is of one of these."""
+    near = [*mine, *(edge + step for edge in others for step in (-UNIT, Decimal(0), UNIT))]
+    return [value for value in near if mine[0] <= value <= mine[1]]
+
+
+def bounds_of(side: str, sides: Sides) -> Range | None:
+    return sides[side][0] if side in sides else range_of(side, side)
+
+
+def named(side: str, sides: Sides) -> str:
+    return f"'{side}'" if side in sides else plain(Decimal(side))
+
+
+def bound_text(side: str, mine: Range, others: Range) -> str:
+    if mine[0] == mine[1]:
+        return f"'{side}' is {plain(mine[0])}"
+    if all(value >= other for value in mine for other in others):
+        return f"'{side}' is at least {plain(mine[0])}"
+    return f"'{side}' is at most {plain(mine[1])}"
+
+
+def by_bounds(left: str, sign: str, right: str, sides: Sides) -> str | None:
+    mine, others = bounds_of(left, sides), bounds_of(right, sides)
+    if mine is None or others is None:
+        return None
+    results = {SIGNS[sign](a, b) for a in values_near(mine, others) for b in values_near(others, mine)}
+    if len(results) == 2:
+        return None
+    told = [bound_text(left, mine, others)] if left in sides else []
+    told += [bound_text(right, others, mine)] if right in sides else []
+    word = "false" if results == {True} else "true"
+    return f"is never {word}" + "".join([": ", ", and "][place] + text for place, text in enumerate(told))
+
+
+def by_decimals(left: str, right: str, sides: Sides) -> str | None:
+    for side, other in ((left, right), (right, left)):
+        decimals = sides[side][1] if side in sides else None
+        if decimals is None or other in sides:
+            continue
+        if Decimal(other) != round(Decimal(other), decimals):
+            few = {0: "is a whole number", 1: "has at most 1 decimal"}.get(decimals, f"has at most {decimals} decimals")
+            return f"is with a number that can't be: '{side}' {few}"
+    return None
+
+
+def compared_texts(place: str, phrase: str, comparisons: Iterable[tuple[str, str, str]], sides: Sides) -> list[str]:
+    """What is said of comparisons in the rule for a phrase."""
+    found = []
+    for left, sign, right in comparisons:
+        said = by_bounds(left, sign, right, sides) or by_decimals(left, right, sides)
+        if said:
+            front = f"{place}: warning: in the rule for '{phrase}' the comparison"
+            found.append(f"{front} {named(left, sides)} {sign} {named(right, sides)} {said}")
+    return found
+
+
+def comparisons_in(lines: list[str], sides: Sides) -> list[tuple[str, str, str]]:
+    """The comparisons of a printed rule whose sides are attributes and numbers. A row's condition comes before its value."""
+    side = "|".join([re.escape(phrase) for phrase in sorted(sides, key=len, reverse=True)] + [r"-?\d+(?:\.\d+)?"])
+    comparison = re.compile(rf"(?:^|[(]|, )({side}) (<>|<=|>=|=|<|>) ({side})(?=$|[),])")
+    found: list[tuple[str, str, str]] = []
+    value: list[tuple[str, str, str]] = []
+    for number, line in enumerate(lines):
+        text = re.sub(" (and|or|if|otherwise)$", "", line.strip()) if number else line.partition(" = ")[2]
+        here: list[tuple[str, str, str]] = comparison.findall(text)
+        if number and line.endswith((" if", " otherwise")):
+            found += value
+            value = here
+        else:
+            found += here
+    return found + value
+
+
+def sides_of(described: dict[str, Any]) -> Sides:
+    sides: Sides = {}
+    for each in described["attributes"]:
+        is_number = each["kind"] in ("number", "currency")
+        bounds = range_of(each["least"], each["most"]) if is_number and not each["rule"] else None
+        concluded = 2 if each["kind"] == "currency" else None
+        sides[each["phrase"]] = (bounds, concluded if each["rule"] else each["decimals"])
+    return sides
+
+
+def compared_in(described: dict[str, Any], printed: str) -> list[str]:
+    """What is said of all comparisons, rule by rule."""
+    sides = sides_of(described)
+    found = []
+    for each, lines in ruled_in(described, printed):
+        found += compared_texts(place_of(described, each), each["phrase"], comparisons_in(lines, sides), sides)
+    return found
+
+
+# ---- what goals look at
+
+
+def seen_by(described: dict[str, Any], goal: str) -> set[str]:
+    """What a goal looks at, with itself: whatever the rules of what it looks at mention."""
+    rules = {attribute["phrase"]: attribute["rule"] for attribute in described["attributes"]}
+    seen = {goal}
+    left = [goal]
+    while left:
+        rule = rules[left.pop()]
+        further = set(rule["mentions"]["attributes"]) - seen if rule else set()
+        seen |= further
+        left += further
+    return seen
+
+
+def looked_at(described: dict[str, Any]) -> list[str]:
+    """What is said of attributes that no goal looks at, and of goals that no answer changes."""
+    attributes = {attribute["phrase"]: attribute for attribute in described["attributes"]}
+    seen = {goal: seen_by(described, goal) for goal in described["goals"]}
+    rules = {goal: [attributes[phrase]["rule"] for phrase in seen[goal]] for goal in seen}
+    unused = [phrase for phrase in attributes if seen and not any(phrase in each for each in seen.values())]
+    settled = [goal for goal in described["goals"] if all(rule and not rule["mentions"]["lists"] for rule in rules[goal])]
+    found = [f"{place_of(described, attributes[phrase])}: warning: no goal looks at '{phrase}'" for phrase in unused]
+    return found + [f"{place_of(described, attributes[goal])}: warning: no answer changes '{goal}'" for goal in settled]
+
+
+# ---- notes
 
 
 def notes(described: dict[str, Any], printed: str) -> list[str]:
-    """What is noted of a rulebase, by what other modes say of it."""
-    attributes, rules = described["attributes"], blocks(printed)
+    """What is noted: phrases, then currencies, then last values."""
     found = []
-    for things in (attributes, described["lists"]):
-        phrases = [each["phrase"] for each in things]
+    for things in (described["attributes"], described["lists"]):
+        phrases = [each["phrase"] for each in things] if len(things) <= 1000 else []
         pairs = [(phrases[k], phrases[n]) for n in range(len(phrases)) for k in range(n) if differ_by_one(phrases[k], phrases[n])]
         found += [f"{described['rulebase']}:0: {alike(*pair)}" for pair in pairs]
-    ruled = [each for each in attributes if each["rule"]]
-    used = {phrase for each in ruled if each["kind"] == "currency" for phrase in each["rule"]["mentions"]["attributes"]}
-    for each in ruled:
-        place, phrase = f"{each['rule']['file']}:{each['rule']['line']}", each["phrase"]
-        lines = rules.get(phrase, [])
-        if each["kind"] == "currency" and phrase in used and phrase not in described["goals"] and any(re.search(" [*/] ", line) for line in lines):
-            found.append(f"{place}: {between(phrase)}")
-        if lines[-1:] == ["  uncertain otherwise"]:
-            found.append(f"{place}: {uncertain(phrase)}")
+    ruled = ruled_in(described, printed)
+    used = {phrase for each, _ in ruled if each["kind"] == "currency" for phrase in each["rule"]["mentions"]["attributes"]}
+    for each, lines in ruled:
+        is_between = each["kind"] == "currency" and each["phrase"] in used and each["phrase"] not in described["goals"]
+        if is_between and any(re.search(" [*/] ", line) for line in lines):
+            found.append(f"{place_of(described, each)}: {between(each['phrase'])}")
+    for each, lines in ruled:
+        if lines[-1] == "  uncertain otherwise":
+            found.append(f"{place_of(described, each)}: {uncertain(each['phrase'])}")
     return found
+
+
+def text_with(lines: list[str]) -> str:
+    """The lines that are printed: a hundred at most."""
+    return "".join(f"{line}\n" for line in lines[:100])
 
 
 def ran(*words: str, folder: object) -> tuple[str, int]:
@@ -208,10 +455,17 @@ class Review(unittest.TestCase):
     def review(self, name: str = "f.txt") -> tuple[str, int]:
         return ran("review", name, folder=self.folder)
 
-    def rows(self, name: str = "f.txt") -> tuple[str, int]:
-        """What is said of rows."""
-        text, status = self.review(name)
-        return "".join(line for line in text.splitlines(True) if " is never reached: " in line), status
+    def told(self, name: str = "f.txt", folder: Path | None = None) -> tuple[dict[str, Any], str]:
+        """What `describe` and `print` say."""
+        described, printed = (ran(mode, name, folder=folder or self.folder) for mode in ("describe", "print"))
+        self.assertEqual((described[1], printed[1]), (0, 0))
+        document: dict[str, Any] = json.loads(described[0])
+        return document, printed[0]
+
+    def wanted(self, rows: list[str], name: str = "f.txt", folder: Path | None = None) -> tuple[str, int]:
+        """Rows, and behind them all that is worked out."""
+        described, printed = self.told(name, folder)
+        return text_with(rows + compared_in(described, printed) + looked_at(described) + notes(described, printed)), 0
 
     def as_document(self, name: str, folder: Path) -> dict[str, Any]:
         text, status = ran("review", "--json", name, folder=folder)
@@ -224,18 +478,35 @@ class Review(unittest.TestCase):
         for what, (rows, found) in ROWS.items():
             with self.subTest(what):
                 self.put(HEAD + rows)
-                self.assertEqual(self.rows(), ("".join(text_of("f.txt", 8, "the fee", *each) for each in found), 0))
+                self.assertEqual(self.review(), self.wanted([text_of("f.txt", 8, "the fee", *each) for each in found]))
+
+    def test_rows_and_what_else_is_found(self) -> None:
+        """All of a rulebase, letter by letter."""
+        self.put(HEAD + ROWS["twice always true"][0])
+        row = text_of("f.txt", 8, "the fee", 2, 1, ALWAYS)
+        unused = [f"f.txt:0: warning: no goal looks at '{phrase}'" for phrase in ("the claimant is an adult", "the claimant is a veteran", "the income")]
+        self.assertEqual(self.review(), (text_with([row, *unused, "f.txt:8: warning: no answer changes 'the fee'"]), 0))
 
     def test_rules_without_rows(self) -> None:
         self.put(HEAD.removesuffix("the fee =\n") + "the fee = the income + 1\n")
-        self.assertEqual(self.rows(), ("", 0))
+        self.assertEqual(self.review(), self.wanted([]))
+
+    def test_attributes(self) -> None:
+        for what, (text, found) in ATTRIBUTES.items():
+            with self.subTest(what):
+                self.put("verb is / is not / is /\n" + text)
+                wanted = [f"f.txt:{line}: warning: {words}" for line, words in found]
+                self.assertEqual(self.review(), (text_with(wanted), 0))
+                self.assertEqual(looked_at(self.told()[0]), wanted)
 
     def test_notes(self) -> None:
         for what, (text, found) in NOTES.items():
             with self.subTest(what):
                 self.put(text)
-                said = [line for line in self.review()[0].splitlines() if ": note: " in line]
-                self.assertEqual(said, [f"f.txt{each}" for each in found])
+                described, printed = self.told()
+                wanted = [f"f.txt{each}" for each in found]
+                self.assertEqual(self.review(), (text_with(looked_at(described) + wanted), 0))
+                self.assertEqual((compared_in(described, printed), notes(described, printed)), ([], wanted))
 
     def test_a_thousand_phrases_at_most(self) -> None:
         """Those of more attributes aren't compared."""
@@ -247,21 +518,107 @@ class Review(unittest.TestCase):
     def test_records_of_a_table(self) -> None:
         self.put('table "fees.csv"\n' + HEAD.removesuffix("the fee =\n"))
         self.put("the income,= the fee\n< 10,1\n< 20,2\n< 10,3\notherwise,4\n", "fees.csv")
-        self.assertEqual(self.rows(), (text_of("fees.csv", 1, "the fee", 3, 1, ANOTHER), 0))
+        self.assertEqual(self.review(), self.wanted([text_of("fees.csv", 1, "the fee", 3, 1, ANOTHER)]))
 
     def test_rules_of_further_files_come_in_their_order(self) -> None:
         self.put('include "more.txt"\n' + HEAD + "  1 if\n    true\n  2 if\n    the income < 1\n  3 otherwise\n")
         self.put("global\n  number the cost\nthe cost =\n  1 if\n    true\n  2 if\n    true\n  3 otherwise\n", "more.txt")
-        text, status = self.rows()
-        wanted = [text_of("f.txt", 9, "the fee", 2, 1, ALWAYS), text_of("more.txt", 3, "the cost", 2, 1, ALWAYS)]
-        self.assertEqual((sorted(text.splitlines(True)), status), (sorted(wanted), 0))
+        self.assertEqual(self.review(), self.wanted([text_of("f.txt", 9, "the fee", 2, 1, ALWAYS), text_of("more.txt", 3, "the cost", 2, 1, ALWAYS)]))
 
     def test_a_hundred_at_most(self) -> None:
-        for count in (99, 100, 101, 300):
+        for count in (97, 98, 99, 100, 101, 300):
             self.put(HEAD + "  1 if\n    the income < 10\n" * (count + 1) + "  2 otherwise\n")
-            wanted = "".join(text_of("f.txt", 8, "the fee", row + 2, 1, SAME) for row in range(min(count, 100)))
-            self.assertEqual(self.rows(), (wanted, 0), count)
-            self.assertEqual(len(self.as_document("f.txt", self.folder)["findings"]), len(self.review()[0].splitlines()))
+            rows = [text_of("f.txt", 8, "the fee", row + 2, 1, SAME) for row in range(count)]
+            self.assertEqual(self.review(), self.wanted(rows), count)
+            self.assertEqual(len(self.as_document("f.txt", self.folder)["findings"]), min(count + 2, 100))
+
+    def put_numbers(self, condition: str) -> None:
+        self.put(NUMBERS + f"  1 if\n    {condition}\n  2 otherwise\n")
+
+    def compares(self, condition: str, compared: list[str]) -> None:
+        """This is said of the comparisons of a condition behind NUMBERS, and nothing else but of what goals look at."""
+        self.put_numbers(condition)
+        described, printed = self.told()
+        self.assertEqual(compared_in(described, printed), compared)
+        self.assertEqual(self.review(), (text_with(compared + looked_at(described)), 0))
+
+    def compares_all(self, comparisons: list[tuple[str, str, str]]) -> None:
+        found = compared_texts(f"f.txt:{NUMBERS_LINE}", "the fee", comparisons, SIDES)
+        self.compares(" or\n    ".join(" ".join(each) for each in comparisons), found)
+
+    def test_the_sides_of_comparisons(self) -> None:
+        self.put_numbers("true")
+        self.assertEqual(sides_of(self.told()[0]), SIDES)
+
+    def test_comparisons_with_numbers(self) -> None:
+        """Below the bounds, at them and beyond, with few decimals and with many, by each sign and from either side."""
+        for side, literals in (
+            ("the age", "-120 -1 0 0.0001 0.5 1 119 119.5 120 120.0001 121"),
+            ("the share", "-1 0 0.4 0.5 0.55 0.6 1 1.9 1.95 2 2.0001 3"),
+            ("the count", "-7 6 6.5 7 7.5 8"),
+            ("the income", "-0.01 0 0.01 0.005 10.25 10.005 9999999999999"),
+            ("the debt", "-1000 0 999.9999 1000 1000.0001 1001"),
+            ("the tax", "-1 0 10.25 10.005 -10.005"),
+            ("the ratio", "-1 0 10.005"),
+            ("5", "-5 4 5 6"),
+        ):
+            for literal in literals.split():
+                with self.subTest(f"{side}, {literal}"):
+                    self.compares_all([each for sign in SIGNS for each in ((side, sign, literal), (literal, sign, side))])
+
+    def test_comparisons_of_attributes(self) -> None:
+        attributes = [phrase for phrase in SIDES if phrase not in ("the fee", "the child's age")]
+        for left in attributes:
+            for right in attributes:
+                with self.subTest(f"{left}, {right}"):
+                    self.compares_all([(left, sign, right) for sign in SIGNS])
+
+    def test_words_of_comparisons(self) -> None:
+        front = f"f.txt:{NUMBERS_LINE}: warning: in the rule for 'the fee' the comparison "
+        for condition, said in (
+            ("the age > 130", "'the age' > 130 is never true: 'the age' is at most 120"),
+            ("the age >= 0", "'the age' >= 0 is never false: 'the age' is at least 0"),
+            ("the age > -1", "'the age' > -1 is never false: 'the age' is at least 0"),
+            ("130 >= the age", "130 >= 'the age' is never false: 'the age' is at most 120"),
+            ("the count = 7", "'the count' = 7 is never false: 'the count' is 7"),
+            ("the income = 10.005", "'the income' = 10.005 is with a number that can't be: 'the income' has at most 2 decimals"),
+            ("the tax < 0.005", "'the tax' < 0.005 is with a number that can't be: 'the tax' has at most 2 decimals"),
+            ("the share < 1.25", "'the share' < 1.25 is with a number that can't be: 'the share' has at most 1 decimal"),
+            ("the age = 17.5", "'the age' = 17.5 is with a number that can't be: 'the age' is a whole number"),
+            ("the share > the count", "'the share' > 'the count' is never true: 'the share' is at most 2, and 'the count' is 7"),
+            ("3 > 4", "3 > 4 is never true"),
+        ):
+            with self.subTest(condition):
+                self.compares(condition, [front + said])
+
+    def test_comparisons_anywhere_in_a_rule_and_what_is_no_comparison(self) -> None:
+        front = f"f.txt:{NUMBERS_LINE}: warning: in the rule for 'the fee' the comparison "
+        found = [f"{front}'the age' > 130 is never true: 'the age' is at most 120", f"{front}'the age' < 0 is never true: 'the age' is at least 0"]
+        child = f"{front}'the child's age' > 18 is never true: 'the child's age' is at most 18"
+        rows: tuple[tuple[str, list[str]], ...] = (
+            ("the income < 5 and\n    the age > 130", found[:1]),
+            ("the age > 130 and\n    the age < 0", found),
+            ("the age < 0 or\n    the age > 130", found[::-1]),
+            ("it is not true that\n      the age > 130", found[:1]),
+            ("not (the age > 130 or the age < 0)", found),
+            ("any\n      the income < 5 or\n      the age > 130\n    and\n    the income > 1", found[:1]),
+            ("InstanceCount(the children) > 1 and\n    the age > 130", found[:1]),
+            ("for at least one of the children\n      the child's age > 18", [child]),
+            ("the age + 1 > 130", []),
+            ("the age > 100 + 30", []),
+            ("the age > -(130)", []),
+            ("the age > 119 and\n    the age < 1", []),
+        )
+        for condition, lines in rows:
+            with self.subTest(condition):
+                self.compares(condition, lines)
+
+    def test_comparisons_come_behind_the_rows(self) -> None:
+        row = "  1 if\n    the age > 130\n"
+        self.put(NUMBERS + row + row + "  2 otherwise\n")
+        once = f"f.txt:{NUMBERS_LINE}: warning: in the rule for 'the fee' the comparison 'the age' > 130 is never true: 'the age' is at most 120"
+        lines = [text_of("f.txt", NUMBERS_LINE, "the fee", 2, 1, SAME), once, once]
+        self.assertEqual(self.review(), (text_with(lines + looked_at(self.told()[0])), 0))
 
     def test_a_rulebase_that_is_refused(self) -> None:
         self.put(HEAD + "  the weather if\n    true\n  3 otherwise\n")
@@ -276,15 +633,13 @@ class Review(unittest.TestCase):
             self.assertEqual(ran(*words, folder=self.folder), ("usage: rules MODE NAME | rules review --json NAME\n", 2))
 
     def test_the_examples(self) -> None:
-        """No warnings: what is found in an example is mended in it, or a comment there says why it is so. The notes are those of the
-        definitions in this file."""
+        """No row is never reached, and no comparison is never true or never false: such a one is mended in the example, or a comment
+        there says why it is so. What goals look at, and the notes, are those that are worked out."""
         for path in sorted(EXAMPLES.glob("*.txt")):
-            described, status = ran("describe", path.name, folder=EXAMPLES)
-            if status == 0:
+            if ran("describe", path.name, folder=EXAMPLES)[1] == 0:
                 with self.subTest(path.name):
-                    printed = ran("print", path.name, folder=EXAMPLES)[0]
-                    text, status = ran("review", path.name, folder=EXAMPLES)
-                    self.assertEqual((sorted(text.splitlines()), status), (sorted(notes(json.loads(described), printed)), 0))
+                    self.assertEqual(compared_in(*self.told(path.name, EXAMPLES)), [])
+                    self.assertEqual(ran("review", path.name, folder=EXAMPLES), self.wanted([], path.name, EXAMPLES))
 
     def test_the_document_says_what_the_lines_say(self) -> None:
         self.put(HEAD + ROWS["the same condition"][0], "g.txt")
