@@ -2,7 +2,7 @@
 ghost use Rattle.std.specs.Prelude.{◌≡◌, IfOk};
 ghost use Rattle.opa_rules.specs.Reviewing.Findings as meant;
 
-use crate::reviewing::json::review_json;
+use crate::reviewing::document::review_json;
 use crate::reviewing::printed::review_text;
 use opa_io::NoMemory;
 use opa_tree::Rulebase;

@@ -1,7 +1,7 @@
 use Rattle.std.proofs.Common.{◌∙◌, ap, take}
 use Rattle.serde_json.specs.View.{view}
 use Rattle.opa_rules.proofs.reviewing.JsonLaws.{has_no_float, is_shallow, text_is}
-use Rattle.opa_rules.proofs.reviewing.json.review_json.Goals as goal
+use Rattle.opa_rules.proofs.reviewing.document.review_json.Goals as goal
 
 pub text_of-requires-clause-no_float : goal.text_of-requires-clause-no_float
 text_of-requires-clause-no_float c = has_no_float c.args.base.now _ (view c.in_ok-value.value) c.in_ok-value.ensures
