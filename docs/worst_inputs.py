@@ -88,6 +88,11 @@ def review(name, parts, rows):
 review("rows_that_differ", 1, 39_999)
 review("rows_that_differ_at_their_ends", 10, 6_060)
 
+# As many phrases as are compared with one another, which differ at their ends; ones with a digit aren't compared.
+endings = ["".join(chr(ord("a") + int(digit)) for digit in f"{n:03}") for n in range(1_000)]
+write("near_phrases.txt", "global\n" + "".join(f"  number {'a ' * 470}{ending}\n" for ending in endings) + f"goal {'a ' * 470}aaa\n", FILE)
+timed("a_review_of_phrases_that_differ_at_their_ends", '"$3" review near_phrases.txt')
+
 # Saved cases
 write("case.txt", HEAD, FILE)
 write("load_input.txt", 'load "s.json"\n' * 10, FILE)
