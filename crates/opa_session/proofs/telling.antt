@@ -13,3 +13,4 @@ pub mod Unchanged
 pub mod Alive
 pub mod Wanting
 pub mod Upward
+pub mod Marking

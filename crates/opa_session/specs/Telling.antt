@@ -1,5 +1,7 @@
 pub mod Among
+pub mod NameMarks
 pub mod Reaching
+pub mod Sought
 pub mod Telling
 pub mod Walking
 pub mod Wanted

@@ -1,5 +1,5 @@
 -- Of some questions those that aren't among others, by a set.
-use Rattle.std.proofs.Common.{◌≡◌, ◌⊎◌, ◌↔◌, inl, inr, ℕ, ◌+◌, ◌<◌, Bool, true, false, cond, List, [], ◌∷◌, ◌++◌, length, get_or, take, Some, is_some, Contains, refl, sym, ◌∙◌, ap, subst}
+use Rattle.std.proofs.Common.{arith, ◌≡◌, ◌⊎◌, ◌↔◌, inl, inr, ℕ, ◌+◌, ◌<◌, Bool, true, false, cond, List, [], ◌∷◌, ◌++◌, length, get_or, take, Some, is_some, Contains, refl, sym, ◌∙◌, ap, subst}
 use Rattle.std.specs.FinMap.{FinMap, get, insert, empty, get-insert, get-empty}
 use Rattle.std.specs.Ordering.{eq_by_cmp}
 use Rattle.std.specs.Cmp.{eq_by_cmp_equiv}
@@ -15,7 +15,7 @@ use Rattle.opa_case.specs.declared.question.Question.{Question}
 use Rattle.opa_case.specs.declared.question.Question.TheVariants as question
 use Rattle.opa_tree.proofs.Members.{none_in}
 use Rattle.opa_session.specs.Readers.Indexes.{SameKey}
-use Rattle.opa_session.specs.Readers.Touches.{AddsAsked, AreAsked, AreSifted, SameQuestion, Sifts, is_asked}
+use Rattle.opa_session.specs.Readers.Touches.{AddsAsked, AreAsked, AreSifted, AreWithout, SameQuestion, Sifts, is_asked}
 use Rattle.opa_session.specs.declared.readers.asked.Asked.{Asked}
 
 abbrev Marks : Type 0
@@ -181,3 +181,8 @@ sift_new q passed passed' kept kept' not_asked adds is others done h = record {
 pub sift_next : (others qs : List Question) (k : ℕ) (q : Question) (passed passed' : Asked) (kept kept' : List Question) → k < length qs → q ≡ get_or qs k q → AreSifted others (take k qs) passed kept → Sifts q passed passed' kept kept' → AreSifted others (take (k + 1) qs) passed' kept'
 sift_next others qs k q passed passed' kept kept' lt is h step =
     subst (λ (ys : List Question). AreSifted others ys passed' kept') (sym (take_more qs k q lt ∙ ap (λ z. take k qs ++ z ∷ []) (sym is))) (step others (take k qs) h)
+
+-- of no questions none is left
+pub none_left : (xs ys left : List Question) → length xs ≡ 0 → left ≡ [] → AreWithout xs ys left
+none_left xs ys left none kept q =
+    (λ h. absurd (none_in q (subst (λ (zs : List Question). Contains zs q) kept h)), λ h. let lt = h.0.1 in absurd (omega (arith, lt, none)))

@@ -1,5 +1,5 @@
 -- Wanted instances: those of slots, and whatever contains them.
-use Rattle.std.specs.Prelude.{◌≡◌, ◌<◌, ◌⊎◌, ℕ, Bool, true, false, List, [], filter, map, flat_map, length, unwrap_or, slice_index_or, Option, None, Some, is_some, Contains}
+use Rattle.std.specs.Prelude.{◌≡◌, ◌<◌, ◌⊎◌, ℕ, Bool, true, false, List, [], filter, map, flat_map, length, unwrap_or, slice_index_or, Some, is_some, Contains}
 use Rattle.std.specs.Option.{option_map_or}
 use Rattle.std.specs.BTreeMap.{BTreeMap}
 use Rattle.std.specs.BTreeMap as tree
@@ -18,11 +18,6 @@ has_name names n = is_some (tree.get (slice_cmp nat_cmp) names n)
 
 abbrev pub has_wanted : Wanted → InstanceId → Bool
 has_wanted w i = option_map_or (λ names. has_name names i.name) (tree.get nat_cmp w.names i.entity.0) false
-
--- all instances are wanted where none are named
-abbrev pub is_wanted : Option Wanted → InstanceId → Bool
-is_wanted None i = true
-is_wanted (Some w) i = has_wanted w i
 
 -- whatever contains one that is wanted is wanted
 abbrev pub IsClosed : Population → (InstanceId → Bool) → Type 0

@@ -99,6 +99,7 @@ impl<'a, N: Next, L: Ledger> Lined for Laid<'a, N, L> {
         self.base
     }
 
+    #[inline(always)]
     fn line(&self, attr: AttrId, inst: &InstanceId) -> Option<&Line<Value>> {
         let _count = self.base.model.entity_count();
         let found = laid_line(self.store, self.next, attr, inst);

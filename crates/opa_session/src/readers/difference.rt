@@ -16,6 +16,9 @@ pub(crate) fn without(
 ) -> Result<List<Question>, NoMemory>
     ensures { IfOk result (AreWithout questions.now others.now) }
 {
+    if questions.is_empty() {
+        return Ok(List::new(alloc));
+    }
     let mut passed = asked_of(alloc, others)?;
     let mut left = List::new(alloc);
     for question in questions {

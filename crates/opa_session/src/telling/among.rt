@@ -13,10 +13,10 @@ use crate::telling::attrs::attributes_of;
 use crate::telling::instances::instances_among;
 use crate::telling::lined::{HeldLines, Lined};
 use crate::telling::marks::{marked_among, marks_of};
+use crate::telling::sought::sought_by;
 use crate::telling::tell::lined_changes;
 use crate::telling::told_attrs::ToldAttrs;
 use crate::telling::walk::lined_slots;
-use crate::telling::wanted::wanted_by;
 use opa_case::InstanceId;
 use opa_io::{List, NoMemory};
 use opa_listen::Change;
@@ -117,8 +117,8 @@ fn marked_slots<K: Lined>(
     ensures { (c : CaseView) (told : ToldView) → told.attrs ≡ attrs.now → AreTold (base_of (K.rules held.now)) slots.now told → HaveChanges (K.rules held.now) c (K.over held.now) (pairs_of slots.now) → IfOk result (AreChosen (K.rules held.now) c (K.over held.now)) }
 {
     let base = held.base();
-    let wanted = wanted_by(alloc, held, slots)?;
-    let live = instances_among(alloc, held, Some(&wanted))?;
+    let sought = sought_by(alloc, held, slots)?;
+    let live = instances_among(alloc, held, Some(&sought))?;
     let marks = marks_of(alloc, slots)?;
     let lists = live.as_slice();
     let all = marked_among(alloc, &base.model, lists, &marks, attrs)?;

@@ -3,10 +3,11 @@ ghost use Rattle.std.specs.Prelude.{◌≡◌, ◌<◌, ◌+◌, ◌++◌, ◌�
 ghost use Rattle.std.specs.Option.{option_copied};
 ghost use Rattle.opa_case.specs.Cases.{list_of};
 ghost use Rattle.opa_cells.specs.Instances.{global, named};
-ghost use Rattle.opa_session.specs.Telling.Wanted.{is_wanted, AreAmong, IsClosed, wanted_listed};
+ghost use Rattle.opa_session.specs.Telling.Sought.{is_wanted};
+ghost use Rattle.opa_session.specs.Telling.Wanted.{AreAmong, IsClosed, wanted_listed};
 
 use crate::telling::lined::Lined;
-use crate::telling::wanted::Wanted;
+use crate::telling::sought::Sought;
 use opa_case::{InstanceId, instances_of};
 use opa_io::{List, NoMemory, Txt};
 use opa_model::{EntityId, RelId};
@@ -17,7 +18,7 @@ use std::alloc::Global;
 pub(crate) fn instances_among<K: Lined>(
     alloc: Global,
     held: &K,
-    wanted: Option<&Wanted>,
+    wanted: Option<&Sought>,
 ) -> Result<List<List<InstanceId>>, NoMemory>
     requires { IsClosed (K.over held.now).live (is_wanted (option_copied wanted)) }
     ensures { IfOk result (λ lists. AreAmong (length (K.rules held.now).model.entities) (K.over held.now).live (is_wanted (option_copied wanted.entry)) lists) }
@@ -34,7 +35,7 @@ pub(crate) fn instances_among<K: Lined>(
     Ok(lists)
 }
 
-fn only_global(alloc: Global, wanted: Option<&Wanted>) -> Result<List<InstanceId>, NoMemory>
+fn only_global(alloc: Global, wanted: Option<&Sought>) -> Result<List<InstanceId>, NoMemory>
     ensures { IfOk result (λ list. list ≡ filter (is_wanted (option_copied wanted.entry)) (global ∷ [])) }
 {
     let mut list = List::new(alloc);
@@ -48,7 +49,7 @@ fn add_entity<K: Lined>(
     alloc: Global,
     held: &K,
     entity: u32,
-    wanted: Option<&Wanted>,
+    wanted: Option<&Sought>,
     lists: &mut List<List<InstanceId>>,
 ) -> Result<(), NoMemory>
     requires contained { 0 < entity }
@@ -72,7 +73,7 @@ fn listed_in<K: Lined>(
     rel: RelId,
     entity: u32,
     containers: &[InstanceId],
-    wanted: Option<&Wanted>,
+    wanted: Option<&Sought>,
 ) -> Result<List<InstanceId>, NoMemory>
     ensures { IfOk result (λ found. found ≡ wanted_listed (is_wanted (option_copied wanted.entry)) (list_of (K.over held.now)) rel entity containers.now) }
 {
@@ -89,7 +90,7 @@ fn add_names(
     alloc: Global,
     entity: u32,
     names: &[Txt],
-    wanted: Option<&Wanted>,
+    wanted: Option<&Sought>,
     found: &mut List<InstanceId>,
 ) -> Result<(), NoMemory>
     ensures { OnOk result (found.new ≡ found.old ++ filter (is_wanted (option_copied wanted.entry)) (map (named entity) names.now)) }
@@ -101,11 +102,12 @@ fn add_names(
 }
 
 /// Adds the instance of a name, where it is wanted.
+#[inline(always)]
 fn add_name(
     alloc: Global,
     entity: u32,
     name: &Txt,
-    wanted: Option<&Wanted>,
+    wanted: Option<&Sought>,
     found: &mut List<InstanceId>,
 ) -> Result<(), NoMemory>
     ensures { OnOk result (found.new ≡ found.old ++ filter (is_wanted (option_copied wanted.entry)) (named entity name.now ∷ [])) }
@@ -122,7 +124,8 @@ fn add_name(
     }
 }
 
-fn is_wanted(wanted: Option<&Wanted>, entity: u32, name: &Txt) -> bool
+#[inline(always)]
+fn is_wanted(wanted: Option<&Sought>, entity: u32, name: &Txt) -> bool
     ensures { result ≡ is_wanted (option_copied wanted.entry) (named entity name.now) }
 {
     match wanted {

@@ -1,13 +1,11 @@
-// Wanted instances: those of slots, and whatever contains them.
-ghost use Rattle.std.specs.Prelude.{◌≡◌, ◌≢◌, ◌≤◌, ◌||◌, ℕ, Bool, false, List as Seq, IfOk, OnOk};
+// Wanted instances.
+ghost use Rattle.std.specs.Prelude.{◌≡◌, ◌≢◌, ◌||◌, ℕ, Bool, false, List as Seq, OnOk};
 ghost use Rattle.opa_cells.specs.Instances.{is_same, named};
 ghost use Rattle.opa_cells.specs.declared.instance.InstanceId.{InstanceId as InstanceView};
-ghost use Rattle.opa_session.specs.Telling.Wanted.{has_name, has_wanted, AddsUpward, AreWanted, IsClosedBut};
+ghost use Rattle.opa_session.specs.Telling.Wanted.{has_name, has_wanted};
 
-use crate::telling::lined::Lined;
 use opa_case::InstanceId;
 use opa_io::{NoMemory, Txt};
-use opa_mean::Slot;
 use std::alloc::Global;
 use std::collections::BTreeMap;
 
@@ -18,7 +16,7 @@ pub(crate) struct Wanted {
 }
 
 impl Wanted {
-    fn new(alloc: Global) -> Wanted
+    pub(crate) fn new(alloc: Global) -> Wanted
         ensures { (i : InstanceView) → has_wanted result i ≡ false }
     {
         Wanted {
@@ -36,7 +34,7 @@ impl Wanted {
         }
     }
 
-    fn insert(&mut self, alloc: Global, inst: &InstanceId) -> Result<(), NoMemory>
+    pub(crate) fn insert(&mut self, alloc: Global, inst: &InstanceId) -> Result<(), NoMemory>
         ensures { OnOk result ((i : InstanceView) → has_wanted self.new i ≡ (is_same i inst.now || has_wanted self.old i)) }
     {
         let entity = inst.entity.0;
@@ -56,47 +54,5 @@ impl Wanted {
             Some(names) => names,
             None => BTreeMap::new(alloc),
         }
-    }
-}
-
-/// The instances of slots, and whatever contains them.
-pub(crate) fn wanted_by<K: Lined>(
-    alloc: Global,
-    held: &K,
-    slots: &[Slot],
-) -> Result<Wanted, NoMemory>
-    ensures { IfOk result (λ wanted. AreWanted (K.over held.now).live slots.now (has_wanted wanted)) }
-{
-    let mut wanted = Wanted::new(alloc);
-    for slot in slots {
-        let steps = slot.inst.entity.0;
-        add_upward(alloc, held, &slot.inst, steps, &mut wanted)?;
-    }
-    Ok(wanted)
-}
-
-/// Adds an instance and whatever contains it. Each container is of an earlier entity.
-fn add_upward<K: Lined>(
-    alloc: Global,
-    held: &K,
-    inst: &InstanceId,
-    steps: u32,
-    wanted: &mut Wanted,
-) -> Result<(), NoMemory>
-    requires enough { inst.now.entity.0 ≤ steps }
-    requires closed { IsClosedBut (K.over held.now).live (has_wanted wanted.old) inst.now }
-    ensures { OnOk result (AddsUpward (K.over held.now).live (has_wanted wanted.old) (has_wanted wanted.new) inst.now) }
-{
-    if wanted.has(inst.entity.0, &inst.name) {
-        return Ok(());
-    }
-    wanted.insert(alloc, inst)?;
-    let _base = held.base();
-    match held.container_of(inst) {
-        Some(container) => {
-            add_upward(alloc, held, container, steps - 1, wanted)?;
-            Ok(())
-        }
-        None => Ok(()),
     }
 }

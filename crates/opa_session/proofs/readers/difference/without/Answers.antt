@@ -1,7 +1,8 @@
-use Rattle.std.proofs.Common.{subst}
+use Rattle.std.proofs.Common.{subst, sym, ◌∙◌}
+use Rattle.std.proofs.lemmas.Bool.{eqb-true}
 use Rattle.opa_io.proofs.Places.{take_whole}
 use Rattle.opa_session.specs.Readers.Touches.{AreWithout}
-use Rattle.opa_session.proofs.readers.Sifting.{sift_start, sift_next}
+use Rattle.opa_session.proofs.readers.Sifting.{sift_start, sift_next, none_left}
 use Rattle.opa_session.proofs.readers.difference.without.Goals as goal
 
 pub loop-question-init : goal.loop-question-init
@@ -13,3 +14,6 @@ loop-question-preserved c =
 
 pub returns : goal.returns
 returns c = subst (λ qs. AreWithout qs c.args.others.now c.loop-question.left) (take_whole c.args.questions.now c.loop-question.question-index c.loop-question-test.false) c.loop-question.invariant.kept_are
+
+pub returns-then-is_empty : goal.returns-then-is_empty
+returns-then-is_empty c = none_left c.args.questions.now c.args.others.now c.new.result (eqb-true _ _ (sym c.is_empty.ensures ∙ c.if-is_empty.true)) c.new.ensures

@@ -6,7 +6,8 @@ use Rattle.opa_model.specs.declared.things.Entity.{Entity}
 use Rattle.opa_case.specs.Cases.{list_of}
 use Rattle.opa_case.specs.Shapes.{entity_or, no_entity}
 use Rattle.opa_tree.specs.declared.rulebase.Rulebase.{Rulebase}
-use Rattle.opa_session.specs.Telling.Wanted.{is_wanted, wanted_listed}
+use Rattle.opa_session.specs.Telling.Sought.{is_wanted}
+use Rattle.opa_session.specs.Telling.Wanted.{wanted_listed}
 use Rattle.opa_session.proofs.telling.Wanting.{next_among, wanted_found}
 use Rattle.opa_session.proofs.telling.instances.add_entity.Goals as goal
 

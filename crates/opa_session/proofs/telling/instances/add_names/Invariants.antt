@@ -1,7 +1,7 @@
 use Rattle.std.proofs.Common.{◌≡◌, ◌++◌, filter, map, take}
 use Rattle.std.specs.Option.{option_copied}
 use Rattle.opa_cells.specs.Instances.{named}
-use Rattle.opa_session.specs.Telling.Wanted.{is_wanted}
+use Rattle.opa_session.specs.Telling.Sought.{is_wanted}
 use Rattle.opa_session.proofs.telling.instances.add_names.Given as goal
 
 abbrev pub invariant-loop-name : goal.invariant-loop-name

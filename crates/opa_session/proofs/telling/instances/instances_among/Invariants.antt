@@ -1,6 +1,7 @@
 use Rattle.std.specs.Prelude.{◌<◌, ◌≤◌, ◌-◌, length}
 use Rattle.std.specs.Option.{option_copied}
-use Rattle.opa_session.specs.Telling.Wanted.{is_wanted, AreAmong}
+use Rattle.opa_session.specs.Telling.Sought.{is_wanted}
+use Rattle.opa_session.specs.Telling.Wanted.{AreAmong}
 use Rattle.opa_session.proofs.telling.instances.instances_among.Given as goal
 
 abbrev pub invariant-loop-entity : goal.invariant-loop-entity

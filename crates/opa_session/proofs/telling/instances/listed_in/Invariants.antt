@@ -1,7 +1,8 @@
 use Rattle.std.proofs.Common.{◌≡◌, take}
 use Rattle.std.specs.Option.{option_copied}
 use Rattle.opa_case.specs.Cases.{list_of}
-use Rattle.opa_session.specs.Telling.Wanted.{is_wanted, wanted_listed}
+use Rattle.opa_session.specs.Telling.Sought.{is_wanted}
+use Rattle.opa_session.specs.Telling.Wanted.{wanted_listed}
 use Rattle.opa_session.proofs.telling.instances.listed_in.Given as goal
 
 abbrev pub invariant-loop-container : goal.invariant-loop-container
