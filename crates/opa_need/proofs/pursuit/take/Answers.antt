@@ -74,7 +74,7 @@ returns-in-Point g c =
 pub returns-in-Listed : goal.returns-in-Listed
 returns-in-Listed g c =
     let r = g.H.Held.rules c.args.held.now in let held = g.H.Held.held c.args.held.now in
-    if_ok_then _ _ c.step_list.result (λ x h. of_step r held c.args.step.now (step.Listed c.in-Listed.rel c.in-Listed.inst) c.args.found x.0 c.args.runs x.1 c.args.steps.now c.step_list.new.steps c.in-Listed.is h) c.step_list.ensures
+    if_ok_then _ _ c.step_list.result (λ x h. of_step r held c.args.step.now (step.Listed c.in-Listed.rel c.in-Listed.inst) c.args.found x.0 c.args.runs x.1 c.args.steps.now c.step_list.new._steps c.in-Listed.is h) c.step_list.ensures
 
 pub returns-in-Days : goal.returns-in-Days
 returns-in-Days g c =
