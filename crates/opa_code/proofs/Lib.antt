@@ -2,8 +2,11 @@ pub mod Backwards
 pub mod CodeLaws
 pub mod Compiled
 pub mod Concluding
+pub mod Enclosing
 pub mod Inverting
+pub mod Keeping
 pub mod Listing
+pub mod Owning
 pub mod Placed
 pub mod RunnableLaws
 pub mod Sizing

@@ -23,7 +23,7 @@ use Rattle.opa_code.proofs.Standing.{stand_push, stand_more, stand_newest, stand
 abbrev Lines : Type 0
 Lines = List (List (ℕ × Value))
 
-over_is : (n : Node) (q : Quant) (r : RelId) (source target count : ℕ) → over_at n ≡ Some (q, (r, (source, (target, count)))) → n ≡ node.Over q r source target count
+pub over_is : (n : Node) (q : Quant) (r : RelId) (source target count : ℕ) → over_at n ≡ Some (q, (r, (source, (target, count)))) → n ≡ node.Over q r source target count
 over_is (node.Over q' r' s' t' k) q r source target count e = let p : (q', (r', (s', (t', k)))) ≡ (q, (r, (source, (target, count)))) = cc e in ap (λ (x : Quant × (RelId × (ℕ × (ℕ × ℕ)))). node.Over x.0 x.1.0 x.1.1.0 x.1.1.1.0 x.1.1.1.1) p
 over_is (node.Const v) q r source target count e = absurd (cc e)
 over_is (node.Attr a o) q r source target count e = absurd (cc e)

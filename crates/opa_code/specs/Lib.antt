@@ -1,7 +1,9 @@
 pub mod Codes
 pub mod Coding
 pub mod Fresh
+pub mod Keeping
 pub mod Laws
+pub mod Mentions
 pub mod Rulebases
 pub mod Runnable
 pub mod Running

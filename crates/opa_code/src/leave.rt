@@ -4,6 +4,7 @@ ghost use Rattle.opa_cells.specs.declared.instance.InstanceId.{InstanceId as Ins
 ghost use Rattle.opa_value.specs.declared.value.Value.TheVariants.{Bool as Truth};
 ghost use Rattle.opa_window.specs.Days.{day_value};
 ghost use Rattle.opa_mean.specs.Looks.{Look as Looked};
+ghost use Rattle.opa_code.specs.Keeping.{IsEnd};
 ghost use Rattle.opa_code.specs.Steps.{AreDecided, IsPutBack, IsRefuted, Keeps, leave_at, over_at, pass_at};
 ghost use Rattle.opa_code.specs.declared.node.Node.TheVariants as nodes_of;
 
@@ -28,6 +29,7 @@ pub(crate) fn go_on<'a, 'n, K: Look>(
 ) -> Result<&'n [Node], NoMemory>
     ensures kept { over_at node.now ≡ None → IfOk result (λ rest.
         Keeps (K.looks look.now) enclosing.now stack.old.items (node.now ∷ after.now) stack.new.items rest.now) }
+    ensures ends { IfOk result (λ rest. IsEnd after.now rest.now) }
     ensures fewer { IfOk result (λ rest. length rest.now ≤ length after.now) }
 {
     match leave_of(node) {
@@ -47,6 +49,7 @@ fn go_past<'a, 'n, K: Look>(
 ) -> Result<&'n [Node], NoMemory>
     ensures kept { over_at node.now ≡ None → leave_at node.now ≡ None → IfOk result (λ rest.
         Keeps (K.looks look.now) enclosing.now stack.old.items (node.now ∷ after.now) stack.new.items rest.now) }
+    ensures ends { IfOk result (λ rest. IsEnd after.now rest.now) }
     ensures fewer { IfOk result (λ rest. length rest.now ≤ length after.now) }
 {
     match pass_of(node) {
@@ -68,6 +71,7 @@ fn leave<'n>(
 ) -> Result<&'n [Node], NoMemory>
     ensures kept { IfOk result (λ rest. (l : Looked) (enclosing : Seq Instance)
         → Keeps l enclosing stack.old.items (nodes_of.Leave how dropped count ∷ after.now) stack.new.items rest.now) }
+    ensures ends { IfOk result (λ rest. IsEnd after.now rest.now) }
     ensures fewer { IfOk result (λ rest. length rest.now ≤ length after.now) }
 {
     match take_newest(stack) {
@@ -113,6 +117,7 @@ fn pass<'n>(
 ) -> Result<&'n [Node], NoMemory>
     ensures kept { IfOk result (λ rest. (l : Looked) (enclosing : Seq Instance)
         → Keeps l enclosing stack.old.items (nodes_of.Pass count ∷ after.now) stack.new.items rest.now) }
+    ensures ends { IfOk result (λ rest. IsEnd after.now rest.now) }
     ensures fewer { IfOk result (λ rest. length rest.now ≤ length after.now) }
 {
     if is_refuted(stack) {

@@ -4,15 +4,19 @@ ghost use Rattle.opa_date.specs.declared.TheConstants.{DAYS};
 ghost use Rattle.opa_line.specs.Lines.{StandsFor};
 ghost use Rattle.opa_mean.specs.Meaning as meant;
 ghost use Rattle.opa_code.specs.OverLines.Additions.{HasRoom};
+ghost use Rattle.opa_code.specs.Keeping.{AreRight, IsEnd, IsLineAmong};
 ghost use Rattle.opa_code.specs.OverLines.Lines.{Stand, meaning_of, values_at};
 ghost use Rattle.opa_code.specs.Steps.{IsFirst, IsGathered, IsItem, IsListed, IsOver, Keeps, Leaves};
 ghost use Rattle.opa_code.specs.Steps.{attribute_at, is_count, over_at};
+ghost use Rattle.opa_code.specs.declared.node.Node.{Node as OfCode};
+ghost use Rattle.opa_code.specs.declared.node.Node.TheVariants as nodes_of;
 
 use crate::carry::{add, attribute_in, behind};
+use crate::kept::{Kept, keep, kept_line};
 use crate::leave::go_on;
 use crate::members::{add_attribute, put_first, with_room};
 use crate::node::Node;
-use crate::over_lines::{Gathering, Items, Operand, amount, gathering_of, item_line};
+use crate::over_lines::{Gathering, Items, Operand, amount, gathering_of, item_line, same_line};
 use opa_case::InstanceId;
 use opa_io::{NoMemory, Txt, front};
 use opa_line::Line;
@@ -35,10 +39,27 @@ pub(crate) fn run<'a, K: Look>(
 ) -> Result<Vec<Operand<'a>>, NoMemory>
     ensures { IfOk result (λ lines. Leaves (K.looks look.now) enclosing.now nodes.now lines.items) }
 {
+    let mut kept = Kept::of(alloc, None);
+    run_among(alloc, look, nodes, enclosing, &mut kept)
+}
+
+/// The same for one of several members, for which lines of the nodes' quantifiers are kept.
+#[cycle(running)]
+fn run_among<'a, K: Look>(
+    alloc: Global,
+    look: &'a K,
+    nodes: &[Node],
+    enclosing: &[InstanceId],
+    kept: &mut Kept,
+) -> Result<Vec<Operand<'a>>, NoMemory>
+    requires { AreRight (K.looks look.now) nodes.now kept.old.lines.items }
+    ensures left { IfOk result (λ lines. Leaves (K.looks look.now) enclosing.now nodes.now lines.items) }
+    ensures right { OnOk result (AreRight (K.looks look.now) nodes.now kept.new.lines.items) }
+{
     let mut stack = Vec::with_capacity(alloc, nodes.len().min(FIRST_ROOM))?;
     let mut rest = nodes;
     while let Some((node, after)) = front(rest) {
-        rest = step(alloc, look, &mut stack, node, after, enclosing)?;
+        rest = step(alloc, look, &mut stack, node, after, enclosing, kept)?;
     }
     Ok(stack)
 }
@@ -52,16 +73,21 @@ fn step<'a, 'n, K: Look>(
     node: &Node,
     after: &'n [Node],
     enclosing: &[InstanceId],
+    kept: &mut Kept,
 ) -> Result<&'n [Node], NoMemory>
-    ensures kept { IfOk result (λ rest. Keeps (K.looks look.now) enclosing.now stack.old.items
-        (node.now ∷ after.now) stack.new.items rest.now) }
+    ensures kept { IfOk result (λ rest. (nodes : Seq OfCode) → IsEnd nodes (node.now ∷ after.now) → AreRight (K.looks look.now) nodes kept.old.lines.items
+        → Keeps (K.looks look.now) enclosing.now stack.old.items (node.now ∷ after.now) stack.new.items rest.now) }
+    ensures right { OnOk result ((nodes : Seq OfCode) → IsEnd nodes (node.now ∷ after.now) → AreRight (K.looks look.now) nodes kept.old.lines.items
+        → AreRight (K.looks look.now) nodes kept.new.lines.items) }
+    ensures ends { IfOk result (λ rest. IsEnd after.now rest.now) }
     ensures fewer { IfOk result (λ rest. length rest.now ≤ length after.now) }
 {
     match over_of(node) {
         None => go_on(alloc, look, stack, node, after, enclosing),
         Some((quant, (rel, (source, (target, count))))) => {
-            let operand = up_to(count, after);
-            let line = over_line(alloc, look, quant, rel, source, target, operand, enclosing)?;
+            let line = over_line(
+                alloc, look, quant, rel, source, target, count, after, enclosing, kept,
+            )?;
             let value = Operand::made(line);
             add(stack, value)?;
             Ok(behind(count, after))
@@ -69,9 +95,40 @@ fn step<'a, 'n, K: Look>(
     }
 }
 
-/// The line of a quantifier with the nodes of its operand.
+/// The line of a quantifier, of which the first nodes behind it are the operand: one that was kept, or a new one.
 #[cycle(running)]
 fn over_line<K: Look>(
+    alloc: Global,
+    look: &K,
+    quant: Quant,
+    rel: RelId,
+    source: u32,
+    target: u32,
+    count: usize,
+    after: &[Node],
+    enclosing: &[InstanceId],
+    kept: &mut Kept,
+) -> Result<Line<Value>, NoMemory>
+    ensures { IfOk result (λ line. (nodes : Seq OfCode) → IsEnd nodes (nodes_of.Over quant rel source target count ∷ after.now) → AreRight (K.looks look.now) nodes kept.old.lines.items
+        → IsLineAmong (K.looks look.now) enclosing.now quant rel source target count after.now nodes line kept.new.lines.items) }
+{
+    let position = after.len();
+    match kept_line(look, &kept.lines, position, enclosing) {
+        Some(line) => same_line(alloc, line),
+        None => {
+            let operand = up_to(count, after);
+            let line = made_line(alloc, look, quant, rel, source, target, operand, enclosing)?;
+            keep(
+                alloc, look, kept, source, target, operand, position, enclosing, &line,
+            )?;
+            Ok(line)
+        }
+    }
+}
+
+/// The line of a quantifier with the nodes of its operand.
+#[cycle(running)]
+fn made_line<K: Look>(
     alloc: Global,
     look: &K,
     quant: Quant,
@@ -171,10 +228,11 @@ fn gathered_line<K: Look>(
     ensures { IfOk result (IsGathered (K.looks look.now) enclosing.now operand.now quant gathering target names.now) }
 {
     let mut items = Items::new(alloc, gathering);
+    let mut kept = Kept::of(alloc, Some(target));
     let mut inner = with_room(alloc, enclosing)?;
     for name in names {
         put_first(alloc, &mut inner, target, name)?;
-        add_item(alloc, look, quant, operand, &inner, &mut items)?;
+        add_item(alloc, look, quant, operand, &inner, &mut items, &mut kept)?;
     }
     items.told(alloc)
 }
@@ -188,20 +246,23 @@ fn add_item<'a, K: Look>(
     operand: &[Node],
     enclosing: &[InstanceId],
     items: &mut Items<'a>,
+    kept: &mut Kept,
 ) -> Result<(), NoMemory>
-    requires { HasRoom items.old }
-    ensures { OnOk result (IsItem (K.looks look.now) enclosing.now operand.now quant items.old items.new) }
+    requires room { HasRoom items.old }
+    requires right { AreRight (K.looks look.now) operand.now kept.old.lines.items }
+    ensures item { OnOk result (IsItem (K.looks look.now) enclosing.now operand.now quant items.old items.new) }
+    ensures right { OnOk result (AreRight (K.looks look.now) operand.now kept.new.lines.items) }
 {
     match attribute_of(operand) {
         Some((attr, owner)) => add_attribute(alloc, look, attr, owner, enclosing, items),
         None => {
-            let lines = run(alloc, look, operand, enclosing)?;
+            let lines = run_among(alloc, look, operand, enclosing, kept)?;
             items.add_item(alloc, quant, lines)
         }
     }
 }
 
-fn up_to(count: usize, nodes: &[Node]) -> &[Node]
+pub(crate) fn up_to(count: usize, nodes: &[Node]) -> &[Node]
     ensures { result.now ≡ take count nodes.now }
 {
     &nodes[..count.min(nodes.len())]
@@ -218,7 +279,7 @@ fn attribute_of(nodes: &[Node]) -> Option<(AttrId, u32)>
 }
 
 /// What a quantifier's node says.
-fn over_of(node: &Node) -> Option<(Quant, (RelId, (u32, (u32, usize))))>
+pub(crate) fn over_of(node: &Node) -> Option<(Quant, (RelId, (u32, (u32, usize))))>
     ensures { result ≡ over_at node.now }
 {
     match node {

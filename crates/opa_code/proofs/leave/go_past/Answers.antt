@@ -1,7 +1,8 @@
-use Rattle.std.proofs.Common.{◌∙◌, ◌∷◌, sym, subst}
+use Rattle.std.proofs.Common.{◌∙◌, ◌∷◌, refl, sym, subst}
 use Rattle.opa_line.proofs.Zipping.{ok_weaker}
 use Rattle.opa_code.specs.Steps.{Keeps}
 use Rattle.opa_code.proofs.Stepping.{carried_kept, pass_is}
+use Rattle.opa_code.proofs.Keeping.{end_whole}
 use Rattle.opa_code.proofs.leave.go_past.Goals as goal
 
 pub returns-in-Some-clause-kept : goal.returns-in-Some-clause-kept
@@ -13,3 +14,6 @@ returns-in-Some-clause-kept g c no_over no_leave =
 pub returns-in_ok-carry_out-in-None-clause-kept : goal.returns-in_ok-carry_out-in-None-clause-kept
 returns-in_ok-carry_out-in-None-clause-kept g c no_over no_leave =
     carried_kept (g.K.Look.looks c.args.look.now) c.args.enclosing.now c.args.stack.now.items c.carry_out.new.stack.items c.args.node.now c.args.after.now no_over no_leave (sym c.pass_of.ensures ∙ c.in-None.is) c.in_ok-carry_out-in-None.ensures
+
+pub returns-in_ok-carry_out-in-None-clause-ends : goal.returns-in_ok-carry_out-in-None-clause-ends
+returns-in_ok-carry_out-in-None-clause-ends g c = end_whole c.args.after.now c.args.after.now refl
