@@ -1,0 +1,13 @@
+// Laws alone: the rulebase that is generated is accepted.
+ghost use Rattle.opa_laws.specs.Generated.{GeneratedIsAccepted, GeneratedIsAcceptedAlone, GeneratedIsNotRefused};
+
+use crate::decided::one_opening;
+
+/// The generated rulebase is accepted, under whatever name its text stands on a shelf, and so it is never refused.
+pub fn generated_is_accepted()
+    ensures accepted { GeneratedIsAccepted }
+    ensures not_refused { GeneratedIsNotRefused }
+    ensures alone { GeneratedIsAcceptedAlone }
+{
+    one_opening();
+}
