@@ -23,5 +23,8 @@ abbrev pub only_rules : List ℕ → Files
 only_rules name = map.from_entries ((name, rules_text) ∷ [])
 
 -- So it is with a shelf that has nothing else, as the mode `generate` makes one.
-abbrev pub GeneratedIsAcceptedAlone : Type 0
-GeneratedIsAcceptedAlone = (name : List ℕ) → (base : Rulebase) × Opens (only_rules name) name (Ok base)
+abbrev pub OnlyRulesAreRules : Type 0
+OnlyRulesAreRules = (name : List ℕ) → HasRules (only_rules name) name
+
+abbrev pub OnlyRulesAreAccepted : Type 0
+OnlyRulesAreAccepted = (name : List ℕ) → (base : Rulebase) × Opens (only_rules name) name (Ok base)

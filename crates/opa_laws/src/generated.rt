@@ -1,5 +1,5 @@
 // Laws alone: the rulebase that is generated is accepted.
-ghost use Rattle.opa_laws.specs.Generated.{GeneratedIsAccepted, GeneratedIsAcceptedAlone, GeneratedIsNotRefused};
+ghost use Rattle.opa_laws.specs.Generated.{GeneratedIsAccepted, GeneratedIsNotRefused, OnlyRulesAreAccepted, OnlyRulesAreRules};
 
 use crate::decided::one_opening;
 
@@ -7,7 +7,8 @@ use crate::decided::one_opening;
 pub fn generated_is_accepted()
     ensures accepted { GeneratedIsAccepted }
     ensures not_refused { GeneratedIsNotRefused }
-    ensures alone { GeneratedIsAcceptedAlone }
+    ensures alone { OnlyRulesAreRules }
+    ensures accepted_alone { OnlyRulesAreAccepted }
 {
     one_opening();
 }

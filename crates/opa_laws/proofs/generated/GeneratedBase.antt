@@ -36,7 +36,7 @@ use Rattle.opa_tree.proofs.ScopeLaws.{scope-Attr, scope-Const, scope-Op, scope-O
 use Rattle.opa_rulebase.specs.Loading as loading
 use Rattle.opa_rulebase.specs.Loading.{IsAccepted, Opens}
 use Rattle.opa_script.specs.Examples.{rules_text}
-use Rattle.opa_laws.specs.Generated.{GeneratedIsAccepted, GeneratedIsAcceptedAlone, GeneratedIsNotRefused, HasRules, only_rules}
+use Rattle.opa_laws.specs.Generated.{GeneratedIsAccepted, GeneratedIsNotRefused, HasRules, OnlyRulesAreAccepted, OnlyRulesAreRules, only_rules}
 use Rattle.opa_laws.specs.Decided.Opening.{OneOpening}
 use Rattle.opa_laws.proofs.generated.GeneratedBlocks.{blocks, blocks_are}
 use Rattle.opa_laws.proofs.generated.GeneratedFiles.{sources, files_are}
@@ -223,6 +223,9 @@ pub generated_is_not_refused_holds : OneOpening → GeneratedIsNotRefused
 generated_is_not_refused_holds one files name text is refused =
     let same : Ok (base name) ≡ Err text = one files name (Ok (base name)) (Err text) (opens files name is) refused in cc same
 
-pub generated_is_accepted_alone_holds : GeneratedIsAcceptedAlone
-generated_is_accepted_alone_holds name =
-    generated_is_accepted_holds (only_rules name) name (finite.get-from_entries nat_list_cmp_total ((name, rules_text) ∷ []) name ∙ ap (λ t. cond t (Some rules_text) None) ((eq_by_cmp_equiv nat_list_cmp_total).refl name))
+pub only_rules_are_rules_hold : OnlyRulesAreRules
+only_rules_are_rules_hold name =
+    finite.get-from_entries nat_list_cmp_total ((name, rules_text) ∷ []) name ∙ ap (λ t. cond t (Some rules_text) None) ((eq_by_cmp_equiv nat_list_cmp_total).refl name)
+
+pub only_rules_are_accepted_hold : OnlyRulesAreAccepted
+only_rules_are_accepted_hold name = generated_is_accepted_holds (only_rules name) name (only_rules_are_rules_hold name)
