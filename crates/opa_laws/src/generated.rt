@@ -1,14 +1,5 @@
 // Laws alone: the rulebase that is generated is accepted.
-ghost use Rattle.opa_laws.specs.Generated.{GeneratedIsAccepted, GeneratedIsNotRefused, OnlyRulesAreAccepted, OnlyRulesAreRules};
 
-use crate::decided::one_opening;
+mod laws;
 
-/// The generated rulebase is accepted, under whatever name its text stands on a shelf, and so it is never refused.
-pub fn generated_is_accepted()
-    ensures accepted { GeneratedIsAccepted }
-    ensures not_refused { GeneratedIsNotRefused }
-    ensures alone { OnlyRulesAreRules }
-    ensures accepted_alone { OnlyRulesAreAccepted }
-{
-    one_opening();
-}
+pub use laws::generated_is_accepted;

@@ -1,5 +1,5 @@
 use Rattle.opa_laws.proofs.generated.GeneratedBase.{generated_is_accepted_holds, generated_is_not_refused_holds, only_rules_are_accepted_hold, only_rules_are_rules_hold}
-use Rattle.opa_laws.proofs.generated.generated_is_accepted.Goals as goal
+use Rattle.opa_laws.proofs.generated.laws.generated_is_accepted.Goals as goal
 
 pub returns-clause-accepted : goal.returns-clause-accepted
 returns-clause-accepted c = generated_is_accepted_holds
