@@ -2,6 +2,7 @@
 #![tactic(auto)]
 
 pub mod decided;
+pub mod generated;
 pub mod verified;
 
 pub use decided::{
@@ -9,6 +10,7 @@ pub use decided::{
     one_finding, one_inference, one_loaded, one_opening, one_reply, one_rule_list, one_taking,
     one_transcript,
 };
+pub use generated::generated_is_accepted;
 pub use verified::{
     held_is_printable, opened_is_printable, reports_are_of_cases, reports_are_verified,
 };

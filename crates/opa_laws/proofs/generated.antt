@@ -1,0 +1,6 @@
+mod AsciiCuts
+mod GeneratedFiles
+mod GeneratedBlocks
+mod GeneratedItems
+mod GeneratedRules
+mod GeneratedBase
