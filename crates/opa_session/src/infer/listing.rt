@@ -23,6 +23,7 @@ use crate::infer::ready::{Ready, made_ready};
 use crate::readers::{Index, Renewal, begin_list, lists_told};
 use crate::settlement::settle;
 use crate::store::{Owners, Store};
+use crate::telling::LONG;
 use opa_case::{
     Case, InstanceId, Moves, Refusal, Relisted, models_are_shapes, step_fits, step_keeps_containers,
 };
@@ -30,7 +31,7 @@ use opa_code::Code;
 use opa_io::{List, NoMemory, Steps, Txt};
 use opa_listen::Listener;
 use opa_mean::{held_can_tell, relisted_is_by_lists, values_have_kinds};
-use opa_model::RelId;
+use opa_model::{EntityId, RelId};
 use opa_tree::Rulebase;
 use std::alloc::Global;
 use std::sync::ledger::Ledger;
@@ -89,9 +90,10 @@ pub(crate) fn prepare_list<L: Ledger>(
     step_fits();
     step_keeps_containers();
     relisted_is_by_lists();
+    let target = base.model.relation(rel).target;
     let next = coming_list(base, held, rel, inst, names)?;
     match stage_list(
-        alloc, base, owners, code, readers, held, &next, store, steps, listeners,
+        alloc, base, owners, code, readers, held, &next, target, names, store, steps, listeners,
     ) {
         Ok(staged) => Ok(Prepared {
             ready: staged.ready,
@@ -141,6 +143,8 @@ fn stage_list<L: Ledger>(
     readers: &Index,
     held: &Case,
     next: &Relisted<'_>,
+    target: EntityId,
+    names: Option<&List<Txt>>,
     store: &mut Store<L>,
     steps: &mut Steps<L>,
     listeners: &mut Vec<Box<dyn Listener>>,
@@ -170,5 +174,27 @@ fn stage_list<L: Ledger>(
     settle(alloc, base, code, readers, held, next, store, tasks, steps)?;
     let renewal = readers.renewal(alloc, base, owners, held, next, questions)?;
     let ready = made_ready(alloc, base, held, next, store, listeners)?;
+    note_places(alloc, target, names, store)?;
     Ok(Staged { ready, renewal })
+}
+
+/// Notes where names stand in a long list.
+fn note_places<L: Ledger>(
+    alloc: Global,
+    target: EntityId,
+    names: Option<&List<Txt>>,
+    store: &mut Store<L>,
+) -> Result<(), NoMemory>
+    ensures { store.new ≡ store.old }
+{
+    match names {
+        Some(names) => {
+            if names.len() >= LONG {
+                store.note(alloc, target, names.as_slice())
+            } else {
+                Ok(())
+            }
+        }
+        None => Ok(()),
+    }
 }
