@@ -67,7 +67,7 @@ impl<'a, L: Ledger> Lined for Kept<'a, L> {
         self.case.container_of(inst)
     }
 
-    fn place(&self, inst: &InstanceId) -> Option<u32> {
+    fn place(&self, inst: &InstanceId) -> Option<usize> {
         self.store.place(inst)
     }
 }
@@ -118,7 +118,7 @@ impl<'a, N: Next, L: Ledger> Lined for Laid<'a, N, L> {
         self.next.container_of(inst)
     }
 
-    fn place(&self, inst: &InstanceId) -> Option<u32> {
+    fn place(&self, inst: &InstanceId) -> Option<usize> {
         self.store.place(inst)
     }
 }

@@ -19,11 +19,11 @@ ghost use Rattle.opa_session.specs.Readers.Renewals.{IsRenewal};
 ghost use Rattle.opa_session.specs.Store.Owners.{AreOwners};
 ghost use Rattle.opa_session.specs.Store.Stores.{kept_of, staged_of};
 
+use crate::infer::placing::note_places;
 use crate::infer::ready::{Ready, made_ready};
 use crate::readers::{Index, Renewal, begin_list, lists_told};
 use crate::settlement::settle;
 use crate::store::{Owners, Store};
-use crate::telling::LONG;
 use opa_case::{
     Case, InstanceId, Moves, Refusal, Relisted, models_are_shapes, step_fits, step_keeps_containers,
 };
@@ -31,7 +31,7 @@ use opa_code::Code;
 use opa_io::{List, NoMemory, Steps, Txt};
 use opa_listen::Listener;
 use opa_mean::{held_can_tell, relisted_is_by_lists, values_have_kinds};
-use opa_model::{EntityId, RelId};
+use opa_model::RelId;
 use opa_tree::Rulebase;
 use std::alloc::Global;
 use std::sync::ledger::Ledger;
@@ -90,10 +90,9 @@ pub(crate) fn prepare_list<L: Ledger>(
     step_fits();
     step_keeps_containers();
     relisted_is_by_lists();
-    let target = base.model.relation(rel).target;
     let next = coming_list(base, held, rel, inst, names)?;
     match stage_list(
-        alloc, base, owners, code, readers, held, &next, target, names, store, steps, listeners,
+        alloc, base, owners, code, readers, held, &next, rel, inst, names, store, steps, listeners,
     ) {
         Ok(staged) => Ok(Prepared {
             ready: staged.ready,
@@ -143,7 +142,8 @@ fn stage_list<L: Ledger>(
     readers: &Index,
     held: &Case,
     next: &Relisted<'_>,
-    target: EntityId,
+    rel: RelId,
+    inst: &InstanceId,
     names: Option<&List<Txt>>,
     store: &mut Store<L>,
     steps: &mut Steps<L>,
@@ -151,6 +151,7 @@ fn stage_list<L: Ledger>(
 ) -> Result<Staged, NoMemory>
     requires owners { AreOwners base.now owners.now }
     requires code { rulebase_of code.now ≡ base.now }
+    requires declared { HasRelation base.now.model rel }
     requires case { held.now ≡ next.now.case.now }
     requires lists { IsByLists (shift base.now next.now.case.now (relisted_case next.now)) }
     requires exact { AreReaders base.now next.now.case.now (readers_in readers.now) }
@@ -174,27 +175,6 @@ fn stage_list<L: Ledger>(
     settle(alloc, base, code, readers, held, next, store, tasks, steps)?;
     let renewal = readers.renewal(alloc, base, owners, held, next, questions)?;
     let ready = made_ready(alloc, base, held, next, store, listeners)?;
-    note_places(alloc, target, names, store)?;
+    note_places(alloc, base, held, rel, inst, names, store)?;
     Ok(Staged { ready, renewal })
-}
-
-/// Notes where names stand in a long list.
-fn note_places<L: Ledger>(
-    alloc: Global,
-    target: EntityId,
-    names: Option<&List<Txt>>,
-    store: &mut Store<L>,
-) -> Result<(), NoMemory>
-    ensures { store.new ≡ store.old }
-{
-    match names {
-        Some(names) => {
-            if names.len() >= LONG {
-                store.note(alloc, target, names.as_slice())
-            } else {
-                Ok(())
-            }
-        }
-        None => Ok(()),
-    }
 }

@@ -94,20 +94,21 @@ impl<L: Ledger> Store<L> {
     }
 
     /// Where an instance may stand in the list of its container.
-    pub(crate) fn place(&self, inst: &InstanceId) -> Option<u32> {
+    pub(crate) fn place(&self, inst: &InstanceId) -> Option<usize> {
         self.places.of(inst)
     }
 
-    /// Notes where names of an entity's instances stand.
+    /// Notes where names of an entity's instances stand, of which so many in front stand as before.
     pub(crate) fn note(
         &mut self,
         alloc: Global,
         entity: EntityId,
         names: &[Txt],
+        same: usize,
     ) -> Result<(), NoMemory>
         ensures { self.new ≡ self.old }
     {
-        self.places.note(alloc, entity, names)?;
+        self.places.note(alloc, entity, names, same)?;
         Ok(())
     }
 

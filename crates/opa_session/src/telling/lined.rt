@@ -41,7 +41,7 @@ pub trait Lined {
         ensures { option_copied result ≡ container_of (over self.now).live inst.now };
 
     /// Where an instance may stand in the list of its container: whoever asks has to look there.
-    fn place(&self, inst: &InstanceId) -> Option<u32>;
+    fn place(&self, inst: &InstanceId) -> Option<usize>;
 }
 
 /// What is held, as what tells lines.
@@ -72,7 +72,7 @@ impl<'a, H: Held> Lined for HeldLines<'a, H> {
         self.source.case().container_of(inst)
     }
 
-    fn place(&self, _inst: &InstanceId) -> Option<u32> {
+    fn place(&self, _inst: &InstanceId) -> Option<usize> {
         None
     }
 }

@@ -1,5 +1,5 @@
 // What is sought of an entity, where one container lists it: by places, if all of it has been found there.
-ghost use Rattle.std.specs.Prelude.{◌≡◌, ◌∷◌, [], true, ℕ, List as Seq, Some, filter, map, unwrap_or, IfOk, IfSome};
+ghost use Rattle.std.specs.Prelude.{◌≡◌, ◌∷◌, [], true, Some, filter, map, unwrap_or, IfOk, IfSome};
 ghost use Rattle.opa_case.specs.Cases.{are_names, list_of};
 ghost use Rattle.opa_cells.specs.Instances.{named};
 ghost use Rattle.opa_session.specs.Telling.Placed.{HaveNames};

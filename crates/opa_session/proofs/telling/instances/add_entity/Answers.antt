@@ -12,7 +12,7 @@ use Rattle.opa_session.specs.Telling.Wanted.{wanted_listed}
 use Rattle.opa_session.proofs.telling.Wanting.{next_among, have_names, wanted_found}
 use Rattle.opa_session.proofs.telling.instances.add_entity.Goals as goal
 
-pub listed-requires : goal.listed-found-requires
+pub listed-requires : goal.listed-requires
 listed-requires g c =
     let r = g.K.Lined.rules c.args.held.now in
     let case = g.K.Lined.over c.args.held.now in

@@ -1,7 +1,6 @@
-use Rattle.std.proofs.Common.{◌≡◌, List, sym, subst, Option, ap}
-use Rattle.std.specs.Prelude.{IfSome, Some}
+use Rattle.std.proofs.Common.{◌≡◌, sym, subst, Option, ap}
+use Rattle.std.specs.Prelude.{IfSome}
 use Rattle.opa_case.specs.Cases.{list_of}
-use Rattle.opa_cells.specs.declared.instance.InstanceId.{InstanceId}
 use Rattle.opa_session.specs.Telling.Sought.{is_wanted}
 use Rattle.opa_session.specs.Telling.Wanted.{wanted_listed}
 use Rattle.opa_session.specs.declared.telling.sought.Sought.{Sought}
