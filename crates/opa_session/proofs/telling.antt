@@ -14,3 +14,4 @@ pub mod Alive
 pub mod Wanting
 pub mod Upward
 pub mod Marking
+pub mod Placing

@@ -1,5 +1,6 @@
 pub mod Among
 pub mod NameMarks
+pub mod Placed
 pub mod Reaching
 pub mod Sought
 pub mod Telling

@@ -8,6 +8,7 @@ mod first;
 mod holding;
 mod laid;
 mod listing;
+mod placing;
 mod ready;
 mod relisting;
 mod replacing;

@@ -7,6 +7,7 @@ mod gone;
 mod laws;
 mod next;
 mod owners;
+mod places;
 mod relisted;
 mod store;
 

@@ -2,6 +2,7 @@
 
 mod among;
 mod attrs;
+mod by_places;
 mod instances;
 mod laws;
 mod lined;
@@ -9,6 +10,7 @@ mod lines;
 mod lists;
 mod marks;
 mod name_marks;
+mod one_list;
 mod order;
 mod reach;
 mod sought;
@@ -22,6 +24,7 @@ pub use laws::{dirty_have_changes, told_once};
 pub use lined::Lined;
 pub use lines::answer_differs;
 pub use lists::{list_differs, same_names};
+pub(crate) use one_list::LONG;
 pub use reach::{dirty_slots, is_fresh};
 pub use tell::changes;
 pub use walk::{live_slots, slot_count, slots};

@@ -20,6 +20,7 @@ use Rattle.opa_case.proofs.Shaped.{shape_is}
 use Rattle.opa_case.proofs.Stands.{either_has, in_upto, text_itself}
 use Rattle.opa_tree.specs.declared.rulebase.Rulebase.{Rulebase}
 use Rattle.opa_mean.specs.Rulebases.{IsOf}
+use Rattle.opa_session.specs.Telling.Placed.{HaveNames}
 use Rattle.opa_session.specs.Telling.Wanted.{IsClosed, wanted_listed, AreAmong}
 
 module _ (w : InstanceId → Bool) where
@@ -73,6 +74,10 @@ module _ (r : Rulebase) (c : CaseView) (is : IsOf r c) where
       let inside : i.entity.0 < s.count = omega (arith, up.1, shape.some) in
       let at : j.entity.0 ≡ s.parent i.entity.0 = is.fits.sound.source (s.contained i.entity.0) j has.names has.known ∙ shape.source i.entity.0 up.0 inside in
       omega (arith, at, shape.earlier i.entity.0 up.0 inside)
+
+  -- each name stands once where an entity's are listed
+  pub have_names : (e : ℕ) → 0 < e → e < s.count → HaveNames c (s.contained e)
+  have_names e pos lt j names h = is.fits.sound.names (s.contained e) j names (known e pos lt j names h)
 
   parent_is_before : (e : ℕ) → 0 < e → e < s.count → s.parent e < e
   parent_is_before e pos lt = shape.earlier e pos lt

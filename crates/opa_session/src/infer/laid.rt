@@ -66,6 +66,10 @@ impl<'a, L: Ledger> Lined for Kept<'a, L> {
     fn container_of(&self, inst: &InstanceId) -> Option<&InstanceId> {
         self.case.container_of(inst)
     }
+
+    fn place(&self, inst: &InstanceId) -> Option<usize> {
+        self.store.place(inst)
+    }
 }
 
 /// The staged lines, and else the kept ones, over the case that comes.
@@ -112,6 +116,10 @@ impl<'a, N: Next, L: Ledger> Lined for Laid<'a, N, L> {
 
     fn container_of(&self, inst: &InstanceId) -> Option<&InstanceId> {
         self.next.container_of(inst)
+    }
+
+    fn place(&self, inst: &InstanceId) -> Option<usize> {
+        self.store.place(inst)
     }
 }
 

@@ -19,6 +19,7 @@ ghost use Rattle.opa_session.specs.Readers.Renewals.{IsRenewal};
 ghost use Rattle.opa_session.specs.Store.Owners.{AreOwners};
 ghost use Rattle.opa_session.specs.Store.Stores.{kept_of, staged_of};
 
+use crate::infer::placing::note_places;
 use crate::infer::ready::{Ready, made_ready};
 use crate::readers::{Index, Renewal, begin_list, lists_told};
 use crate::settlement::settle;
@@ -91,7 +92,7 @@ pub(crate) fn prepare_list<L: Ledger>(
     relisted_is_by_lists();
     let next = coming_list(base, held, rel, inst, names)?;
     match stage_list(
-        alloc, base, owners, code, readers, held, &next, store, steps, listeners,
+        alloc, base, owners, code, readers, held, &next, rel, inst, names, store, steps, listeners,
     ) {
         Ok(staged) => Ok(Prepared {
             ready: staged.ready,
@@ -141,12 +142,16 @@ fn stage_list<L: Ledger>(
     readers: &Index,
     held: &Case,
     next: &Relisted<'_>,
+    rel: RelId,
+    inst: &InstanceId,
+    names: Option<&List<Txt>>,
     store: &mut Store<L>,
     steps: &mut Steps<L>,
     listeners: &mut Vec<Box<dyn Listener>>,
 ) -> Result<Staged, NoMemory>
     requires owners { AreOwners base.now owners.now }
     requires code { rulebase_of code.now ≡ base.now }
+    requires declared { HasRelation base.now.model rel }
     requires case { held.now ≡ next.now.case.now }
     requires lists { IsByLists (shift base.now next.now.case.now (relisted_case next.now)) }
     requires exact { AreReaders base.now next.now.case.now (readers_in readers.now) }
@@ -170,5 +175,6 @@ fn stage_list<L: Ledger>(
     settle(alloc, base, code, readers, held, next, store, tasks, steps)?;
     let renewal = readers.renewal(alloc, base, owners, held, next, questions)?;
     let ready = made_ready(alloc, base, held, next, store, listeners)?;
+    note_places(alloc, base, held, rel, inst, names, store)?;
     Ok(Staged { ready, renewal })
 }

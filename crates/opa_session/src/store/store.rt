@@ -16,12 +16,13 @@ ghost use Rattle.opa_case.specs.Cases.{Answer};
 use crate::store::differ::lines_differ;
 use crate::store::entry::{Entry, abandon_at, commit_at, stage_at};
 use crate::store::next::Next;
+use crate::store::places::Places;
 use opa_case::InstanceId;
 use opa_cells::Cells;
 use opa_io::{List, NoMemory, Steps, Txt};
 use opa_line::Line;
 use opa_mean::{Derive, Look, Slot};
-use opa_model::{AttrId, RelId};
+use opa_model::{AttrId, EntityId, RelId};
 use opa_value::Value;
 use std::alloc::Global;
 use std::marker::{Model, PhantomData};
@@ -32,6 +33,7 @@ use std::sync::ledger::Ledger;
 pub struct Store<L: Ledger> {
     pub(crate) entries: Cells<Entry>,
     slots: List<Slot>,
+    places: Places,
     counted: PhantomData<L>,
 }
 
@@ -58,6 +60,7 @@ impl<L: Ledger> Store<L> {
         Store {
             entries: Cells::new(alloc),
             slots: List::new(alloc),
+            places: Places::new(alloc),
             counted: PhantomData,
         }
     }
@@ -88,6 +91,25 @@ impl<L: Ledger> Store<L> {
         ensures once { are_once result.now ≡ true }
     {
         self.slots.as_slice()
+    }
+
+    /// Where an instance may stand in the list of its container.
+    pub(crate) fn place(&self, inst: &InstanceId) -> Option<usize> {
+        self.places.of(inst)
+    }
+
+    /// Notes where names of an entity's instances stand, of which so many in front stand as before.
+    pub(crate) fn note(
+        &mut self,
+        alloc: Global,
+        entity: EntityId,
+        names: &[Txt],
+        same: usize,
+    ) -> Result<(), NoMemory>
+        ensures { self.new ≡ self.old }
+    {
+        self.places.note(alloc, entity, names, same)?;
+        Ok(())
     }
 
     /// The staged line, or else the kept one.

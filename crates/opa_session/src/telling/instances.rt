@@ -1,12 +1,14 @@
 // The wanted live instances, entity by entity.
-ghost use Rattle.std.specs.Prelude.{◌≡◌, ◌<◌, ◌+◌, ◌++◌, ◌∷◌, [], map, filter, length, IfOk, OnOk};
+ghost use Rattle.std.specs.Prelude.{◌≡◌, ◌<◌, ◌+◌, ◌++◌, ◌∷◌, [], map, filter, length, IfOk, IfSome, OnOk};
 ghost use Rattle.std.specs.Option.{option_copied};
 ghost use Rattle.opa_case.specs.Cases.{list_of};
 ghost use Rattle.opa_cells.specs.Instances.{global, named};
+ghost use Rattle.opa_session.specs.Telling.Placed.{HaveNames};
 ghost use Rattle.opa_session.specs.Telling.Sought.{is_wanted};
 ghost use Rattle.opa_session.specs.Telling.Wanted.{AreAmong, IsClosed, wanted_listed};
 
 use crate::telling::lined::Lined;
+use crate::telling::one_list::listed_by_one;
 use crate::telling::sought::Sought;
 use opa_case::{InstanceId, instances_of};
 use opa_io::{List, NoMemory, Txt};
@@ -61,9 +63,51 @@ fn add_entity<K: Lined>(
     let base = held.base();
     let nest = base.model.entity(EntityId(entity));
     let containers = instances_of(lists.as_slice(), nest.parent.0);
-    let found = listed_in(alloc, held, nest.contained, entity, containers, wanted)?;
+    let found = listed(alloc, held, nest.contained, entity, containers, wanted)?;
     lists.push(found)?;
     Ok(())
+}
+
+/// What containers list.
+fn listed<K: Lined>(
+    alloc: Global,
+    held: &K,
+    rel: RelId,
+    entity: u32,
+    containers: &[InstanceId],
+    wanted: Option<&Sought>,
+) -> Result<List<InstanceId>, NoMemory>
+    requires { HaveNames (K.over held.now) rel }
+    ensures { IfOk result (λ found. found ≡ wanted_listed (is_wanted (option_copied wanted.entry)) (list_of (K.over held.now)) rel entity containers.now) }
+{
+    let quick = quickly(alloc, held, rel, entity, containers, wanted)?;
+    match quick {
+        Some(found) => Ok(found),
+        None => {
+            let found = listed_in(alloc, held, rel, entity, containers, wanted)?;
+            Ok(found)
+        }
+    }
+}
+
+fn quickly<K: Lined>(
+    alloc: Global,
+    held: &K,
+    rel: RelId,
+    entity: u32,
+    containers: &[InstanceId],
+    wanted: Option<&Sought>,
+) -> Result<Option<List<InstanceId>>, NoMemory>
+    requires { HaveNames (K.over held.now) rel }
+    ensures { IfOk result (λ o. IfSome o (λ found. found ≡ wanted_listed (is_wanted (option_copied wanted.entry)) (list_of (K.over held.now)) rel entity containers.now)) }
+{
+    match wanted {
+        None => Ok(None),
+        Some(sought) => {
+            let found = listed_by_one(alloc, held, rel, entity, containers, sought)?;
+            Ok(found)
+        }
+    }
 }
 
 /// What containers list, one container after another.

@@ -39,6 +39,9 @@ pub trait Lined {
 
     fn container_of(&self, inst: &InstanceId) -> Option<&InstanceId>
         ensures { option_copied result ≡ container_of (over self.now).live inst.now };
+
+    /// Where an instance may stand in the list of its container: whoever asks has to look there.
+    fn place(&self, inst: &InstanceId) -> Option<usize>;
 }
 
 /// What is held, as what tells lines.
@@ -67,5 +70,9 @@ impl<'a, H: Held> Lined for HeldLines<'a, H> {
 
     fn container_of(&self, inst: &InstanceId) -> Option<&InstanceId> {
         self.source.case().container_of(inst)
+    }
+
+    fn place(&self, _inst: &InstanceId) -> Option<usize> {
+        None
     }
 }

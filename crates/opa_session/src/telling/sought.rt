@@ -1,15 +1,17 @@
 // What is sought: the instances of slots, and whatever contains them. A name without its mark isn't looked up.
 ghost use Rattle.std.specs.Prelude.{◌≡◌, ◌≤◌, ◌||◌, true, false, IfOk, OnOk};
+ghost use Rattle.std.specs.List.{list_any};
 ghost use Rattle.opa_cells.specs.Instances.{is_same, named};
 ghost use Rattle.opa_cells.specs.declared.instance.InstanceId.{InstanceId as InstanceView};
 ghost use Rattle.opa_session.specs.Telling.NameMarks.{AllMarked};
+ghost use Rattle.opa_session.specs.Telling.Placed.{AllListed};
 ghost use Rattle.opa_session.specs.Telling.Wanted.{has_wanted, AddsUpward, AreWanted, IsClosedBut};
 
 use crate::telling::lined::Lined;
 use crate::telling::name_marks::{may_be, set_mark};
 use crate::telling::wanted::Wanted;
 use opa_case::InstanceId;
-use opa_io::{NoMemory, Txt};
+use opa_io::{List, NoMemory, Txt};
 use opa_mean::Slot;
 use std::alloc::Global;
 
@@ -18,7 +20,9 @@ use std::alloc::Global;
 pub(crate) struct Sought {
     pub(crate) wanted: Wanted,
     marks: [bool; 256],
+    pub(crate) all: List<InstanceId>,
     ghost marked: { AllMarked (has_wanted wanted) marks },
+    ghost listed: { AllListed (has_wanted wanted) all },
 }
 
 impl Sought {
@@ -28,6 +32,7 @@ impl Sought {
         Sought {
             wanted: Wanted::new(alloc),
             marks: [false; 256],
+            all: List::new(alloc),
         }
     }
 
@@ -43,9 +48,19 @@ impl Sought {
         ensures { OnOk result ((i : InstanceView) → has_wanted self.new.wanted i ≡ (is_same i inst.now || has_wanted self.old.wanted i)) }
     {
         set_mark(&mut self.marks, &inst.name);
+        add_listed(&mut self.all, alloc, inst)?;
         add_wanted(&mut self.wanted, alloc, inst)?;
         Ok(())
     }
+}
+
+fn add_listed(all: &mut List<InstanceId>, alloc: Global, inst: &InstanceId) -> Result<(), NoMemory>
+    ensures kept { (i : InstanceView) → list_any (is_same i) all.old ≡ true → list_any (is_same i) all.new ≡ true }
+    ensures there { OnOk result (list_any (is_same inst.now) all.new ≡ true) }
+{
+    let inst = inst.copy(alloc)?;
+    all.push(inst)?;
+    Ok(())
 }
 
 /// Adds an instance; without memory nothing is wanted any more.
