@@ -16,4 +16,4 @@ returns-in_ok-told_slip-in-Err-Place c =
     let text = c.as_str-text.result.now in
     uncut_block c.args.first.now text c.as_str-text.ensures c.args.below.now _ c.stuck_slip.result c.in_ok-told_slip-in-Err-Place.field-0
     (subst (IsCause (length text) (chars text)) c.in-Err-Place.field-0-is c.in-Err-Place.ensures.fault)
-    (rw c.in-Err-Place.field-0-is at c.stuck_slip.ensures) (rw c.in-Err-Place.field-0-is at c.in_ok-told_slip-in-Err-Place.ensures)
+    c.stuck_slip.ensures c.in_ok-told_slip-in-Err-Place.ensures
