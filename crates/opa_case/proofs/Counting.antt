@@ -1,8 +1,8 @@
 -- Counts of answers and of slots against their limits.
-use Rattle.std.specs.Prelude.{◌≡◌, ◌≤◌, ◌<◌, ◌+◌, ◌-◌, ◌==◌, ℕ, zero, suc, nat_lt, nat_le, Bool, true, false, cond, List, [], ◌∷◌, length, map, filter, is_some, refl}
+use Rattle.std.specs.Prelude.{◌≡◌, ◌≤◌, ◌<◌, ◌+◌, ◌-◌, ◌*◌, ◌==◌, min, ℕ, zero, suc, nat_lt, nat_le, Bool, true, false, cond, List, [], ◌∷◌, length, map, filter, is_some, refl}
 use Rattle.std.specs.FinMap.{FinMap, get, insert, remove, len, len-insert, len-remove}
 use Rattle.std.proofs.Common.{arith, tests, rules, ap, sym, subst, ◌∙◌}
-use Rattle.std.proofs.lemmas.Bool.{lt-ltb}
+use Rattle.std.proofs.lemmas.Bool.{lt-ltb, leb-true}
 use Rattle.opa_cells.specs.declared.instance.InstanceId.{InstanceId}
 use Rattle.opa_cells.specs.Instances.{global}
 use Rattle.opa_cells.specs.Keys.{cell_cmp}
@@ -86,3 +86,26 @@ slots_few s ruled live a =
       | true ↦ most
       | false ↦ omega arith
     ]
+
+slots_within : (s : Shape) (ruled : List Bool) (live : Population) (n : ℕ) → slots_upto s ruled live n ≤ n * (length live + 1)
+slots_within s ruled live zero = let none = slots_none s ruled live in omega (arith, none)
+slots_within s ruled live (suc n) =
+    let before = slots_within s ruled live n in
+    let step = slots_step s ruled live n in
+    let few = slots_few s ruled live (record { 0 = n }) in
+    let more : suc n * (length live + 1) ≡ n * (length live + 1) + (length live + 1) = grind arith in
+    omega (arith, before, step, few, more)
+
+-- there aren't too many slots, if each live instance can have each attribute
+pub few_enough : (s : Shape) (ruled : List Bool) (live : Population) → s.attributes * (length live + 1) ≤ 2000000 → false ≡ nat_lt 2000000 (slots_upto s ruled live s.attributes)
+few_enough s ruled live few = let all = slots_within s ruled live s.attributes in search (tests, arith, rules)
+
+-- the product is small as it is counted, so it is as it is counted
+pub small_product : (a l e m : ℕ) → e ≡ min (l + 1) 18446744073709551615 → m ≡ min (a * e) 18446744073709551615 → nat_le m 2000000 ≡ true → a * (l + 1) ≤ 2000000
+small_product zero l e m each most few = search (arith, rules)
+small_product (suc a) l e m each most few =
+    let low : m ≤ 2000000 = leb-true m 2000000 few in
+    let product : suc a * e ≤ 2000000 = omega (arith, low, most) in
+    let more : suc a * e ≡ a * e + e = grind arith in
+    let same : e ≡ l + 1 = omega (arith, product, more, each) in
+    subst (λ x. suc a * x ≤ 2000000) same product

@@ -1,7 +1,7 @@
 // What two cases are compared by: known lists, and what is answered.
 ghost use Rattle.std.specs.Prelude.{map as items, ◌≡◌, true, IfOk};
 ghost use Rattle.opa_cells.specs.Rows.{seen};
-ghost use Rattle.opa_cells.specs.Unordered.{HasCells};
+ghost use Rattle.opa_cells.specs.Unordered.{AreCells};
 
 use crate::case::Case;
 use crate::listed::Listed;
@@ -20,9 +20,9 @@ impl Case {
         Ok(same)
     }
 
-    /// What is answered, in no order.
+    /// What is answered, each answer once, in no order.
     pub fn answered(&self, alloc: Global) -> Result<Vec<(u32, &InstanceId, &Line<Value>)>, NoMemory>
-        ensures { IfOk result (λ cells. HasCells self.now.answers (items seen cells.items)) }
+        ensures { IfOk result (λ cells. AreCells self.now.answers (items seen cells.items)) }
     {
         let cells = self.answers.unordered(alloc)?;
         Ok(cells)

@@ -1,5 +1,5 @@
 // How many instances and slots are live.
-ghost use Rattle.std.specs.Prelude.{◌≡◌, ◌≤◌, nat_lt};
+ghost use Rattle.std.specs.Prelude.{◌≡◌, ◌≤◌, ◌+◌, ◌*◌, length, nat_lt, IsTrue};
 ghost use Rattle.opa_case.specs.Shapes.{shape_of};
 ghost use Rattle.opa_case.specs.Live.{Population};
 ghost use Rattle.opa_case.specs.Steps as step;
@@ -47,6 +47,25 @@ pub fn is_full<C: Counted>(model: &Model, ruled: &Ruled, counts: &C) -> bool
 }
 
 fn has_many_slots<C: Counted>(model: &Model, ruled: &Ruled, counts: &C) -> bool
+    ensures { (live : Population) → C.counts counts.now live → result ≡ nat_lt 2000000 (step.slots (shape_of model.now) ruled.now live) }
+{
+    if are_few_slots(model, counts) {
+        return false;
+    }
+    are_many_slots(model, ruled, counts)
+}
+
+/// Whether there can't be too many, even if each live instance had each attribute.
+fn are_few_slots<C: Counted>(model: &Model, counts: &C) -> bool
+    ensures { (live : Population) → C.counts counts.now live → IsTrue result → length model.now.attributes * (length live + 1) ≤ 2000000 }
+{
+    let each = counts.total().saturating_add(1);
+    let most = u64::from(model.attribute_count()).saturating_mul(each);
+    most <= MOST_SLOTS
+}
+
+/// The same by the slots of each attribute.
+fn are_many_slots<C: Counted>(model: &Model, ruled: &Ruled, counts: &C) -> bool
     ensures { (live : Population) → C.counts counts.now live → result ≡ nat_lt 2000000 (step.slots (shape_of model.now) ruled.now live) }
 {
     let count = model.attribute_count();

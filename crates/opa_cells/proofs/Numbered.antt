@@ -28,7 +28,7 @@ module _ {V : Type 0} where
       → (q : ℕ) → lookup (is_at (nat_cmp q)) rs' ≡ cond (is_at (nat_cmp n) q) w (lookup (is_at (nat_cmp q)) rs)
   rows_set rs rs' n w set q = sym (row_found rs' q) ∙ set q ∙ ap (λ b. cond b w (lookup (nat_eq q) rs)) (unsigned_ties n q) ∙ ap (cond (is_at (nat_cmp n) q) w) (row_found rs q)
 
-  row_find : (rs : List (ℕ × FinMap instance_cmp V)) (n : ℕ) → lookup (is_at (nat_cmp n)) rs ≡ find nat_cmp n rs
+  pub row_find : (rs : List (ℕ × FinMap instance_cmp V)) (n : ℕ) → lookup (is_at (nat_cmp n)) rs ≡ find nat_cmp n rs
   row_find [] n = refl
   row_find (r ∷ rs) n = ap (cond (is_at (nat_cmp n) r.0) (Some r.1)) (row_find rs n)
 

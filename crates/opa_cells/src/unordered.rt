@@ -1,12 +1,12 @@
 // The cells in the order in which they are found.
-ghost use Rattle.std.specs.Prelude.{map as items, ◌≡◌, ◌++◌, IfOk, OnOk};
-ghost use Rattle.opa_cells.specs.Rows.{row_entries, seen};
-ghost use Rattle.opa_cells.specs.Unordered.{AddsCells, AddsRow, AddsRows, HasCells};
+ghost use Rattle.std.specs.Prelude.{map as items, ◌≡◌, ◌∷◌, ◌++◌, [], IfOk, OnOk};
+ghost use Rattle.opa_cells.specs.Rows.{row_entries, seen, without};
+ghost use Rattle.opa_cells.specs.Unordered.{besides, AddsCells, AddsRow, AddsRows, AreCells};
 
 use crate::cells::Cells;
 use crate::instance::InstanceId;
 use crate::others::Others;
-use crate::row::Row;
+use crate::row::{Row, is_held};
 use crate::rows::Rows;
 use opa_io::NoMemory;
 use std::alloc::Global;
@@ -15,7 +15,7 @@ use std::collections::HashMap;
 impl<V> Cells<V> {
     /// The cells in the order in which they are found: for who needs none, since it takes no sort.
     pub fn unordered(&self, alloc: Global) -> Result<Vec<(u32, &InstanceId, &V)>, NoMemory>
-        ensures { IfOk result (λ cells. HasCells self.now (items seen cells.items)) }
+        ensures { IfOk result (λ cells. AreCells self.now (items seen cells.items)) }
     {
         let mut cells = Vec::new(alloc);
         self.rows.add_found(&mut cells)?;
@@ -31,6 +31,7 @@ impl<V> Rows<V> {
     ) -> Result<(), NoMemory>
         ensures { OnOk result (AddsCells self.entry.now (items seen cells.old.items) (items seen cells.new.items)) }
     {
+        let _rows = self.rows.len();
         add_rows(&self.rows, cells)?;
         Ok(())
     }
@@ -57,7 +58,7 @@ impl<V> Row<V> {
     ) -> Result<(), NoMemory>
         ensures { OnOk result (AddsRow number self.entry.now (items seen cells.old.items) (items seen cells.new.items)) }
     {
-        self.others.add_found(number, cells)?;
+        self.others.add_found(number, &self.one, cells)?;
         match &self.one {
             Some((inst, value)) => {
                 cells.push((number, inst, value))?;
@@ -69,28 +70,47 @@ impl<V> Row<V> {
 }
 
 impl<V> Others<V> {
-    /// Adds the cells of a number.
+    /// Adds the cells of a number, but that of an instance that another one stands for.
     fn add_found<'a>(
         &'a self,
         number: u32,
+        one: &Option<(InstanceId, V)>,
         cells: &mut Vec<(u32, &'a InstanceId, &'a V)>,
     ) -> Result<(), NoMemory>
-        ensures { OnOk result (AddsRow number self.entry.now (items seen cells.old.items) (items seen cells.new.items)) }
+        ensures { OnOk result (AddsRow number (without self.entry.now one.now) (items seen cells.old.items) (items seen cells.new.items)) }
     {
-        add_each(number, &self.cells, cells)?;
+        let _cells = self.cells.len();
+        add_each(number, one, &self.cells, cells)?;
         Ok(())
     }
 }
 
 fn add_each<'a, V>(
     number: u32,
+    one: &Option<(InstanceId, V)>,
     found: &'a HashMap<InstanceId, V>,
     cells: &mut Vec<(u32, &'a InstanceId, &'a V)>,
 ) -> Result<(), NoMemory>
-    ensures { OnOk result (items seen cells.new.items ≡ items seen cells.old.items ++ row_entries number found.entry.now.entries) }
+    ensures { OnOk result (items seen cells.new.items ≡ items seen cells.old.items ++ row_entries number (besides one.now found.entry.now.entries)) }
 {
     for (inst, value) in found {
-        cells.push((number, inst, value))?;
+        add_other(number, one, inst, value, cells)?;
     }
+    Ok(())
+}
+
+fn add_other<'a, V>(
+    number: u32,
+    one: &Option<(InstanceId, V)>,
+    inst: &'a InstanceId,
+    value: &'a V,
+    cells: &mut Vec<(u32, &'a InstanceId, &'a V)>,
+) -> Result<(), NoMemory>
+    ensures { OnOk result (items seen cells.new.items ≡ items seen cells.old.items ++ row_entries number (besides one.now ((inst.entry.now, value.entry.now) ∷ []))) }
+{
+    if is_held(one, inst) {
+        return Ok(());
+    }
+    cells.push((number, inst, value))?;
     Ok(())
 }

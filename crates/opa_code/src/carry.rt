@@ -139,6 +139,7 @@ pub(crate) fn attribute_in(node: &Node) -> Option<(AttrId, u32)>
 }
 
 /// The line that a node makes of its operands, uncertain on every day where it makes none: an attribute's is looked up.
+#[inline(always)]
 fn made_line(alloc: Global, node: &Node, operands: &[Operand<'_>]) -> Result<Line<Value>, NoMemory>
     ensures { IfOk result (λ line. (l : Looked) (enclosing : Seq Instance) → attribute_in node.now ≡ None → IsStep node.now → StandsFor DAYS (node_meaning l node.now (map meaning_of operands.now) enclosing) line) }
 {

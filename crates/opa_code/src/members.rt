@@ -29,6 +29,7 @@ pub(crate) fn with_room(
 }
 
 /// Puts a listed instance into the first place.
+#[inline(always)]
 pub(crate) fn put_first(
     alloc: Global,
     all: &mut Vec<InstanceId>,
@@ -47,6 +48,7 @@ pub(crate) fn put_first(
 }
 
 /// The line of an attribute at its place, as one item more.
+#[inline(always)]
 pub(crate) fn add_attribute<'a, K: Look>(
     alloc: Global,
     look: &'a K,
@@ -65,6 +67,7 @@ pub(crate) fn add_attribute<'a, K: Look>(
 }
 
 /// The line that is looked up, unknown on every day where there is none, as one item more.
+#[inline(always)]
 fn add_looked_up<'a, K: Look>(
     alloc: Global,
     look: &'a K,

@@ -106,6 +106,7 @@ impl<T: Same + Drop> Builder<T> {
     }
 }
 
+#[inline(always)]
 fn held<T>(alloc: Global, pairs: Begun<T>) -> Held<T>
     ensures { pairs_held result ≡ pairs_begun pairs }
 {
@@ -160,6 +161,7 @@ fn enter<T: Same + Drop>(pairs: &mut Vec<(u32, T)>, day: u32, value: T) -> Resul
 }
 
 /// The pairs with a second one, if it has a new value.
+#[inline(always)]
 fn after_first<T: Same + Drop>(
     alloc: Global,
     room: usize,
@@ -178,6 +180,7 @@ fn after_first<T: Same + Drop>(
     Ok(Begun::Many(pairs))
 }
 
+#[inline(always)]
 fn entered<T: Same + Drop>(
     alloc: Global,
     room: usize,

@@ -277,7 +277,7 @@ fn step_after<'a, H: Held>(
 fn step_leave<'a, H: Held>(
     alloc: Global,
     held: &'a H,
-    _steps: &mut List<Step<'a>>,
+    steps: &mut List<Step<'a>>,
     attr: AttrId,
     inst: &InstanceId,
     day: u32,
@@ -286,9 +286,10 @@ fn step_leave<'a, H: Held>(
 ) -> Result<(Found, Runs), NoMemory>
     requires day { day < DAYS }
     requires live { IsLive (H.held held.now) inst.now }
-    ensures { IfOk result (λ x. LeadsOn (H.rules held.now) (H.held held.now) (step.AfterPoint attr inst.now day) found runs _steps.old x.0 x.1 _steps.new) }
+    ensures { IfOk result (λ x. LeadsOn (H.rules held.now) (H.held held.now) (step.AfterPoint attr inst.now day) found runs steps.old x.0 x.1 steps.new) }
 {
-    let noted = leave_point(alloc, held, attr, inst, day, &found, runs)?;
+    let last = steps.len() == 0;
+    let noted = leave_point(alloc, held, attr, inst, day, last, &found, runs)?;
     Ok((found, noted))
 }
 
@@ -330,6 +331,7 @@ fn leave_point<H: Held>(
     attr: AttrId,
     inst: &InstanceId,
     day: u32,
+    last: bool,
     found: &Found,
     runs: Runs,
 ) -> Result<Runs, NoMemory>
@@ -337,7 +339,7 @@ fn leave_point<H: Held>(
     requires live { IsLive (H.held held.now) inst.now }
     ensures { IfOk result (λ more. (steps : Seq Steps) → LeadsOn (H.rules held.now) (H.held held.now) (step.AfterPoint attr inst.now day) found.now runs steps found.now more steps) }
 {
-    let until = point_until(alloc, held, found, &runs, attr, inst, day)?;
+    let until = point_until(alloc, held, found, &runs, attr, inst, day, last)?;
     let run = Run {
         first: day,
         end: until.max(day + 1),
@@ -347,7 +349,8 @@ fn leave_point<H: Held>(
     Ok(noted)
 }
 
-/// The day below which all that a point needs is found, from a day on which it is.
+/// The day below which all that a point needs is found, from a day on which it is. Of the last point nobody asks, so no
+/// later day is looked for.
 fn point_until<H: Held>(
     alloc: Global,
     held: &H,
@@ -356,10 +359,14 @@ fn point_until<H: Held>(
     attr: AttrId,
     inst: &InstanceId,
     day: u32,
+    last: bool,
 ) -> Result<u32, NoMemory>
     ensures { IfOk result (Settles (H.rules held.now) (H.held held.now) found.now runs.now (point_needs (H.rules held.now) (H.held held.now) attr inst.now) day) }
 {
     let _case = held.case();
+    if last {
+        return Ok(day);
+    }
     match rule_of(held, attr) {
         None => Ok(day),
         Some(rule) => {

@@ -38,6 +38,12 @@ one_item [] x low high is = absurd (omega (arith, low))
 one_item (y ∷ []) x low high is = ap (λ z. z ∷ []) (sym is)
 one_item (y ∷ z ∷ xs) x low high is = absurd (omega (arith, high))
 
+pub two_items : {X : Type 0} (xs : List X) (x y : X) → 2 ≤ length xs → length xs < 3 → x ≡ get_or xs 0 x → y ≡ get_or xs 1 y → xs ≡ x ∷ y ∷ []
+two_items [] x y low high first second = absurd (omega (arith, low))
+two_items (a ∷ []) x y low high first second = absurd (omega (arith, low))
+two_items (a ∷ b ∷ []) x y low high first second = ap (λ z. z ∷ b ∷ []) (sym first) ∙ ap (λ z. x ∷ z ∷ []) (sym second)
+two_items (a ∷ b ∷ c ∷ xs) x y low high first second = absurd (omega (arith, high))
+
 pub halves_join : {X : Type 0} (xs front back : List X) (n : ℕ) → front ≡ take n xs → back ≡ drop n xs → front ++ back ≡ xs
 halves_join xs front back n f b = ap (λ ys. ys ++ back) f ∙ ap (λ ys. take n xs ++ ys) b ∙ take-append-drop n xs
 

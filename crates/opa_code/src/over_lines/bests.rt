@@ -1,5 +1,5 @@
 // What the greatest or the least of values is told from.
-ghost use Rattle.std.specs.Prelude.{◌≡◌, [], Bool, IfOk};
+ghost use Rattle.std.specs.Prelude.{◌≡◌, ◌∷◌, [], Bool, IfOk};
 ghost use Rattle.opa_code.specs.OverLines.Extremes as extremes;
 
 use crate::over_lines::marks::{Marks, either};
@@ -47,6 +47,15 @@ impl Bests {
             uncertain: marks.uncertain,
             peaks: Peaks::one(value),
         }
+    }
+
+    /// Of two values.
+    pub fn two(most: bool, first: &Value, second: &Value) -> Bests
+        ensures { extremes.AreBests most (first.now ∷ second.now ∷ []) result }
+    {
+        let one = Bests::one(first);
+        let other = Bests::one(second);
+        Bests::both(most, &one, &other)
     }
 
     /// Of the values of a tally.

@@ -50,6 +50,7 @@ impl<'a> Items<'a> {
     }
 
     /// One item more.
+    #[inline(always)]
     pub fn add(&mut self, alloc: Global, operand: Operand<'a>) -> Result<(), NoMemory>
         requires { HasRoom self.old }
         ensures { OnOk result (IsAdded (day_value operand.entry) self.old self.new) }
@@ -65,6 +66,7 @@ impl<'a> Items<'a> {
     }
 
     /// One item more, with the same value at every day.
+    #[inline(always)]
     pub fn add_value(&mut self, alloc: Global, value: &Value) -> Result<(), NoMemory>
         requires { HasRoom self.old }
         ensures { OnOk result (IsAdded (λ _. value.now) self.old self.new) }

@@ -266,6 +266,7 @@ pub(crate) fn bests_over(
     match operands {
         [] => Line::constant(alloc, Bests::none()),
         [operand] => one_best(alloc, operand.line()),
+        [x, y] => two_bests(alloc, most, x.line(), y.line()),
         _ => {
             let (left, right) = operands.split_at(operands.len() / 2);
             let first = bests_over(alloc, most, left)?;
@@ -281,6 +282,20 @@ fn one_best(alloc: Global, line: &Line<Value>) -> Result<Line<Bests>, NoMemory>
     ensures { IfOk result (EachDay (λ d t. IsOneBest (day_value line.now d) t) DAYS) }
 {
     line.map(alloc, |v: &Value| Ok(Bests::one(v)))
+}
+
+/// The same of two, without a line for each.
+fn two_bests(
+    alloc: Global,
+    most: bool,
+    x: &Line<Value>,
+    y: &Line<Value>,
+) -> Result<Line<Bests>, NoMemory>
+    ensures { IfOk result (EachDay (λ d t. AreBests most (day_value x.now d ∷ day_value y.now d ∷ []) t) DAYS) }
+{
+    x.zip(alloc, y, move |v: &Value, w: &Value| {
+        Ok(Bests::two(most, v, w))
+    })
 }
 
 /// What a quantifier makes of a listed instance's operands.

@@ -33,6 +33,7 @@ pub fn truth_of(line: &Line<Value>) -> Option<bool>
 }
 
 /// The tally with one value more.
+#[inline(always)]
 pub fn counted(most: bool, tally: &Tally, value: &Value) -> Tally
     requires { tallies.AreSmall tally.now.sums }
     ensures { tallies.IsCounted most value.now tally.now result }

@@ -2,7 +2,7 @@ use Rattle.std.specs.Prelude.{◌≡◌, ◌≤◌, ◌-◌, length}
 use Rattle.opa_case.specs.Shapes.{shape_of}
 use Rattle.opa_case.specs.Live.{Population}
 use Rattle.opa_case.specs.Steps.{slots_upto}
-use Rattle.opa_case.proofs.slots.has_many_slots.Given as goal
+use Rattle.opa_case.proofs.slots.are_many_slots.Given as goal
 
 abbrev pub invariant-loop-number : goal.invariant-loop-number
 invariant-loop-number g l = record {
