@@ -214,7 +214,10 @@ NOTES: dict[str, tuple[str, list[str]]] = {
     "a capital letter": ("global\n  number the fee\n  number the Fee\ngoal the fee\nthe fee = the Fee\n", [f":0: {alike('the fee', 'the Fee')}"]),
     "capital letters": ("global\n  number the FEE\n  number the fee\ngoal the fee\nthe fee = the FEE\n", [f":0: {alike('the FEE', 'the fee')}"]),
     "capital letters, and another letter": ("global\n  number the fee\n  number the FEZ\ngoal the fee\nthe fee = the FEZ\n", []),
-    "another capital letter": ("global\n  number the \u00e9\n  number the \u00c9\ngoal the \u00e9\nthe \u00e9 = the \u00c9\n", [f":0: {alike('the \u00e9', 'the \u00c9')}"]),
+    "another capital letter": (
+        "global\n  number the \u00e9\n  number the \u00c9\ngoal the \u00e9\nthe \u00e9 = the \u00c9\n",
+        [":0: " + alike("the \u00e9", "the \u00c9")],
+    ),
     "other capital letters": (
         "global\n  number the \u00e9\u00e9\n  number the \u00c9\u00c9\ngoal the \u00e9\u00e9\nthe \u00e9\u00e9 = the \u00c9\u00c9\n",
         [],
