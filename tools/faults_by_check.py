@@ -2,7 +2,8 @@
 
 The block of each error is made blank, so that all lines keep their numbers, and `opa check` is asked again. It stops
 behind an error that isn't in a block of a rule file, or that is in a declaration. Of an error 3 the line is read for
-the first phrase that isn't declared (`unknown`), and the nearest declared one is looked for (`nearest`).
+the first phrase that isn't declared (`unknown`), and the nearest declared one is looked for (`nearest`). Of an error 2
+the block is read for the first place that can't be read (tools/unread_places.py).
 """
 from __future__ import annotations
 
@@ -13,6 +14,8 @@ import tempfile
 from collections.abc import Iterator
 from pathlib import Path
 from typing import NamedTuple
+
+from unread_places import ENDINGS, SLIPS, Token, cut, unread
 
 REFUSED = re.compile(r"refused: rulebase (\d) (.*):(\d+)\n((?:  .*\n)*)")
 WORDS = {
@@ -33,13 +36,9 @@ CONTROL = re.compile(r"[\x00-\x1f\x7f]")
 MOST_FILE_LINES, MOST_LINE, MOST_LEVEL = 100, 65536, 64
 # How many errors are listed, and how many if a file is long.
 MOST, MOST_OF_LONG, LONG = 100, 3, 1048576
+ENDED = "{} errors are listed: there may be more\n"
 
 UNKNOWN = "no attribute or list is called '"
-TOKEN = re.compile(
-    r"(?P<date>\d{4}-\d\d-\d\d)|(?P<number>\d+(?:\.\d{1,4})?)|(?P<word>[^\W\d][\w'\u2019-]*)"
-    r'|(?P<text>"(?:[^"]|"")*")|(?P<symbol><=|>=|<>|[()\[\],:;/+*=<>-])|(?P<blank>[ \t]+)'
-)
-ENDINGS = ("and", "or", "if", "otherwise")
 RESERVED = (
     *("verb", "entity", "global", "goal", "screen", "include", "table", "members", "all", "both", "any", "either"),
     *("for", "not", "true", "false", "uncertain", *ENDINGS),
@@ -49,8 +48,6 @@ BOOL = re.compile(r"bool (.*?)\s*\[(.*)\]\s*(.*)$")
 PLAIN = re.compile(r"(?:number|currency|text|date) ([^:]*)")
 LIST = re.compile(r"(?:reference|every) ([^:]*):|in [^:]*: (.*)")
 MEMBERS = re.compile(r"members (.*) from ")
-# The kind of a token, its text, and where it begins.
-Token = tuple[str, str, int]
 
 
 class Error(NamedTuple):
@@ -60,13 +57,17 @@ class Error(NamedTuple):
     circle: str = ""
     source: str | None = None
     phrases: tuple[str, ...] | None = None
+    # Of a place that can't be read how many characters stand before it in its line, and what is said of it.
+    place: tuple[int, str] | None = None
 
     def text(self) -> str:
         """As `rules faults` prints it."""
         shown, column, words = "", 1, WORDS[self.kind]
         if self.source is not None:
             line, before = self.source.lstrip(" \t"), 0
-            if self.kind == 3 and self.phrases is not None and (found := unknown(self.phrases, line)):
+            if self.place:
+                before, words = self.place
+            elif self.kind == 3 and self.phrases is not None and (found := unknown(self.phrases, line)):
                 before, words = found[0], called(found[1], self.phrases)
             shown = f"  {CONTROL.sub('?', line)}\n  {before * ' '}^\n"
             column = 2 * (level(self.source) or 0) + 1 + before
@@ -77,19 +78,6 @@ def called(found: str, phrases: tuple[str, ...]) -> str:
     """That nothing is called so, and which phrase may be meant."""
     near = nearest(found, phrases)
     return f"{UNKNOWN}{found}'" + (f"; did you mean '{near}'?" if near else "")
-
-
-def tokens(text: str) -> list[Token] | None:
-    """The tokens of a text, or none where a character begins none."""
-    found, at = [], 0
-    while at < len(text):
-        part = TOKEN.match(text, at)
-        if not part:
-            return None
-        if part.lastgroup and part.lastgroup != "blank":
-            found.append((part.lastgroup, part[0], at))
-        at = part.end()
-    return found
 
 
 def longest(phrases: list[str], words: list[Token]) -> int:
@@ -104,7 +92,9 @@ def is_inner(words: list[Token]) -> bool:
 
 def unknown(phrases: tuple[str, ...], line: str) -> tuple[int, str] | None:
     """The first phrase of a line that isn't one of these, and how many characters stand before it."""
-    words, listed = tokens(line) or [], list(phrases)
+    (words, stuck), listed = cut(line), list(phrases)
+    if stuck is not None:
+        return None
     at = longest(HEADS, words)
     while at < len(words):
         rest = words[at:]
@@ -208,6 +198,12 @@ def block_of(lines: list[str], number: int) -> tuple[int, int] | None:
     return first and (first, min((head for head in heads if head > number), default=len(lines) + 1) - 1)
 
 
+def head_of(lines: list[str], number: int) -> str:
+    """The first line of the block that has the line of this number, or nothing if none has."""
+    block = block_of(lines, number)
+    return lines[block[0] - 1] if block else ""
+
+
 def is_of_layout(lines: list[str], kind: int, number: int) -> bool:
     """Whether the line is too long, too deep, indented by an odd blank or too far, or names the 101st file."""
     line = lines[number - 1]
@@ -243,8 +239,17 @@ def placed(folder: Path, error: Error, tables: set[str], phrases: tuple[str, ...
     if not block or is_of_layout(lines, error.kind, error.line):
         return error, None
     head = lines[block[0] - 1]
+    if error.kind == 2 and (found := unread(kept(lines, block))):
+        number, before, said = found
+        return error._replace(line=number, source=lines[number - 1], place=(before, said)), block
     reads = not DECLARES.match(head) or (head.startswith("members ") and error.line != block[0])
     return error._replace(source=lines[error.line - 1], phrases=phrases if reads else None), block
+
+
+def kept(lines: list[str], block: tuple[int, int]) -> list[tuple[int, int, str]]:
+    """The lines of a block that are neither blank nor comments: the number, the level and the text of each."""
+    numbered = ((number, lines[number - 1]) for number in range(block[0], block[1] + 1))
+    return [(number, deep, line.lstrip(" \t")) for number, line in numbered if (deep := level(line)) is not None]
 
 
 def left_out(path: Path, block: tuple[int, int]) -> bool:
@@ -257,8 +262,8 @@ def left_out(path: Path, block: tuple[int, int]) -> bool:
     return True
 
 
-def by_check(opa: str, folder: Path, name: str) -> list[Error]:
-    """All errors of a rulebase; the files of the folder are changed."""
+def by_check(opa: str, folder: Path, name: str) -> str:
+    """What is printed of a rulebase; the files of the folder are changed."""
     main = lines_of(folder / name) if (folder / name).is_file() else []
     named = [parts for line in main if (parts := re.match(r'(include|table) "(.*)"', line))]
     tables = {parts[2] for parts in named if parts[1] == "table"}
@@ -266,17 +271,19 @@ def by_check(opa: str, folder: Path, name: str) -> list[Error]:
     rules = [name, *(parts[2] for parts in named if parts[1] == "include")]
     phrases = known_phrases(opa, folder, [each for each in rules if (folder / each).is_file()], name)
     most = MOST_OF_LONG if any(path.is_file() and path.stat().st_size > LONG for path in files) else MOST
-    found: list[Error] = []
-    while len(found) < most and (first := checked(opa, folder, name)):
+    found = ""
+    for _ in range(most):
+        if not (first := checked(opa, folder, name)):
+            return found
         error, block = placed(folder, first, tables, phrases)
-        found.append(error)
+        found += error.text()
         if not block or not left_out(folder / error.file, block):
-            break
-    return found
+            return found
+    return found + ENDED.format(most)
 
 
 def printed(text: str) -> list[tuple[int, str, int]]:
     """The kind, the file and the line of each error that `rules faults` printed."""
-    kinds = {words: kind for kind, words in WORDS.items()}
+    kinds = {words: kind for kind, words in WORDS.items()} | dict.fromkeys(SLIPS.values(), 2)
     found = PRINTED.findall(text)
     return [(3 if said.startswith(UNKNOWN) else kinds[said], file, int(line)) for file, line, _, said in found]

@@ -18,8 +18,9 @@ from tools.tests.base import EXAMPLES, OPA, TOP
 from tools.tests.test_editors import OUTPUT, RULEBASE
 
 sys.path.insert(0, str(TOP / "tools"))
-from faults_by_check import FILE_LINE, REFUSED, UNKNOWN, WORDS, by_check, printed  # noqa: E402
+from faults_by_check import ENDED, FILE_LINE, REFUSED, UNKNOWN, WORDS, by_check, head_of, printed  # noqa: E402
 from stories import DATA, Story  # noqa: E402
+from unread_places import SLIPS  # noqa: E402
 
 RULES = os.environ.get("RULES", str(TOP / "crates" / "rules" / "out" / "rules"))
 
@@ -39,7 +40,8 @@ entity the friend
   number the friend's age
 """
 # Rules behind HEAD, and the errors of each: kind, line, column, and the line's text or what is printed in its place; of an
-# error in a phrase that isn't declared the phrase, too, and the one that is proposed.
+# error in a phrase that isn't declared the phrase, too, and the one that is proposed; of a place that can't be read what is
+# there, and which sort it is.
 SEVERAL: dict[str, tuple[str, list[tuple[Any, ...]]]] = {
     "none": ("the claimant is entitled if\n  the claimant is an adult\n", []),
     "a goal and two rules": (
@@ -53,7 +55,7 @@ SEVERAL: dict[str, tuple[str, list[tuple[Any, ...]]]] = {
     ),
     "by kind, then by line": (
         "the income = the weather\nthe claimant is entitled if\n  the income > 1 and\n",
-        [(2, 13, 1, "the claimant is entitled if"), (3, 12, 14, "the income = the weather", "the weather")],
+        [(2, 14, 18, "the income > 1 and", "and", "dangling"), (3, 12, 14, "the income = the weather", "the weather")],
     ),
     "one error of a block hides its others": (
         "the claimant is entitled if\n  the weather > 1 and\n  the name > 1 and\n  the clamant is an adult\n"
@@ -163,13 +165,112 @@ SEVERAL: dict[str, tuple[str, list[tuple[Any, ...]]]] = {
 }
 
 
-def text_of(kind: int, line: int, column: int, shown: str | list[str], found: str = "", near: str = "") -> str:
+# Rules behind HEAD with a place that can't be read: line, column, the line's text, how many characters stand before the place,
+# and which sort it is.
+PLACES: dict[str, tuple[str, tuple[int, int, str, int, str]]] = {
+    "a bracket that closes none": ("the income = (1 + 2))\n", (12, 21, "the income = (1 + 2))", 20, "closing")),
+    "the first of several": ("the income = 1)) + (2\n", (12, 15, "the income = 1)) + (2", 14, "closing")),
+    "a bracket that isn't closed": (
+        "the income = ((1 + 2) * (3 - (4))\n",
+        (12, 14, "the income = ((1 + 2) * (3 - (4))", 13, "opening"),
+    ),
+    "the first that isn't closed": (
+        "the income = (1) + Minimum((2), (3) + (4\n",
+        (12, 27, "the income = (1) + Minimum((2), (3) + (4", 26, "opening"),
+    ),
+    "brackets in a text are none": ('the name = (")" + "((" )) \n', (12, 25, 'the name = (")" + "((" )) ', 24, "closing")),
+    "a bracket isn't closed in the next line": (
+        "the claimant is entitled if\n  (the income > 1 and\n  the income < 3)\n",
+        (13, 3, "(the income > 1 and", 0, "opening"),
+    ),
+    "a line below a first line, with tabs": (
+        "the claimant is entitled if\n\tany\n\t\tthe income > 1 or\n\t\tthe income < 3) or\n\t\tthe income = 2\n",
+        (15, 19, "the income < 3) or", 14, "closing"),
+    ),
+    "behind a comment, and characters are counted": (
+        '# (\nthe claimant is entitled if\n  # (\n  the name = "\u00c4\u00d6" and\n'
+        '  the name = "\u00c4\u00d6) and\n  not (1 > 2\n',
+        (16, 14, 'the name = "\u00c4\u00d6) and', 11, "text"),
+    ),
+    "a text that isn't closed": ('the name = "a ""b""\n', (12, 19, 'the name = "a ""b""', 18, "text")),
+    "a text with a tab": ('the name = "a\tb"\n', (12, 12, 'the name = "a?b"', 11, "control")),
+    "a sign that no line has": ("the income = 10 %\n", (12, 17, "the income = 10 %", 16, "sign")),
+    "a comment behind a line": ("the income = 1 # so\n", (12, 16, "the income = 1 # so", 15, "sign")),
+    "a sign of declarations": ("the income = [1]\n", (12, 14, "the income = [1]", 13, "sign")),
+    "a sign of rules": ("global\n  number the day = 5\n", (13, 18, "number the day = 5", 15, "sign")),
+    "the brackets of a verb": (
+        "global\n  bool the claimant [is well\n",
+        (13, 21, "bool the claimant [is well", 18, "opening"),
+    ),
+    "two signs": ("the income = 1 + * 2\n", (12, 16, "the income = 1 + * 2", 15, "missing")),
+    "a minus behind a sign": ("the income = 1 + - 2 +\n", (12, 22, "the income = 1 + - 2 +", 21, "missing")),
+    "nothing before the last word": (
+        "the claimant is entitled if\n  the income > and\n  the income < 3\n",
+        (13, 14, "the income > and", 11, "missing"),
+    ),
+    "nothing behind a comma": ("the income = Minimum(1, )\n", (12, 23, "the income = Minimum(1, )", 22, "missing")),
+    "no argument": ("the income = InstanceCount()\n", (12, 27, "the income = InstanceCount()", 26, "missing")),
+    "two signs in a first line": ("the income = = 1\n", (12, 12, "the income = = 1", 11, "missing")),
+    "a name with signs": ("the o'brien-income\u2019s = 1 +\n", (12, 26, "the o'brien-income\u2019s = 1 +", 25, "missing")),
+    "cases below an equals sign": (
+        "the income =\n  1 if\n    the income > 1 or\n    the income < and\n  2 otherwise\n",
+        (15, 16, "the income < and", 11, "missing"),
+    ),
+    "neither a declaration nor a rule": (
+        "gaol the claimant is entitled\n",
+        (12, 1, "gaol the claimant is entitled", 0, "head"),
+    ),
+    "a rule without if": (
+        "the claimant is entitled\n  the income > 1 or\n  the income < (3\n",
+        (12, 1, "the claimant is entitled", 0, "head"),
+    ),
+    "two lines that nothing joins": (
+        "the claimant is entitled if\n  the income > 1\n  the income < 3\n",
+        (13, 17, "the income > 1", 14, "unjoined"),
+    ),
+    "the same in a case": (
+        "the income =\n  1 if\n    the income > 1  \n    # so\n\n    the income < 3\n  2 otherwise\n",
+        (14, 19, "the income > 1  ", 14, "unjoined"),
+    ),
+    "the same below a head": (
+        "the claimant is entitled if\n  any\n    the income > 1\n    the income < 3\n  or\n  the income = 1\n",
+        (14, 19, "the income > 1", 14, "unjoined"),
+    ),
+    "a word that joins to nothing": (
+        "the claimant is entitled if\n  all\n    the income > 1 and\n    the income < 3 and\n  or\n  the income = 1\n",
+        (15, 20, "the income < 3 and", 15, "dangling"),
+    ),
+    "a deeper line behind a word that joins": (
+        "the claimant is entitled if\n  the income > 1 and\n    the income < 3\n",
+        (13, 18, "the income > 1 and", 15, "dangling"),
+    ),
+    "a condition of a membership block": (
+        "global\n  every the roll: the friend\nmembers the old from the roll if\n  the friend's age > (1\n",
+        (15, 22, "the friend's age > (1", 19, "opening"),
+    ),
+}
+# Rules behind HEAD that can't be read, and no place is found.
+NO_PLACE = {
+    "two words that join": "the claimant is entitled if\n  the income > 1 and\n  the income < 3 or\n  the income = 1\n",
+    "cases that nothing joins": "the income =\n  1\n  2 otherwise\n",
+    "a case without a condition": "the income =\n  1 if\n  2 otherwise\n",
+    "two comparisons": "the claimant is entitled if\n  1 < 2 < 3\n",
+    "a number that isn't followed by a sign": "the income = 1 2\n",
+    "a verb of three parts": "verb has / has not / has\n",
+}
+
+
+def text_of(kind: int, line: int, column: int, shown: str | list[str], found: str = "", said: str = "") -> str:
     """An error of f.txt with its line; of a list the last item is the line, and the others are a circle."""
     lines = [shown] if isinstance(shown, str) else shown
     before = " " * lines[-1].index(found) if lines else ""
-    words = f"no attribute or list is called '{found}'" + (f"; did you mean '{near}'?" if near else "")
+    words = WORDS[kind]
+    if found and kind == 3:
+        words = f"no attribute or list is called '{found}'" + (f"; did you mean '{said}'?" if said else "")
+    elif said:
+        words = SLIPS[said]
     below = "".join(f"  {each}\n" for each in lines) + (f"  {before}^\n" if lines else "")
-    return f"f.txt:{line}:{column}: error: {words if found else WORDS[kind]}\n{below}"
+    return f"f.txt:{line}:{column}: error: {words}\n{below}"
 
 
 def ran(program: str, *words: str, folder: object) -> subprocess.CompletedProcess[bytes]:
@@ -211,7 +312,9 @@ class Faults(unittest.TestCase):
                     kind, name, line, circle = wanted.groups()
                     words = re.escape(WORDS[int(kind)]) + (rf"|{re.escape(UNKNOWN)}.*" if kind == "3" else "")
                     head = rf"{re.escape(name)}:{line}:\d+: error: (?:{words})\n{re.escape(circle)}"
-                    self.assertRegex(text, rf"\A{head}")
+                    if kind == "2":
+                        head += rf"|{re.escape(name)}:\d+:\d+: error: (?:{'|'.join(map(re.escape, SLIPS.values()))})\n"
+                    self.assertRegex(text, rf"\A(?:{head})")
         self.assertGreater(seen, 20)
 
     def test_several_errors(self) -> None:
@@ -219,6 +322,22 @@ class Faults(unittest.TestCase):
             with self.subTest(what):
                 self.put(HEAD + rules)
                 self.assertEqual(self.faults(), ("".join(text_of(*each) for each in wanted), 1 if wanted else 0))
+
+    def test_places_that_cannot_be_read(self) -> None:
+        for what, (rules, (line, column, shown, before, sort)) in PLACES.items():
+            with self.subTest(what):
+                self.put(HEAD + rules)
+                head = f"f.txt:{line}:{column}: error: {SLIPS[sort]}\n"
+                self.assertEqual(self.faults(), (f"{head}  {shown}\n  {before * ' '}^\n", 1))
+                (self.folder / "f.txt").write_bytes((HEAD + rules).replace("\n", "\r\n").encode())
+                self.assertEqual(self.faults(), (f"{head}  {shown}\n  {before * ' '}^\n", 1))
+
+    def test_no_place_is_found(self) -> None:
+        for what, rules in NO_PLACE.items():
+            with self.subTest(what):
+                self.put(HEAD + rules)
+                first = rules.split("\n", maxsplit=1)[0]
+                self.assertEqual(self.faults(), (text_of(2, 12, 1, first), 1))
 
     def test_the_example_of_the_pages(self) -> None:
         """The list that GUIDE and REFERENCE print, of the library card with an `or` missing and a phrase wrong."""
@@ -253,6 +372,7 @@ class Faults(unittest.TestCase):
             self.put(HEAD + "the income = the weather\n" * count)
             text, status = self.faults()
             self.assertEqual((len(printed(text)), status), (min(count, 100), 1), count)
+            self.assertEqual(text.endswith(f"  ^\n{ENDED.format(100)}"), count >= 100, count)
 
     def test_three_at_most_of_a_long_file(self) -> None:
         for length, most in ((1048576, 20), (1048577, 3)):
@@ -261,7 +381,8 @@ class Faults(unittest.TestCase):
             rest = length - len(text)
             text += ("#" * 999 + "\n") * (rest // 1000) + "#" * (rest % 1000)
             self.put(text)
-            self.assertEqual(len(printed(self.faults()[0])), most, length)
+            found, _ = self.faults()
+            self.assertEqual((len(printed(found)), ENDED.format(most) in found), (most, most == 3), length)
 
     @unittest.skipUnless(os.access(OPA, os.X_OK), "OPA names no program")
     def test_broken_rulebases_by_check(self) -> None:
@@ -284,9 +405,9 @@ class Faults(unittest.TestCase):
                 done = ran(RULES, "faults", name, folder=room)
                 text = done.stdout.decode()
                 # Without a line that names a file `opa check` would read other files.
-                named = [lines[line - 1] for _, file, line in printed(text) if file == name and line]
+                named = [head_of(lines, line) for _, file, line in printed(text) if file == name and line]
                 if not any(map(FILE_LINE.match, named)):
-                    wanted = "".join(error.text() for error in by_check(OPA, Path(room), name))
+                    wanted = by_check(OPA, Path(room), name)
                     self.assertEqual((text, done.returncode), (wanted, 1 if wanted else 0))
 
 

@@ -194,8 +194,13 @@ def uncertain(phrase: str) -> str:
     return f"note: in the rule for '{phrase}' the value is uncertain where no row holds"
 
 
+def differ_in_case(one: str, other: str) -> bool:
+    return one.encode().lower() == other.encode().lower()
+
+
 def alike(one: str, other: str) -> str:
-    return f"note: '{one}' and '{other}' differ by one letter"
+    how = "only in capital letters" if differ_in_case(one, other) else "by one letter"
+    return f"note: '{one}' and '{other}' differ {how}"
 
 
 # The front of a rulebase of currencies.
@@ -206,10 +211,27 @@ NOTES: dict[str, tuple[str, list[str]]] = {
     "another letter": ("global\n  number the fee\n  number the fez\ngoal the fee\nthe fee = the fez\n", [f":0: {alike('the fee', 'the fez')}"]),
     "two letters": ("global\n  number the fee\n  number the foes\ngoal the fee\nthe fee = the foes\n", []),
     "two letters that changed places": ("global\n  number the fee\n  number the efe\ngoal the fee\nthe fee = the efe\n", []),
+    "a capital letter": ("global\n  number the fee\n  number the Fee\ngoal the fee\nthe fee = the Fee\n", [f":0: {alike('the fee', 'the Fee')}"]),
+    "capital letters": ("global\n  number the FEE\n  number the fee\ngoal the fee\nthe fee = the FEE\n", [f":0: {alike('the FEE', 'the fee')}"]),
+    "capital letters, and another letter": ("global\n  number the fee\n  number the FEZ\ngoal the fee\nthe fee = the FEZ\n", []),
+    "another capital letter": (
+        "global\n  number the \u00e9\n  number the \u00c9\ngoal the \u00e9\nthe \u00e9 = the \u00c9\n",
+        [":0: " + alike("the \u00e9", "the \u00c9")],
+    ),
+    "other capital letters": (
+        "global\n  number the \u00e9\u00e9\n  number the \u00c9\u00c9\ngoal the \u00e9\u00e9\nthe \u00e9\u00e9 = the \u00c9\u00c9\n",
+        [],
+    ),
+    "capital letters and numbers": ("global\n  number the fee 1\n  number the Fee 1\ngoal the fee 1\nthe fee 1 = the Fee 1\n", [f":0: {alike('the fee 1', 'the Fee 1')}"]),
     "numbers": ("global\n  number the fee 1\n  number the fee 2\ngoal the fee 1\nthe fee 1 = the fee 2\n", []),
     "three pairs": (
         "global\n  number the fee\n  number the fees\n  number the feet\ngoal the fee\nthe fee = the fees + the feet\n",
         [f":0: {alike(*pair)}" for pair in (("the fee", "the fees"), ("the fee", "the feet"), ("the fees", "the feet"))],
+    ),
+    "lists in capital letters": (
+        "global\n  number the fee\nentity the child\n  in global: the children\n  number the age\nentity the adult\n  in global: The Children\n"
+        "goal the fee\nthe fee = InstanceCount(the children) + InstanceCount(The Children)\n",
+        [f":0: {alike('the children', 'The Children')}"],
     ),
     "lists": (
         "global\n  number the fee\nentity the child\n  in global: the children\n  number the age\nentity the adult\n  in global: the childrens\n"
@@ -255,6 +277,10 @@ def differ_by_one(one: str, other: str) -> bool:
     front = left(one.encode(), other.encode())
     both = left(front[0][::-1], front[1][::-1])
     return not re.search("[0-9]", one + other) and max(map(len, both)) <= 1
+
+
+def are_close(one: str, other: str) -> bool:
+    return differ_in_case(one, other) or differ_by_one(one, other)
 
 
 def blocks(printed: str) -> dict[str, list[str]]:
@@ -416,7 +442,7 @@ def notes(described: dict[str, Any], printed: str) -> list[str]:
     found = []
     for things in (described["attributes"], described["lists"]):
         phrases = [each["phrase"] for each in things] if len(things) <= 1000 else []
-        pairs = [(phrases[k], phrases[n]) for n in range(len(phrases)) for k in range(n) if differ_by_one(phrases[k], phrases[n])]
+        pairs = [(phrases[k], phrases[n]) for n in range(len(phrases)) for k in range(n) if are_close(phrases[k], phrases[n])]
         found += [f"{described['rulebase']}:0: {alike(*pair)}" for pair in pairs]
     ruled = ruled_in(described, printed)
     used = {phrase for each, _ in ruled if each["kind"] == "currency" for phrase in each["rule"]["mentions"]["attributes"]}

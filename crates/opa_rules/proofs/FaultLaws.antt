@@ -21,8 +21,8 @@ use Rattle.opa_rulebase.specs.declared.fault.Unaccepted.TheVariants as unaccepte
 use Rattle.opa_rulebase.specs.declared.files.source.SourceFile.{SourceFile}
 use Rattle.opa_rulebase.specs.Loading.{IsPlain, IsCircleRefusal, table_files}
 use Rattle.opa_rules.specs.Faults.Blocks.{has_line, declares, without}
-use Rattle.opa_rules.specs.Faults.Listing.{IsFirst, HasFirst, AreFree, goes_on, AreListed}
-use Rattle.opa_rules.specs.declared.faults.told.Told.{Told}
+use Rattle.opa_rules.specs.Faults.Listing.{IsFirst, HasFirst, AreFree, goes_on, most_text, AreListed}
+use Rattle.opa_rules.specs.declared.faults.marks.Told.{Told}
 use Rattle.opa_rules.specs.Faults.Printed.{error_in}
 use Rattle.opa_rules.specs.Faults.Told.{IsToldIn}
 
@@ -68,8 +68,8 @@ Puts files phrases most blocks before after = (more : List ℕ) × (after ≡ be
 abbrev pub PutsOne : List SourceFile → List (List ℕ) → List Block → Refusal → List ℕ → List ℕ → Type 0
 PutsOne files phrases blocks w before after = (told : Told) × IsToldIn phrases blocks w.fault told × (after ≡ before ++ error_in files blocks w told)
 
-pub none_listed : (files : List SourceFile) (phrases : List (List ℕ)) (most : ℕ) (blocks : List Block) (text : List ℕ) → most ≡ 0 → Puts files phrases most blocks text text
-none_listed files phrases most blocks text e = ([], sym (append-nil text), subst (λ n. AreListed files phrases n blocks []) (sym e) (AreListed.enough blocks))
+pub most_reached : (files : List SourceFile) (phrases : List (List ℕ)) (most : ℕ) (blocks : List Block) (before after : List ℕ) → most ≡ 0 → after ≡ before ++ most_text files → Puts files phrases most blocks before after
+most_reached files phrases most blocks before after e t = (most_text files, t, subst (λ n. AreListed files phrases n blocks (most_text files)) (sym e) (AreListed.enough blocks))
 
 -- one less, and one more
 pub less_one : (most : ℕ) → (most ≡ 0 → ⊥) → most - 1 + 1 ≡ most

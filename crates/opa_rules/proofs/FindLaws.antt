@@ -10,8 +10,8 @@ use Rattle.opa_rulebase.specs.declared.files.source.SourceFile.{SourceFile}
 use Rattle.opa_rulebase.specs.Files.Files.{AreFiles}
 use Rattle.opa_rules.specs.Faults.Finding.{Finds, AreAccepted}
 use Rattle.opa_rules.specs.Faults.Listing.{AreErrors}
+use Rattle.opa_rules.specs.Faults.Marks.{plain}
 use Rattle.opa_rules.specs.Faults.Printed.{error_text}
-use Rattle.opa_rules.specs.Faults.Told.{plain}
 
 module _ (name : List ℕ) where
   found_by : (files : Files) (sources : List SourceFile) (found : Option (String Global)) → AreFiles files name (Ok sources) → MatchOption found (AreAccepted sources) (λ t. AreErrors sources (string_bytes t))
@@ -24,6 +24,6 @@ pub finds_in : (o : Option Files) (name : List ℕ) (sources : List SourceFile) 
 finds_in None name sources found f h = tt
 finds_in (Some files) name sources found f h = found_by name files sources found f h
 
-pub finds_untaken : (o : Option Files) (name : List ℕ) (u : Unread) (text : List ℕ) → IfSome o (λ files. AreFiles files name (Err u)) → text ≡ error_text u.name u.fault [] None (plain u.fault.kind None) → IfSome o (λ files. Finds files name (Some text))
+pub finds_untaken : (o : Option Files) (name : List ℕ) (u : Unread) (text : List ℕ) → IfSome o (λ files. AreFiles files name (Err u)) → text ≡ error_text u.name [] None (plain u.fault.line u.fault.kind None) → IfSome o (λ files. Finds files name (Some text))
 finds_untaken None name u text f e = tt
 finds_untaken (Some files) name u text f e = subst (λ t. Finds files name (Some t)) (sym e) (Finds.cannot_take u f)

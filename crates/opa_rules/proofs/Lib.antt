@@ -1,6 +1,7 @@
 pub mod DescribeLaws
 mod FaultLaws
 mod FindLaws
+mod JointLaws
 mod MeaningLaws
 mod NearLaws
 pub mod OpeningLaws
@@ -8,4 +9,7 @@ mod PrintLaws
 pub mod ReviewLaws
 mod SameLaws
 mod ShelfLaws
+mod SignLaws
+mod SlipLaws
 mod UnknownLaws
+mod UnreadLaws

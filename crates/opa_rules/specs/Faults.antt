@@ -1,9 +1,15 @@
 pub mod Blocks
+pub mod Brackets
 pub mod Finding
+pub mod Joints
 pub mod Known
 pub mod Listing
+pub mod Marks
 pub mod Nearest
 pub mod Printed
+pub mod Signs
+pub mod Slips
 pub mod Told
 pub mod Unknown
+pub mod Unread
 pub mod Words

@@ -2,14 +2,21 @@
 // left when the block with the last one is left out.
 
 mod blocks;
+mod brackets;
 mod finding;
+mod joints;
 mod known;
 mod listing;
+mod marks;
 mod nearest;
 mod printed;
+mod signs;
+mod slip;
+mod slips;
 mod telling;
 mod told;
 mod unknown;
+mod unread;
 mod words;
 
 pub(crate) use nearest::difference;

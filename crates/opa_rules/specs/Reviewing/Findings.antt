@@ -20,7 +20,7 @@ use Rattle.opa_rules.specs.Reviewing.Rows.{of_rule}
 abbrev pub warnings : Rulebase → List Finding
 warnings base = flat_map of_rule base.rules ++ (flat_map (compared_in base) base.rules ++ (unused base ++ settled base))
 
--- what is only worth a look: phrases that differ by one letter, currencies that others are concluded from, and rules that end with
+-- what is only worth a look: phrases that differ by one letter or in case, currencies that others are concluded from, and rules that end with
 -- `uncertain`
 abbrev pub notes : Rulebase → List Finding
 notes base = alike base.model ++ (roundings base ++ flat_map ending_of base.rules)

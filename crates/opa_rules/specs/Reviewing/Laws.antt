@@ -19,7 +19,7 @@ use Rattle.opa_rules.specs.declared.reviewing.finding.Finding.TheVariants as fin
 use Rattle.opa_rules.specs.declared.reviewing.finding.RoundedCurrency.{RoundedCurrency}
 use Rattle.opa_rules.specs.declared.reviewing.finding.UncertainEnding.{UncertainEnding}
 use Rattle.opa_rules.specs.declared.reviewing.finding.UnreachedRow.{UnreachedRow}
-use Rattle.opa_rules.specs.Reviewing.Alike.{differ_by_one}
+use Rattle.opa_rules.specs.Reviewing.Alike.{are_close}
 use Rattle.opa_rules.specs.Reviewing.Endings.{ends_uncertain}
 use Rattle.opa_rules.specs.Reviewing.Findings.{findings}
 use Rattle.opa_rules.specs.Reviewing.Phrases.{phrase_of, list_phrase_of}
@@ -85,8 +85,8 @@ pub record IsSettledGoal (base : Rulebase) (f : SettledGoal) : Type 0 where
   pub settled : IsSettled base f.attr
   pub unchanged : (c c' : Facts) → c.container ≡ c'.container → SameValue base c c' f.attr
 
--- Of a note nothing follows for cases. It says what the rulebase has: two phrases that differ by one letter, the rule of a currency that
--- is rounded (IsRounding), or a rule that ends so (IsEnding).
+-- Of a note nothing follows for cases. It says what the rulebase has: two phrases that differ by one letter or only in case, the rule of
+-- a currency that is rounded (IsRounding), or a rule that ends so (IsEnding).
 pub record IsRounding (base : Rulebase) (f : RoundedCurrency) : Type 0 where
   pub rule : Rule
   pub of_base : Contains base.rules rule
@@ -104,8 +104,8 @@ IsSo base (finding.Row f) = IsUnreached base f
 IsSo base (finding.Compared f) = IsCompared base f
 IsSo base (finding.Unused f) = IsUnused base f
 IsSo base (finding.Settled f) = IsSettledGoal base f
-IsSo base (finding.Attributes f) = differ_by_one (phrase_of base.model f.first) (phrase_of base.model f.second) ≡ true
-IsSo base (finding.Lists f) = differ_by_one (list_phrase_of base.model f.first) (list_phrase_of base.model f.second) ≡ true
+IsSo base (finding.Attributes f) = are_close (phrase_of base.model f.first) (phrase_of base.model f.second) ≡ true
+IsSo base (finding.Lists f) = are_close (list_phrase_of base.model f.first) (list_phrase_of base.model f.second) ≡ true
 IsSo base (finding.Rounding f) = IsRounding base f
 IsSo base (finding.Ending f) = IsEnding base f
 

@@ -15,6 +15,7 @@ use Rattle.opa_rules.specs.declared.reviewing.finding.UncertainEnding.{Uncertain
 use Rattle.opa_rules.specs.declared.reviewing.finding.SettledGoal.{SettledGoal}
 use Rattle.opa_rules.specs.declared.reviewing.finding.UnreachedRow.{UnreachedRow}
 use Rattle.opa_rules.specs.declared.reviewing.finding.UnusedAttribute.{UnusedAttribute}
+use Rattle.opa_rules.specs.Reviewing.Alike.{differ_in_case}
 use Rattle.opa_rules.specs.Reviewing.ComparedWords.{compared_words}
 use Rattle.opa_rules.specs.Reviewing.Phrases.{phrase_of, list_phrase_of}
 
@@ -39,9 +40,14 @@ unused_words m u = codes "no goal looks at '" ++ (phrase_of m u.attr ++ codes "'
 abbrev pub settled_words : Lists → SettledGoal → List ℕ
 settled_words m g = codes "no answer changes '" ++ (phrase_of m g.attr ++ codes "'")
 
+-- how two phrases differ
+abbrev pub how : Bool → List ℕ
+how true = codes "differ only in capital letters"
+how false = codes "differ by one letter"
+
 -- `'PHRASE' and 'PHRASE' differ by one letter`
 abbrev pub pair_words : List ℕ → List ℕ → List ℕ
-pair_words first second = codes "'" ++ (first ++ (codes "' and '" ++ (second ++ codes "' differ by one letter")))
+pair_words first second = codes "'" ++ (first ++ (codes "' and '" ++ (second ++ (codes "' " ++ how (differ_in_case first second)))))
 
 abbrev pub attributes_words : Lists → AlikeAttributes → List ℕ
 attributes_words m f = pair_words (phrase_of m f.first) (phrase_of m f.second)

@@ -1,12 +1,12 @@
 // The errors of blocks, one after another.
-ghost use Rattle.std.specs.Prelude.{◌≡◌, ◌++◌, ℕ, All, OnOk, List as Seq};
+ghost use Rattle.std.specs.Prelude.{◌≡◌, ◌<◌, ◌++◌, ℕ, All, OnOk, List as Seq};
 ghost use Rattle.std.specs.String.{string_bytes};
 ghost use Rattle.opa_parse.specs.Fronts.{AreShort};
 ghost use Rattle.opa_rulebase.specs.Loading.{table_files};
-ghost use Rattle.opa_rules.specs.Faults.Listing.{AreLater, AreListed, goes_on as goes_on_from};
+ghost use Rattle.opa_rules.specs.Faults.Listing.{AreLater, AreListed, goes_on as goes_on_from, are_short as are_short_files, most_listed as most_listed_of, most_text};
 ghost use Rattle.opa_rules.specs.Faults.Printed.{error_in};
 ghost use Rattle.opa_rules.specs.Faults.Told.{IsToldIn};
-ghost use Rattle.opa_rules.specs.declared.faults.told.Told.{Told as View};
+ghost use Rattle.opa_rules.specs.declared.faults.marks.Told.{Told as View};
 
 use crate::faults::blocks::{block_with, declares, without};
 use crate::faults::finding::first_fault;
@@ -17,6 +17,30 @@ use opa_parse::TableFile;
 use opa_rulebase::{Refusal, SourceFile, Unaccepted};
 use opa_words::Block;
 use std::alloc::Global;
+
+/// How many errors are listed at most behind the first: fewer where a file is long, since all is read anew for each.
+pub(crate) fn most_listed(files: &[SourceFile]) -> usize
+    ensures most { result ≡ most_listed_of files.now }
+    ensures few { result < 100 }
+{
+    if are_short(files) { 99 } else { 2 }
+}
+
+fn are_short(files: &[SourceFile]) -> bool
+    ensures { result ≡ are_short_files files.now }
+{
+    files.iter().all(|file| file.text.as_str().len() <= 1048576)
+}
+
+/// Puts behind a text how many errors were listed.
+fn push_most(alloc: Global, out: &mut String, files: &[SourceFile]) -> Result<(), NoMemory>
+    ensures { OnOk result (string_bytes out.new ≡ string_bytes out.old ++ most_text files.now) }
+{
+    let listed = most_listed(files) + 1;
+    let text = format!(in alloc; "{listed} errors are listed: there may be more\n")?;
+    out.push_str(text.as_str())?;
+    Ok(())
+}
 
 /// Whether the block in which an error is can be left out.
 fn goes_on(blocks: &[Block], wrong: &Refusal) -> bool
@@ -43,7 +67,7 @@ fn push_errors(
     ensures { OnOk result ((more : Seq ℕ) × (string_bytes out.new ≡ string_bytes out.old ++ more) × AreListed files.now known.now.texts most blocks more) }
 {
     if most == 0 {
-        return Ok(());
+        return push_most(alloc, out, files);
     }
     match first_fault(alloc, blocks.as_slice(), tables) {
         Ok(()) => Ok(()),

@@ -6,11 +6,12 @@ ghost use Rattle.opa_parse.specs.Fronts.{AreShort};
 ghost use Rattle.opa_rulebase.specs.Loading.{name_at};
 ghost use Rattle.opa_rules.specs.Faults.Printed.{error_in, error_text, source_of};
 ghost use Rattle.opa_rules.specs.Faults.Told.{IsToldIn};
-ghost use Rattle.opa_rules.specs.declared.faults.told.Told.{Told as View};
+ghost use Rattle.opa_rules.specs.declared.faults.marks.Told.{Told as View};
 
 use crate::faults::blocks::line_at;
 use crate::faults::known::Known;
-use crate::faults::told::{Told, told_in_blocks};
+use crate::faults::marks::Told;
+use crate::faults::told::told_in_blocks;
 use opa_io::NoMemory;
 use opa_rulebase::{Refusal, SourceFile, circle_lines};
 use opa_words::{Block, BlockLine, printed_name};
@@ -58,14 +59,14 @@ pub(crate) fn push_error(
     line: Option<&BlockLine>,
     told: &Told,
 ) -> Result<(), NoMemory>
-    ensures { OnOk result (string_bytes out.new ≡ string_bytes out.old ++ error_text name.now wrong.now.fault wrong.now.circle (option_copied line.entry) told.now) }
+    ensures { OnOk result (string_bytes out.new ≡ string_bytes out.old ++ error_text name.now wrong.now.circle (option_copied line.entry) told.now) }
 {
     let name = printed_name(alloc, name)?;
     let circle = circle_lines(alloc, wrong.circle.as_slice())?;
     let head = format!(in alloc;
         "{}:{}:{}: error: {}\n{}",
         name.as_str(),
-        wrong.fault.line,
+        told.line,
         told.column,
         told.words.as_str(),
         circle.as_str()
@@ -87,7 +88,7 @@ pub(crate) fn push_error_in(
     ensures { OnOk result ((told : View) × IsToldIn known.now.texts blocks.now wrong.now.fault told × (string_bytes out.new ≡ string_bytes out.old ++ error_in files.now blocks.now wrong.now told)) }
 {
     let name = file_name(files, wrong.fault.file);
-    let line = line_at(blocks, wrong.fault.file, wrong.fault.line);
     let told = told_in_blocks(alloc, known, blocks, &wrong.fault)?;
+    let line = line_at(blocks, wrong.fault.file, told.line);
     push_error(alloc, out, name, wrong, line, &told)
 }

@@ -8,15 +8,15 @@ ghost use Rattle.opa_parse.specs.Fronts.{AreShort};
 ghost use Rattle.opa_rulebase.specs.Loading.{AreBlocks, IsRefused};
 ghost use Rattle.opa_rulebase.specs.declared.files.source.SourceFile.{SourceFile as FileView};
 ghost use Rattle.opa_rules.specs.Faults.Finding.{AreAccepted, Finds};
-ghost use Rattle.opa_rules.specs.Faults.Listing.{AreErrors, are_short as are_short_files, most_listed as most_listed_of};
+ghost use Rattle.opa_rules.specs.Faults.Listing.{AreErrors};
 ghost use Rattle.opa_rules.specs.Faults.Printed.{error_in, error_text};
-ghost use Rattle.opa_rules.specs.Faults.Told.{plain as plain_of};
+ghost use Rattle.opa_rules.specs.Faults.Marks.{plain as plain_of};
 ghost use Rattle.opa_rules.specs.Promises.{outside, Faults};
 
 use crate::faults::known::known_of;
-use crate::faults::listing::push_from;
+use crate::faults::listing::{most_listed, push_from};
+use crate::faults::marks::plain;
 use crate::faults::printed::{file_name, push_error};
-use crate::faults::told::plain;
 use opa_io::{List, NoMemory, Shelf, Sink, Status};
 use opa_rulebase::{
     Refusal, SourceFile, TakeError, Unaccepted, Unread, accept, lay_out, tables_of, take_files,
@@ -25,19 +25,6 @@ use opa_talk::tell;
 use opa_tree::RbError;
 use opa_words::Block;
 use std::alloc::Global;
-
-/// How many errors are listed at most behind the first: fewer where a file is long, since all is read anew for each.
-fn most_listed(files: &[SourceFile]) -> usize
-    ensures { result ≡ most_listed_of files.now }
-{
-    if are_short(files) { 99 } else { 2 }
-}
-
-fn are_short(files: &[SourceFile]) -> bool
-    ensures { result ≡ are_short_files files.now }
-{
-    files.iter().all(|file| file.text.as_str().len() <= 1048576)
-}
 
 /// The text of the errors of files that are laid out, of which the first is known.
 fn errors_of_blocks(
@@ -72,11 +59,11 @@ fn errors_of_blocks(
 
 /// The text of an error of the layout of files.
 fn error_of_layout(alloc: Global, files: &[SourceFile], wrong: &Refusal) -> Result<String, NoMemory>
-    ensures { IfOk result (λ text. string_bytes text ≡ error_in files.now [] wrong.now (plain_of wrong.now.fault.kind None)) }
+    ensures { IfOk result (λ text. string_bytes text ≡ error_in files.now [] wrong.now (plain_of wrong.now.fault.line wrong.now.fault.kind None)) }
 {
     let mut out = String::new(alloc);
     let name = file_name(files, wrong.fault.file);
-    let told = plain(alloc, wrong.fault.kind, None)?;
+    let told = plain(alloc, wrong.fault.line, wrong.fault.kind, None)?;
     push_error(alloc, &mut out, name, wrong, None, &told)?;
     Ok(out)
 }
@@ -110,7 +97,7 @@ fn found_in(alloc: Global, files: &[SourceFile]) -> Result<Option<String>, NoMem
 
 /// The text of what is wrong with files that can't be taken.
 fn unread_text(alloc: Global, unread: Unread) -> Result<String, NoMemory>
-    ensures { IfOk result (λ text. string_bytes text ≡ error_text unread.name unread.fault [] None (plain_of unread.fault.kind None)) }
+    ensures { IfOk result (λ text. string_bytes text ≡ error_text unread.name [] None (plain_of unread.fault.line unread.fault.kind None)) }
 {
     let Unread { fault, name } = unread;
     let wrong = Refusal {
@@ -118,7 +105,7 @@ fn unread_text(alloc: Global, unread: Unread) -> Result<String, NoMemory>
         circle: List::new(alloc),
     };
     let mut out = String::new(alloc);
-    let told = plain(alloc, wrong.fault.kind, None)?;
+    let told = plain(alloc, wrong.fault.line, wrong.fault.kind, None)?;
     push_error(alloc, &mut out, name.as_str(), &wrong, None, &told)?;
     Ok(out)
 }

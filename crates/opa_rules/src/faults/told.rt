@@ -1,54 +1,24 @@
-// What is said of an error: its words, and where the mark is.
-ghost use Rattle.std.specs.Prelude.{◌≡◌, ◌≤◌, ◌<◌, ◌^◌, length, replicate, Some, IfOk, IfSome};
+// What is said of an error of blocks: of a phrase that isn't known, of a block that can't be read, and of all else.
+ghost use Rattle.std.specs.Prelude.{◌≡◌, ◌<◌, ◌^◌, length, Some, IfOk, IfSome};
 ghost use Rattle.std.specs.List.{All};
 ghost use Rattle.std.specs.Option.{option_copied};
-ghost use Rattle.std.specs.Str.{chars, IsCharBoundary};
 ghost use Rattle.std.specs.String.{string_bytes};
 ghost use Rattle.opa_words.specs.Places.{IsWithin};
 ghost use Rattle.opa_sentence.specs.Cursors.{seen};
 ghost use Rattle.opa_parse.specs.Fronts.{AreShort};
-ghost use Rattle.opa_rules.specs.Faults.Told.{column_of, plain as plain_of, asked as asked_of, unknown_words as unknown_words_of, characters_before as before_of, told_at as told_at_of, told_of as told_of_phrase, told_in as told_in_of, headed as headed_of, is_name as is_name_of, IsNamed, IsTold, IsToldBy, IsToldIn};
+ghost use Rattle.opa_rules.specs.Faults.Told.{asked as asked_of, unknown_words as unknown_words_of, told_at as told_at_of, told_of as told_of_phrase, told_in as told_in_of, headed as headed_of, is_name as is_name_of, is_syntax as is_syntax_of, IsNamed, IsUnread, IsTold, IsToldOf, IsToldBy, IsToldIn};
 
 use crate::faults::blocks::{block_with, line_in, reads_phrases};
 use crate::faults::known::Known;
+use crate::faults::marks::{Told, characters_before, marked, plain};
 use crate::faults::nearest::nearest;
 use crate::faults::unknown::{inner, unknown};
-use crate::faults::words::words;
+use crate::faults::unread::block_told;
 use opa_io::{NoMemory, Txt, front};
 use opa_sentence::Cursor;
 use opa_tree::{RbFault, RbKind};
 use opa_words::{Block, BlockLine, Token, WordFault, phrase_text, tokens};
 use std::alloc::Global;
-
-/// What is said of an error: its words, the column, and the blanks before the mark.
-#[derive(Drop)]
-pub(crate) struct Told {
-    pub words: Txt,
-    pub column: u64,
-    pub blanks: Txt,
-}
-
-/// Where the line begins, counted from 1: two blanks or a tab are one level of indentation.
-fn column(line: Option<&BlockLine>) -> u64
-    ensures at { result ≡ column_of (option_copied line.entry) }
-    ensures few { result < 2 ^ 34 }
-{
-    match line {
-        None => 1,
-        Some(line) => line.level as u64 * 2 + 1,
-    }
-}
-
-/// The words of the kind, and the mark below the first character of the line.
-pub(crate) fn plain(alloc: Global, kind: RbKind, line: Option<&BlockLine>) -> Result<Told, NoMemory>
-    ensures { IfOk result (λ t. t ≡ plain_of kind (option_copied line.entry)) }
-{
-    Ok(Told {
-        words: Txt::from_str(alloc, words(kind))?,
-        column: column(line),
-        blanks: Txt::from_str(alloc, "")?,
-    })
-}
 
 fn asked(alloc: Global, near: Option<&Txt>) -> Result<String, NoMemory>
     ensures { IfOk result (λ t. string_bytes t ≡ asked_of (option_copied near.entry)) }
@@ -72,40 +42,13 @@ fn unknown_words(alloc: Global, found: &str, near: Option<&Txt>) -> Result<Txt, 
     Ok(Txt::from_string(text))
 }
 
-fn characters(alloc: Global, text: &str) -> Result<Vec<char>, NoMemory>
-    ensures { IfOk result (λ v. v.items ≡ chars text.now) }
-{
-    Ok(text.chars().collect(alloc)?)
-}
-
-/// How many characters stand before a byte of a text.
-fn characters_before(alloc: Global, text: &str, place: u32) -> Result<u64, NoMemory>
-    requires within { place ≤ length text.now }
-    requires border { IsCharBoundary text.now place }
-    ensures count { IfOk result (λ n. n ≡ before_of text.now place) }
-    ensures few { IfOk result (λ n. n < 2 ^ 63) }
-{
-    let before = characters(alloc, &text[..place as usize])?;
-    Ok(before.len() as u64)
-}
-
-fn blanks(alloc: Global, count: u64) -> Result<Txt, NoMemory>
-    ensures { IfOk result (λ t. t ≡ replicate count 32) }
-{
-    let mut out = String::new(alloc);
-    for _ in 0..count {
-        out.push_str(" ")?;
-    }
-    Ok(Txt::from_string(out))
-}
-
 /// What is said of a line, whose tokens from the first phrase on that isn't known are these.
 fn told_at(alloc: Global, known: &Known, line: &BlockLine, left: &[Token]) -> Result<Told, NoMemory>
     requires { All (IsWithin line.now.text) left.now }
     ensures { IfOk result (λ t. t ≡ told_at_of known.now.texts line.now left.now) }
 {
     match front(left) {
-        None => plain(alloc, RbKind::Name, Some(line)),
+        None => plain(alloc, line.line, RbKind::Name, Some(line)),
         Some((first, _)) => {
             let text = line.text.as_str();
             let found = phrase_text(alloc, text, &left[..inner(text, left)])?;
@@ -127,11 +70,8 @@ fn told_of(
     ensures { IfOk result (λ t. t ≡ told_of_phrase known.now.texts line.now before found.now) }
 {
     let near = nearest(found.as_bytes(), known.texts.as_slice());
-    Ok(Told {
-        words: unknown_words(alloc, found, near)?,
-        column: column(Some(line)) + before,
-        blanks: blanks(alloc, before)?,
-    })
+    let words = unknown_words(alloc, found, near)?;
+    marked(alloc, line, before, words)
 }
 
 /// How many tokens begin a line over a group of a list.
@@ -167,7 +107,7 @@ fn named(alloc: Global, known: &Known, line: &BlockLine) -> Result<Told, NoMemor
 {
     match tokens(alloc, line.text.as_str()) {
         Ok(tokens) => told_in(alloc, known, line, tokens.as_slice()),
-        Err(WordFault::Place(_)) => plain(alloc, RbKind::Name, Some(line)),
+        Err(WordFault::Place(_)) => plain(alloc, line.line, RbKind::Name, Some(line)),
         Err(WordFault::NoMemory) => Err(NoMemory),
     }
 }
@@ -178,26 +118,69 @@ fn is_name(kind: RbKind) -> bool
     matches!(kind, RbKind::Name)
 }
 
-/// What is said of an error of a kind, by its line and by whether that reads phrases.
+fn is_syntax(kind: RbKind) -> bool
+    ensures { result ≡ is_syntax_of kind }
+{
+    matches!(kind, RbKind::Syntax)
+}
+
+/// What is said of a block that can't be read: of the first place that is found, or of its line as a whole.
+fn unread(
+    alloc: Global,
+    lines: &[BlockLine],
+    number: u32,
+    line: Option<&BlockLine>,
+) -> Result<Told, NoMemory>
+    requires { AreShort lines.now }
+    ensures { IfOk result (IsUnread lines.now number (option_copied line.entry)) }
+{
+    match block_told(alloc, lines)? {
+        None => plain(alloc, number, RbKind::Syntax, line),
+        Some(told) => Ok(told),
+    }
+}
+
+/// What is said of an error of another kind, by its line and by whether that reads phrases.
 fn told_by(
     alloc: Global,
     known: &Known,
     reads: bool,
+    number: u32,
     line: Option<&BlockLine>,
     kind: RbKind,
 ) -> Result<Told, NoMemory>
     requires { IfSome (option_copied line) (λ l. length l.text < 2 ^ 32) }
-    ensures { IfOk result (IsTold known.now.texts reads (option_copied line.entry) kind) }
+    ensures { IfOk result (IsTold known.now.texts reads number (option_copied line.entry) kind) }
 {
     match line {
-        None => plain(alloc, kind, None),
+        None => plain(alloc, number, kind, None),
         Some(line) => {
             if reads && is_name(kind) {
                 named(alloc, known, line)
             } else {
-                plain(alloc, kind, Some(line))
+                plain(alloc, number, kind, Some(line))
             }
         }
+    }
+}
+
+/// What is said of an error in a line of a block with these lines.
+fn told_of_line(
+    alloc: Global,
+    known: &Known,
+    lines: &[BlockLine],
+    line: Option<&BlockLine>,
+    fault: &RbFault,
+) -> Result<Told, NoMemory>
+    requires short { AreShort lines.now }
+    requires line { IfSome (option_copied line) (λ l. length l.text < 2 ^ 32) }
+    ensures { IfOk result (IsToldOf known.now.texts lines.now (option_copied line.entry) fault.now) }
+{
+    if is_syntax(fault.kind) {
+        unread(alloc, lines, fault.line, line)
+    } else {
+        let reads = reads_phrases(lines, fault.line);
+        told_by(alloc, known, reads, fault.line, line, fault.kind)
     }
 }
 
@@ -212,8 +195,7 @@ fn told_in_block(
     ensures { IfOk result (IsToldBy known.now.texts (Some block.now) fault.now) }
 {
     let lines = block.lines.as_slice();
-    let reads = reads_phrases(lines, fault.line);
-    told_by(alloc, known, reads, line_in(lines, fault.line), fault.kind)
+    told_of_line(alloc, known, lines, line_in(lines, fault.line), fault)
 }
 
 /// What is said of an error of blocks.
@@ -227,7 +209,7 @@ pub(crate) fn told_in_blocks(
     ensures { IfOk result (IsToldIn known.now.texts blocks.now fault.now) }
 {
     match block_with(blocks, fault.file, fault.line) {
-        None => plain(alloc, fault.kind, None),
+        None => plain(alloc, fault.line, fault.kind, None),
         Some(block) => told_in_block(alloc, known, block, fault),
     }
 }

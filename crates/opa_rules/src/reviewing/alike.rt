@@ -1,4 +1,4 @@
-// Declared phrases that differ by one letter.
+// Declared phrases that are easily taken for one another.
 ghost use Rattle.std.specs.Prelude.{◌≡◌, ◌++◌, length, OnOk};
 ghost use Rattle.opa_rules.specs.Reviewing.Alike as meant;
 
@@ -23,7 +23,20 @@ fn differ_by_one(first: &str, second: &str) -> bool
     !has_digit(first) && !has_digit(second) && difference(first.as_bytes(), second.as_bytes()) <= 1
 }
 
-/// Adds two attributes, if their phrases differ by one letter.
+/// Whether two phrases are the same but for capital letters.
+pub(crate) fn differ_in_case(first: &str, second: &str) -> bool
+    ensures { result ≡ meant.differ_in_case first.now second.now }
+{
+    first.eq_ignore_ascii_case(second)
+}
+
+fn are_close(first: &str, second: &str) -> bool
+    ensures { result ≡ meant.are_close first.now second.now }
+{
+    differ_in_case(first, second) || differ_by_one(first, second)
+}
+
+/// Adds two attributes, if their phrases are close.
 fn push_attribute_pair(
     findings: &mut List<Finding>,
     model: &Model,
@@ -34,7 +47,7 @@ fn push_attribute_pair(
 {
     let first = AttrId(first);
     let second = AttrId(second);
-    if !differ_by_one(phrase_of(model, first), phrase_of(model, second)) {
+    if !are_close(phrase_of(model, first), phrase_of(model, second)) {
         return Ok(());
     }
     findings.push(Finding::Attributes(AlikeAttributes { first, second }))
@@ -71,7 +84,7 @@ fn push_few_attributes(findings: &mut List<Finding>, model: &Model) -> Result<()
     push_attributes(findings, model)
 }
 
-/// Adds two lists, if their phrases differ by one letter.
+/// Adds two lists, if their phrases are close.
 fn push_list_pair(
     findings: &mut List<Finding>,
     model: &Model,
@@ -82,7 +95,7 @@ fn push_list_pair(
 {
     let first = RelId(first);
     let second = RelId(second);
-    if !differ_by_one(list_phrase_of(model, first), list_phrase_of(model, second)) {
+    if !are_close(list_phrase_of(model, first), list_phrase_of(model, second)) {
         return Ok(());
     }
     findings.push(Finding::Lists(AlikeLists { first, second }))
@@ -115,7 +128,7 @@ fn push_few_lists(findings: &mut List<Finding>, model: &Model) -> Result<(), NoM
     push_lists(findings, model)
 }
 
-/// Adds the phrases that differ by one letter: those of attributes, and those of lists.
+/// Adds the phrases that differ by one letter or in case: those of attributes, and those of lists.
 pub(crate) fn push_alike(findings: &mut List<Finding>, model: &Model) -> Result<(), NoMemory>
     ensures { OnOk result (findings.new ≡ findings.old ++ meant.alike model.now) }
 {

@@ -21,14 +21,14 @@ pub struct UnreachedRow {
     pub differs: bool,
 }
 
-/// Two attributes whose phrases differ by one letter.
+/// Two attributes whose phrases differ by one letter, or only in case.
 #[derive(Clone, Copy, Debug, PartialEq, Eq)]
 pub struct AlikeAttributes {
     pub first: AttrId,
     pub second: AttrId,
 }
 
-/// Two lists whose phrases differ by one letter.
+/// Two lists whose phrases differ by one letter, or only in case.
 #[derive(Clone, Copy, Debug, PartialEq, Eq)]
 pub struct AlikeLists {
     pub first: RelId,

@@ -3,6 +3,7 @@ ghost use Rattle.std.specs.Prelude.{◌≡◌, IfOk};
 ghost use Rattle.std.specs.String.{string_bytes};
 ghost use Rattle.opa_rules.specs.Reviewing.Printed as meant;
 
+use crate::reviewing::alike::differ_in_case;
 use crate::reviewing::compared_words::compared_words;
 use crate::reviewing::finding::{
     AlikeAttributes, AlikeLists, Finding, Level, RoundedCurrency, SettledGoal, UncertainEnding,
@@ -54,11 +55,27 @@ fn settled_words(alloc: Global, model: &Model, goal: SettledGoal) -> Result<Stri
     Ok(text)
 }
 
-/// That two phrases differ by one letter.
+/// How two phrases differ.
+fn how(in_case: bool) -> &'static str
+    ensures { result.now ≡ meant.how in_case }
+{
+    if in_case {
+        "differ only in capital letters"
+    } else {
+        "differ by one letter"
+    }
+}
+
+/// That two phrases differ, and how.
 fn pair_words(alloc: Global, first: &str, second: &str) -> Result<String, NoMemory>
     ensures { IfOk result (λ t. string_bytes t ≡ meant.pair_words first.now second.now) }
 {
-    let text = format!(in alloc; "'{}' and '{}' differ by one letter", first, second)?;
+    let text = format!(in alloc;
+        "'{}' and '{}' {}",
+        first,
+        second,
+        how(differ_in_case(first, second))
+    )?;
     Ok(text)
 }
 

@@ -4,11 +4,14 @@ use Rattle.opa_io.proofs.Results.{on_ok_then}
 use Rattle.opa_words.specs.declared.layout.block.Block.{Block}
 use Rattle.opa_parse.specs.Fronts.{AreShort}
 use Rattle.opa_rules.specs.Faults.Listing.{goes_on}
-use Rattle.opa_rules.proofs.FaultLaws.{Puts, PutsOne, short_without, none_listed, free_listed, last_listed, left_listed}
+use Rattle.opa_rules.proofs.FaultLaws.{Puts, PutsOne, short_without, most_reached, free_listed, last_listed, left_listed}
 use Rattle.opa_rules.proofs.faults.listing.+push_errors.Goals as goal
 
 pub returns-then-most-eq0 : goal.returns-then-most-eq0
-returns-then-most-eq0 t c = none_listed c.args.files.now c.args.known.now.texts c.args.most c.args.blocks (string_bytes c.args.out.now) c.if-most-eq0.true
+returns-then-most-eq0 t c =
+    let files = c.args.files.now in let known = c.args.known.now.texts in
+    on_ok_then c.push_most.result _ (Puts files known c.args.most c.args.blocks (string_bytes c.args.out.now) (string_bytes c.push_most.new.out))
+    (most_reached files known c.args.most c.args.blocks (string_bytes c.args.out.now) (string_bytes c.push_most.new.out) c.if-most-eq0.true) c.push_most.ensures
 
 pub push_errors-requires : goal.push_errors-requires
 push_errors-requires t c =

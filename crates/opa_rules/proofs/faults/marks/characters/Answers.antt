@@ -1,6 +1,6 @@
 use Rattle.std.proofs.Common.{rules}
 use Rattle.std.proofs.lemmas.Str.{chars_from_encodes}
-use Rattle.opa_rules.proofs.faults.told.characters.Goals as goal
+use Rattle.opa_rules.proofs.faults.marks.characters.Goals as goal
 
 pub returns : goal.returns
 returns c = search (rules, chars_from_encodes)
