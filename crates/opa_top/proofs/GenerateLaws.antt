@@ -1,16 +1,18 @@
 -- What the mode `generate` does, from what its parts ensure.
 use Rattle.std.proofs.Common.{◌≡◌, ◌≤◌, ◌*◌, ℕ, pos, Bool, true, false, List, [], inl, inr, Ok, refl, sym, subst, ◌∙◌, arith}
-use Rattle.std.specs.Prelude.{ℤ, ◌≢◌}
+use Rattle.std.specs.Prelude.{ℤ, ◌≢◌, Option, Some, Err, IfSome}
 use Rattle.std.specs.Io.KnownBytes.{Appends}
-use Rattle.opa_io.specs.Outside.{Rose}
+use Rattle.opa_io.specs.Outside.{Files, Rose}
 use Rattle.opa_io.specs.declared.fault.Status.{Status}
 use Rattle.opa_io.specs.declared.fault.Status.TheVariants as status
 use Rattle.opa_value.specs.NumberText.{read_number}
 use Rattle.opa_top.specs.Checking.{IsTold}
 use Rattle.opa_top.specs.Answering.{Answers}
-use Rattle.opa_top.specs.Generating.{SaysNumber, IsOutOfRange, IsGenerated, IsNoSize, IsSize, IsMade, AnswersExample, Generates, generated_name, refused_number, unless_lacking}
+use Rattle.opa_top.specs.Generating.{SaysNumber, IsOutOfRange, IsGenerated, IsNoSize, IsSize, IsMade, AnswersExample, Generates, generated_files, generated_name, refused_number, unless_lacking}
 use Rattle.opa_top.specs.Running.{Outside, IsUnused, a_run}
 use Rattle.opa_top.specs.Statuses.{HasCause}
+use Rattle.opa_laws.specs.Generated.{GeneratedIsNotRefused, OnlyRulesAreRules}
+use Rattle.opa_rulebase.specs.Loading.{Opens}
 
 -- the number of a text has one count
 pub same_count : (number : List ℕ) (n : ℕ) (count : ℤ) → read_number number ≡ Ok count → SaysNumber n number → count ≡ pos (n * 10000)
@@ -65,6 +67,22 @@ generated_writes : (n : ℕ) (old new : Outside) (result : Status) → Generates
 generated_writes n old new result (inl out) e = absurd (cc (out.0, e))
 generated_writes n old new result (inr (before, after, made, a)) e = example_writes n old new before after made result a e
 
+module _ (not_refused : GeneratedIsNotRefused) (alone : OnlyRulesAreRules) where
+  -- the generated files open no refusal
+  no_refusal : (before : Outside) → before.files ≡ Some generated_files → IfSome before.files (λ files. (text : List ℕ) × Opens files generated_name (Err text)) → ⊥
+  no_refusal before made opens =
+      let told : (text : List ℕ) × Opens generated_files generated_name (Err text) = subst (λ (o : Option Files). IfSome o (λ files. (text : List ℕ) × Opens files generated_name (Err text))) made opens in
+      not_refused generated_files generated_name told.0 (alone generated_name) told.1
+
+  example_accepted : (n : ℕ) (old new before after : Outside) → IsMade n old new before after → (result : Status) → AnswersExample before after result → result ≢ status.Refused
+  example_accepted n old new before after made result (AnswersExample.answers a calm) e =
+      let cause : HasCause a_run generated_name before after status.Refused = subst (HasCause a_run generated_name before after) e a.cause in no_refusal before made.files cause.0
+  example_accepted n old new before after made status.NoMemory (AnswersExample.lacks a) e = cc e
+
+  pub generated_accepted : (n : ℕ) (old new : Outside) (result : Status) → Generates n old new result → result ≢ status.Refused
+  generated_accepted n old new result (inl out) e = cc (out.0, e)
+  generated_accepted n old new result (inr (before, after, made, a)) e = example_accepted n old new before after made result a e
+
 module _ (number : List ℕ) (old new : Outside) (result : Status) where
   pub number_refused : IsNoSize number → IsTold status.Refused refused_number old.written new.written old.writes new.writes result → IsUnused old new → IsGenerated number old new result
   number_refused none told unused = record {
@@ -72,18 +90,20 @@ module _ (number : List ℕ) (old new : Outside) (result : Status) where
     write_fault = told_writes refused_number old new result told;
     refuses = λ n says out. inr (told, unused);
     talks = λ n says least most. out_or_in n (none n says) least most;
+    accepted = λ n says least most. out_or_in n (none n says) least most;
   }
     where
       out_or_in : {T : Type 0} (n : ℕ) → IsOutOfRange n → 1 ≤ n → n ≤ 1000 → T
       out_or_in n (inl few) least most = absurd (omega (arith, few, least))
       out_or_in n (inr many) least most = absurd (omega (arith, many, most))
 
-  pub number_taken : (size : ℕ) → IsSize number size → Generates size old new result → IsGenerated number old new result
-  number_taken size is made = record {
+  pub number_taken : (size : ℕ) → IsSize number size → Generates size old new result → result ≢ status.Refused → IsGenerated number old new result
+  number_taken size is made held = record {
     no_read_fault = generated_reads size old new result made;
     write_fault = generated_writes size old new result made;
     refuses = λ n says out. not_out n size (is.2 n says) is.0 is.1 out;
     talks = λ n says least most. subst (λ k. Generates k old new result) (sym (is.2 n says)) made;
+    accepted = λ n says least most. held;
   }
     where
       not_out : {T : Type 0} (n size : ℕ) → n ≡ size → 1 ≤ size → size ≤ 1000 → IsOutOfRange n → T
@@ -96,6 +116,7 @@ module _ (number : List ℕ) (old new : Outside) (result : Status) where
     write_fault = λ e. absurd (cc (out, e));
     refuses = λ n says far. inl (out, none, unused);
     talks = λ n says least most. inl (out, none, unused);
+    accepted = λ n says least most e. cc (out, e);
   }
 
 pub ruleset numbers = (number_refused, number_taken)

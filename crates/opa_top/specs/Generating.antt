@@ -69,13 +69,14 @@ Generates n old new result =
     RunsOut old new result
     ⊎ ((before : Outside) × (after : Outside) × IsMade n old new before after × AnswersExample before after result)
 
--- A number out of range is refused; for another so many people are generated. Reading never fails, and writing fails only where
--- the sink does.
+-- A number out of range is refused; for another so many people are generated, and the generated rulebase is accepted. Reading
+-- never fails, and writing fails only where the sink does.
 pub record IsGenerated (number : List ℕ) (old new : Outside) (result : Status) : Type 0 where
   pub no_read_fault : result ≢ status.ReadFault
   pub write_fault : result ≡ status.WriteFault → Rose old.writes new.writes
   pub refuses : (n : ℕ) → SaysNumber n number → IsOutOfRange n → RunsOut old new result ⊎ (IsTold status.Refused refused_number old.written new.written old.writes new.writes result × IsUnused old new)
   pub talks : (n : ℕ) → SaysNumber n number → 1 ≤ n → n ≤ MOST_PEOPLE → Generates n old new result
+  pub accepted : (n : ℕ) → SaysNumber n number → 1 ≤ n → n ≤ MOST_PEOPLE → result ≢ status.Refused
 
 -- the number is in range, or it isn't
 abbrev pub IsSize : List ℕ → ℕ → Type 0

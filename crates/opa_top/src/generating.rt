@@ -1,7 +1,8 @@
 // The mode `generate`.
-ghost use Rattle.std.specs.Prelude.{◌≡◌, ◌≤◌, ◌<◌, ◌^◌, List, ℕ, Some, length, map, codes, IfOk, MatchOption};
+ghost use Rattle.std.specs.Prelude.{◌≡◌, ◌≢◌, ◌≤◌, ◌<◌, ◌^◌, List, ℕ, Some, length, map, codes, IfOk, MatchOption};
 ghost use Rattle.opa_listen.specs.Hearing.{hearer};
 ghost use Rattle.opa_script.specs.Examples.{rules_text, input_text};
+ghost use Rattle.opa_io.specs.declared.fault.Status.TheVariants.{Refused};
 ghost use Rattle.opa_top.specs.Generating.{IsGenerated, IsNoSize, IsSize, Generates, generated_files, unless_lacking as meant};
 ghost use Rattle.opa_top.specs.Running.{outside};
 
@@ -9,7 +10,7 @@ use crate::check::tell;
 use crate::example::{ExampleInput, ExampleShelf};
 use crate::talk::open_and_talk;
 use opa_io::{MemShelf, NoMemory, Shelf, Sink, Source, Status, Steps};
-use opa_laws::{one_opening, one_transcript};
+use opa_laws::{generated_is_accepted, one_opening, one_transcript};
 use opa_listen::Listener;
 use opa_script::generate;
 use opa_value::Number;
@@ -87,9 +88,10 @@ fn talk_over<S: Source, F: Shelf, K: Sink, L: Ledger>(
     requires least { 1 ≤ size }
     requires most { size ≤ 1000 }
     requires fewer { length listeners.old.items < 2 ^ 64 }
-    ensures { Generates size
+    ensures made { Generates size
         (outside F.files F.take_faults F.keep_faults S.left S.faults K.written K.faults shelf.now (map (λ l. hearer (state l)) listeners.old.items) input.now out.old steps.old)
         (outside F.files F.take_faults F.keep_faults S.left S.faults K.written K.faults shelf.now (map (λ l. hearer (state l)) listeners.new.items) input.now out.new steps.new) result }
+    ensures accepted { result ≢ Refused }
 {
     let Ok(found) = make_example(alloc, size) else {
         return Status::NoMemory;
@@ -98,6 +100,7 @@ fn talk_over<S: Source, F: Shelf, K: Sink, L: Ledger>(
     let mut lines = found.input;
     one_opening();
     one_transcript();
+    generated_is_accepted();
     let status = open_and_talk(alloc, NAME, &mut rules, listeners, steps, &mut lines, out);
     unless_lacking(status, rules.has_lacked())
 }

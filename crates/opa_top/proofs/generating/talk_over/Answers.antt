@@ -1,12 +1,12 @@
 use Rattle.std.proofs.Common.{refl, inr}
 use Rattle.opa_top.specs.Generating.{generated_name}
 use Rattle.opa_top.specs.Running.{a_run}
-use Rattle.opa_top.proofs.GenerateLaws.{answers_example, none_rose}
+use Rattle.opa_top.proofs.GenerateLaws.{answers_example, generated_accepted, none_rose}
 use Rattle.opa_top.proofs.PromiseLaws.{answers}
 use Rattle.opa_top.proofs.generating.talk_over.Goals as goal
 
-pub returns : goal.returns
-returns g c = inr (
+pub returns-clause-made : goal.returns-clause-made
+returns-clause-made g c = inr (
   _,
   _,
   record {
@@ -30,3 +30,6 @@ returns g c = inr (
       (λ none rose. none_rose _ _ (c.has_lacked.ensures none) rose)
       c.unless_lacking.ensures,
 )
+
+pub returns-clause-accepted : goal.returns-clause-accepted
+returns-clause-accepted g c = generated_accepted c.generated_is_accepted.ensures.not_refused c.generated_is_accepted.ensures.alone _ _ _ c.unless_lacking.result (returns-clause-made g c)
