@@ -6,6 +6,8 @@ of how it is run.
 docs/PERFORMANCE.md has what each took. What `opa check` reads `rules faults` reads, too.
 """
 
+import json
+
 from worst_windows import all_written
 
 FILE, INPUT, LINE = 8_388_608, 67_108_864, 65_536
@@ -125,6 +127,25 @@ write("runs.txt", filled(front, "1 x, 1600-01-01 to 2399-12-31: 1, answer\n", IN
 run("a_report_of_runs", "verify case.txt runs.txt")
 write("words_report.txt", filled(front, "a " * 32767 + "\n", INPUT), INPUT)
 run("a_report_of_words", "verify case.txt words_report.txt")
+
+# Quantifiers in one another over one list, as deep as they may stand and over as many members as a case may have
+NESTED = {
+    "greatest": "InstanceMaximum(the persons, number a + {})",
+    "counted": "InstanceCountIf(the persons, (number a > 0 and {} > 0))",
+    "mixed": "InstanceMinimum(the persons, InstanceCountIf(the persons, (number a > 0 and {} > 0)) + number a)",
+}
+members = [f"p{n}" for n in range(20_000)]
+for name, answers in {"no_answers": [], "answers": [{"attribute": "number a", "line": [[0, "n:1"], [200_000, f"n:{n % 7 + 1}"]], "of": member} for n, member in enumerate(members)]}.items():
+    case = {"answers": answers, "format": "policy-case", "lists": [{"list": "the persons", "names": members, "of": ""}], "model": 0, "version": 2}
+    write(f"persons_{name}.json", json.dumps(case, separators=(",", ":"), sort_keys=True), FILE)
+for kind, shape in NESTED.items():
+    text = "number a"
+    for _ in range(31 if kind != "mixed" else 15):
+        text = shape.format(text)
+    write(f"quantifiers_{kind}.txt", f"global\n  number the total\nentity the person\n  in global: the persons\n  number number a\ngoal the total\nthe total = {text}\n", FILE)
+    for name in ("no_answers", "answers"):
+        write(f"quantifiers_{kind}_{name}_input.txt", f'load "persons_{name}.json"\ngoals\nshow the total\nnext\n', FILE)
+        run(f"quantifiers_{kind}_in_one_another_with_{name}", f"run quantifiers_{kind}.txt", f"quantifiers_{kind}_{name}_input.txt")
 
 # Batches
 write("goal.txt", "global\n  number x\ngoal x\n", FILE)

@@ -23,6 +23,7 @@ impl Same for u32 {
 }
 
 impl Same for Txt {
+    #[inline(always)]
     fn same(&self, other: &Txt) -> bool {
         self.as_str() == other.as_str()
     }

@@ -5,6 +5,7 @@ pub mod Asking
 pub mod Building
 pub mod Chains
 pub mod Cleaning
+pub mod Comparing
 pub mod Completing
 pub mod Deciding
 pub mod Determining
@@ -15,6 +16,7 @@ pub mod Fixing
 pub mod Folding
 pub mod Freedom
 pub mod Gaps
+pub mod Gathered
 pub mod Growing
 pub mod Holdings
 pub mod LawsHold

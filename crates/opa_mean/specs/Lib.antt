@@ -3,6 +3,7 @@ pub mod Changes
 pub mod Completion
 pub mod Derivations
 pub mod Frees
+pub mod Gathering
 pub mod Given
 pub mod Holding
 pub mod Laws

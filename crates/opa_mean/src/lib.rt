@@ -1,11 +1,13 @@
 //! What a rulebase means, what a change reaches, the kinds of values and states of goals: for all that finds values.
 #![tactic(auto)]
 
+mod alike;
 mod calendar_day;
 mod declared;
 mod determine;
 mod evaluate;
 mod folds;
+mod gathering;
 pub mod goals;
 mod held;
 pub mod kinds;
@@ -43,7 +45,7 @@ pub use look::Look;
 pub use operations::{op_of_one, op_of_two};
 pub use places::{place_in, place_of};
 pub use plain::{Derive, Plain};
-pub use questions::{alone, reads, reads_over};
+pub use questions::{alone, gathered_over, reads, reads_over};
 pub use reached::{
     Readers, Slot, answers_differ, dirty_by_new_reads, dirty_by_old_reads, fresh_or_reads,
     held_can_tell, laid_are_current, laid_stay_current, lists_begin, new_can_tell, new_is_dirty,

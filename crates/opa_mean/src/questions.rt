@@ -4,10 +4,12 @@ ghost use Rattle.opa_case.specs.Cases.{IsLive};
 ghost use Rattle.opa_case.specs.Fits.{Fits};
 ghost use Rattle.opa_case.specs.Shapes.{shape_of};
 ghost use Rattle.opa_mean.specs.Given.{base_of, facts_of};
+ghost use Rattle.opa_mean.specs.Gathering.{AreThose};
 ghost use Rattle.opa_mean.specs.Places.{owner_of};
 ghost use Rattle.opa_mean.specs.Reads.{reads_of, reads_over as looked_at};
 ghost use Rattle.opa_tree.specs.Rules.{rule_of};
 
+use crate::gathering::gather_once;
 use crate::look::Look;
 use crate::read::gather;
 use opa_case::{Case, InstanceId, Question};
@@ -57,6 +59,37 @@ pub fn reads_over<K: Look>(
         )?;
     }
     Ok(found)
+}
+
+/// The same questions, each at least once: what a quantifier in another looks at the same for several members isn't
+/// gathered for each of them.
+pub fn gathered_over<K: Look>(
+    alloc: Global,
+    base: &Rulebase,
+    look: &K,
+    attr: AttrId,
+    inst: &InstanceId,
+) -> Result<List<Question>, NoMemory>
+    ensures { IfOk result (λ found. AreThose found (looked_at (base_of base.now) (K.looks look.now) attr inst.now)) }
+{
+    let mut found = List::new(alloc);
+    match base.rules.of(attr) {
+        None => Ok(found),
+        Some(rule) => {
+            let enclosing = alone(alloc, inst)?;
+            let around = enclosing.as_slice();
+            gather_once(
+                alloc,
+                &base.model,
+                look,
+                &mut found,
+                &rule.expr,
+                around,
+                &[],
+            )?;
+            Ok(found)
+        }
+    }
 }
 
 /// An instance as the only enclosing one.

@@ -130,7 +130,7 @@ fn gather_rows<K: Look>(
     Ok(())
 }
 
-fn ask_line(
+pub(crate) fn ask_line(
     alloc: Global,
     found: &mut List<Question>,
     attr: AttrId,
@@ -141,7 +141,7 @@ fn ask_line(
     found.push(Question::Attr(attr, inst.copy(alloc)?))
 }
 
-fn ask_list(
+pub(crate) fn ask_list(
     alloc: Global,
     found: &mut List<Question>,
     rel: RelId,

@@ -78,7 +78,7 @@ pub(crate) fn value_at<H: Held>(
     requires live { AllByRecursion (IsLive (H.held held.now)) enclosing.now }
     ensures { IfOk result (λ v. v ≡ part_value (H.rules held.now) (H.held held.now) tree.now enclosing.now day) }
 {
-    if looks_over_days(tree) {
+    if is_by_line(tree, false) {
         value_by_line(alloc, held, tree, enclosing, day)
     } else {
         tree_value(alloc, held, tree, enclosing, day)
@@ -101,27 +101,30 @@ fn value_by_line<H: Held>(
     Ok(value)
 }
 
-/// Whether a part of the tree is a function over time. Its value at a day rests on other days, however many, so it is
-/// taken from its line.
+/// Whether the value of a tree at a day is taken from its line. What a function over time is worth at a day rests on other
+/// days, however many; and what a quantifier in another one is worth is determined once for all members only over lines.
 #[cycle(looking)]
-fn looks_over_days(tree: &Expr) -> bool {
+fn is_by_line(tree: &Expr, of_members: bool) -> bool {
     match tree {
         Expr::Const(_) | Expr::Attr(_) => false,
         Expr::Window(_, _) | Expr::Rolling(_, _, _) => true,
-        Expr::All(parts) | Expr::Any(parts) | Expr::Op(_, parts) | Expr::Over(_, _, parts) => {
-            look_over_days(parts.as_slice())
+        Expr::All(parts) | Expr::Any(parts) | Expr::Op(_, parts) => {
+            are_by_line(parts.as_slice(), of_members)
         }
-        Expr::Not(part) | Expr::Certain(part) | Expr::Known(part) => looks_over_days(part.get()),
+        Expr::Over(_, _, parts) => of_members || are_by_line(parts.as_slice(), true),
+        Expr::Not(part) | Expr::Certain(part) | Expr::Known(part) => {
+            is_by_line(part.get(), of_members)
+        }
         Expr::Table(rows, last) => {
-            rows_look_over_days(rows.as_slice()) || looks_over_days(last.get())
+            rows_are_by_line(rows.as_slice(), of_members) || is_by_line(last.get(), of_members)
         }
     }
 }
 
 #[cycle(looking)]
-fn look_over_days(parts: &[Expr]) -> bool {
+fn are_by_line(parts: &[Expr], of_members: bool) -> bool {
     for part in parts {
-        if looks_over_days(part) {
+        if is_by_line(part, of_members) {
             return true;
         }
     }
@@ -129,9 +132,9 @@ fn look_over_days(parts: &[Expr]) -> bool {
 }
 
 #[cycle(looking)]
-fn rows_look_over_days(rows: &[Row]) -> bool {
+fn rows_are_by_line(rows: &[Row], of_members: bool) -> bool {
     for row in rows {
-        if looks_over_days(&row.cond) || looks_over_days(&row.value) {
+        if is_by_line(&row.cond, of_members) || is_by_line(&row.value, of_members) {
             return true;
         }
     }

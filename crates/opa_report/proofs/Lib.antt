@@ -4,6 +4,7 @@ pub mod Cones
 pub mod Dating
 pub mod DeclaredLines
 pub mod Declaring
+pub mod Enclosed
 pub mod Entries
 pub mod Exactly
 pub mod Firsts
@@ -11,6 +12,7 @@ pub mod Going
 pub mod Ingredients
 pub mod Inserting
 pub mod Joining
+pub mod Keeping
 pub mod Listing
 pub mod Living
 pub mod Marking
@@ -21,5 +23,6 @@ pub mod Parts
 pub mod Placing
 pub mod Pointing
 pub mod Promised
+pub mod SameLaws
 pub mod Seeing
 pub mod Stretches

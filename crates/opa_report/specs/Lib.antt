@@ -2,6 +2,7 @@ pub mod Adding
 pub mod Dates
 pub mod Declares
 pub mod Finding
+pub mod Keeping
 pub mod Laws
 pub mod Owning
 pub mod Promises

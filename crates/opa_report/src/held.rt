@@ -53,6 +53,22 @@ impl<'a, H: Held> Sight for HeldSight<'a, H> {
         )
     }
 
+    fn owner(&self, attr: AttrId) -> u32 {
+        owner_of(&self.held.base().model, attr)
+    }
+
+    fn source_entity(&self, rel: RelId) -> u32 {
+        source_of(&self.held.base().model, rel)
+    }
+
+    fn entity_place<'b>(
+        &'b self,
+        enclosing: &'b [InstanceId],
+        entity: u32,
+    ) -> Option<&'b InstanceId> {
+        place_in(self.held.case(), enclosing, entity)
+    }
+
     fn target(&self, rel: RelId) -> u32 {
         target_of(&self.held.base().model, rel)
     }

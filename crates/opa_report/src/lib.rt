@@ -1,11 +1,13 @@
 //! Decision reports: the points and lists that a value rests on, with their days, and their text: for who explains.
 #![tactic(auto)]
 
+mod alike;
 mod choices;
 mod dates;
 pub mod day_sets;
 mod found;
 mod held;
+mod kept;
 mod laws;
 mod lines;
 mod listed;
@@ -15,6 +17,7 @@ mod owned;
 mod points;
 mod reporting;
 mod runs;
+mod same_trees;
 mod sight;
 mod spread;
 pub mod text;

@@ -21,6 +21,7 @@ mod told;
 mod touched;
 
 pub use beginning::{are_by_answers, begin, begin_answers};
+pub(crate) use difference::has_others;
 pub use fresh::fresh_slots;
 pub use given::given_changes;
 pub use index::Index;

@@ -10,6 +10,7 @@ mod lines;
 mod lists;
 mod marks;
 mod name_marks;
+mod nested;
 mod one_list;
 mod order;
 mod reach;

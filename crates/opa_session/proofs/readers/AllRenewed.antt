@@ -7,6 +7,7 @@ use Rattle.opa_cells.specs.declared.instance.InstanceId.{InstanceId}
 use Rattle.opa_case.specs.Cases.{CaseView}
 use Rattle.opa_case.specs.Live.{is_live}
 use Rattle.opa_case.specs.declared.question.Question.{Question}
+use Rattle.opa_mean.specs.Gathering.{AreThose}
 use Rattle.opa_mean.specs.Reached.ByLists.{IsByLists, AreListsTold}
 use Rattle.opa_mean.specs.Reached.Dirty.{slot_reads}
 use Rattle.opa_mean.specs.Reached.Settling.{AreReaders, SamePair, Shift, Waiting, new_reads}
@@ -157,16 +158,31 @@ module _ (s : Shift) (by : IsByLists s) (readers : Question → Waiting) (exact 
   pub renewal_is : IsRenewal s readers n
   renewal_is = record { apart = apart; exact = are_then }
 
-without_same : (xs xs' ys ys' left : List Question) → xs ≡ xs' → ys ≡ ys' → AreWithout xs ys left → AreWithout xs' ys' left
-without_same xs xs' ys ys' left e f h = subst (λ (zs : List Question). AreWithout zs ys' left) e (subst (λ (zs : List Question). AreWithout xs zs left) f h)
+-- of the same questions, in whatever number
+without_those : (xs xs' ys ys' left : List Question) → AreThose xs xs' → AreThose ys ys' → AreWithout xs ys left → AreWithout xs' ys' left
+without_those xs xs' ys ys' left e f h q =
+    (λ there. let two = (h q).0 there in ((e q).0 two.0, λ other. two.1 ((f q).1 other)), λ two. (h q).1 ((e q).1 two.0, λ other. two.1 ((f q).0 other)))
 
 -- one slot is renewed
-pub one_renewed : (s : Shift) (x : Renewed) (before then b b' t t' : List Question) → before ≡ reads_in s.rules s.old x.slot.attr x.slot.inst → then ≡ reads_in s.rules s.new x.slot.attr x.slot.inst → t ≡ then → b ≡ before → AreWithout t b x.more → b' ≡ before → t' ≡ then → AreWithout b' t' x.lost
+pub one_renewed : (s : Shift) (x : Renewed) (before then b b' t t' : List Question) → AreThose before (reads_in s.rules s.old x.slot.attr x.slot.inst) → AreThose then (reads_in s.rules s.new x.slot.attr x.slot.inst) → t ≡ then → b ≡ before → AreWithout t b x.more → b' ≡ before → t' ≡ then → AreWithout b' t' x.lost
     → IsRenewed s x
 one_renewed s x before then b b' t t' is_before is_then e f more e' f' lost = record {
-  more = without_same t (reads_in s.rules s.new x.slot.attr x.slot.inst) b (reads_in s.rules s.old x.slot.attr x.slot.inst) x.more (e ∙ is_then) (f ∙ is_before) more;
-  lost = without_same b' (reads_in s.rules s.old x.slot.attr x.slot.inst) t' (reads_in s.rules s.new x.slot.attr x.slot.inst) x.lost (e' ∙ is_before) (f' ∙ is_then) lost;
+  more = without_those t (reads_in s.rules s.new x.slot.attr x.slot.inst) b (reads_in s.rules s.old x.slot.attr x.slot.inst) x.more (those t then e (reads_in s.rules s.new x.slot.attr x.slot.inst) is_then) (those b before f (reads_in s.rules s.old x.slot.attr x.slot.inst) is_before) more;
+  lost = without_those b' (reads_in s.rules s.old x.slot.attr x.slot.inst) t' (reads_in s.rules s.new x.slot.attr x.slot.inst) x.lost (those b' before e' (reads_in s.rules s.old x.slot.attr x.slot.inst) is_before) (those t' then f' (reads_in s.rules s.new x.slot.attr x.slot.inst) is_then) lost;
 }
+  where
+    those : (xs ys : List Question) → xs ≡ ys → (zs : List Question) → AreThose ys zs → AreThose xs zs
+    those xs ys is zs h = subst (λ (qs : List Question). AreThose qs zs) (sym is) h
+
+-- what was gathered of a slot, and of what isn't one
+pub those_in : (r : Rulebase) (c : CaseView) (a : AttrId) (i : InstanceId) (found : List Question) → is_slot r c a i ≡ true → AreThose found (slot_reads r c a i) → AreThose found (reads_in r c a i)
+those_in r c a i found slot h = subst (λ b. AreThose found (cond b (slot_reads r c a i) [])) (sym slot) h
+
+pub none_in_those : (r : Rulebase) (c : CaseView) (a : AttrId) (i : InstanceId) (found : List Question) → is_slot r c a i ≡ false → found ≡ [] → AreThose found (reads_in r c a i)
+none_in_those r c a i found not none = subst (λ b. AreThose found (cond b (slot_reads r c a i) [])) (sym not) (subst (λ qs. AreThose qs nil) (sym none) (λ q. (λ there. there, λ there. there)))
+  where
+    nil : List Question
+    nil = []
 
 -- none is renewed, and one more
 pub renewed_none : (s : Shift) (waiting : Waiting) (all : List Renewed) → all ≡ [] → AreRenewed s waiting waiting all

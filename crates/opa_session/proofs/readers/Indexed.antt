@@ -11,6 +11,7 @@ use Rattle.opa_cells.specs.declared.instance.InstanceId.{InstanceId}
 use Rattle.opa_case.specs.Cases.{CaseView}
 use Rattle.opa_case.specs.declared.question.Question.{Question}
 use Rattle.opa_case.specs.declared.question.Question.TheVariants as question
+use Rattle.opa_mean.specs.Gathering.{AreThose}
 use Rattle.opa_mean.specs.Reached.Dirty.{slot_reads}
 use Rattle.opa_mean.specs.Reached.Settling.{SamePair, Waiting, AreReaders}
 use Rattle.opa_mean.specs.Reached.Slots.{pairs_of, slots_in}
@@ -56,6 +57,18 @@ line_added old new m k a i adds same (question.Members q j) x = (
     into : Contains (slots_at old.lists (q.0, j)) x ⊎ (SamePair (a, i) x × Contains (question.Attr m k ∷ []) (question.Members q j)) → Contains (slots_at new.lists (q.0, j)) x
     into (inl h) = subst (λ (g : Table). Contains (slots_at g (q.0, j)) x) (sym same) h
     into (inr h) = at (contains_cases (question.Attr m k) (question.Members q j) [] h.1)
+
+-- at the same questions, in whatever number
+pub adds_those : (found those : List Question) (a : AttrId) (i : InstanceId) (old new : Index) → AreThose found those → AddsReads found a i old new → AddsReads those a i old new
+adds_those found those a i old new same adds q x = (λ h. out ((adds q x).0 h), λ h. (adds q x).1 (into h))
+  where
+    out : Contains (readers_in old q) x ⊎ (SamePair (a, i) x × Contains found q) → Contains (readers_in old q) x ⊎ (SamePair (a, i) x × Contains those q)
+    out (inl h) = inl h
+    out (inr h) = inr (h.0, (same q).0 h.1)
+
+    into : Contains (readers_in old q) x ⊎ (SamePair (a, i) x × Contains those q) → Contains (readers_in old q) x ⊎ (SamePair (a, i) x × Contains found q)
+    into (inl h) = inl h
+    into (inr h) = inr (h.0, (same q).1 h.1)
 
 pub list_added : (old new : Index) (m : RelId) (k : InstanceId) (a : AttrId) (i : InstanceId) → AddsAt old.lists new.lists (m.0, k) (a, i) → new.lines ≡ old.lines → AddsReads (question.Members m k ∷ []) a i old new
 list_added old new m k a i adds same (question.Members b j) x = (λ h. out ((adds (b.0, j) x).0 h), λ h. into h)

@@ -1,5 +1,5 @@
 -- Of some questions those that aren't among others, by a set.
-use Rattle.std.proofs.Common.{arith, ◌≡◌, ◌⊎◌, ◌↔◌, inl, inr, ℕ, ◌+◌, ◌<◌, Bool, true, false, cond, List, [], ◌∷◌, ◌++◌, length, get_or, take, Some, is_some, Contains, refl, sym, ◌∙◌, ap, subst}
+use Rattle.std.proofs.Common.{arith, ◌≡◌, ◌⊎◌, ◌↔◌, inl, inr, ℕ, ◌+◌, ◌<◌, Bool, true, false, not, cond, eqb, List, [], ◌∷◌, ◌++◌, length, get_or, take, Some, is_some, Contains, refl, sym, ◌∙◌, ap, subst}
 use Rattle.std.specs.FinMap.{FinMap, get, insert, empty, get-insert, get-empty}
 use Rattle.std.specs.Ordering.{eq_by_cmp}
 use Rattle.std.specs.Cmp.{eq_by_cmp_equiv}
@@ -13,7 +13,8 @@ use Rattle.opa_cells.specs.declared.instance.InstanceId.{InstanceId}
 use Rattle.opa_cells.proofs.Orders.{cell_exact, cell_total}
 use Rattle.opa_case.specs.declared.question.Question.{Question}
 use Rattle.opa_case.specs.declared.question.Question.TheVariants as question
-use Rattle.opa_tree.proofs.Members.{none_in}
+use Rattle.opa_mean.specs.Gathering.{AreThose}
+use Rattle.opa_tree.proofs.Members.{none_in, contains_head}
 use Rattle.opa_session.specs.Readers.Indexes.{SameKey}
 use Rattle.opa_session.specs.Readers.Touches.{AddsAsked, AreAsked, AreSifted, AreWithout, SameQuestion, Sifts, is_asked}
 use Rattle.opa_session.specs.declared.readers.asked.Asked.{Asked}
@@ -186,3 +187,8 @@ sift_next others qs k q passed passed' kept kept' lt is h step =
 pub none_left : (xs ys left : List Question) → length xs ≡ 0 → left ≡ [] → AreWithout xs ys left
 none_left xs ys left none kept q =
     (λ h. absurd (none_in q (subst (λ (zs : List Question). Contains zs q) kept h)), λ h. let lt = h.0.1 in absurd (omega (arith, lt, none)))
+
+-- where some are left, the two aren't the same questions
+pub some_left : (xs ys left : List Question) (t : Bool) → AreWithout xs ys left → t ≡ eqb (length left) 0 → not t ≡ true → AreThose xs ys → ⊥
+some_left xs ys [] t h e some same = cc (ap not e, some)
+some_left xs ys (q ∷ left) t h e some same = let two = (h q).0 (contains_head q left) in two.1 ((same q).0 two.0)

@@ -1,5 +1,5 @@
 -- Which slots a change reaches, one by one.
-use Rattle.std.proofs.Common.{◌≡◌, ℕ, ◌+◌, ◌<◌, Bool, true, false, cond, not, List, filter, length, get_or, take, sym, ◌∙◌, ap, subst, arith}
+use Rattle.std.proofs.Common.{◌≡◌, ℕ, ◌+◌, ◌<◌, Bool, true, false, cond, not, List, filter, Contains, length, get_or, take, refl, sym, ◌∙◌, ap, subst, arith}
 use Rattle.std.specs.Prelude.{◌||◌}
 use Rattle.std.specs.List.{list_any}
 use Rattle.std.proofs.lemmas.List.Filters.{length-filter_more}
@@ -8,9 +8,12 @@ use Rattle.opa_cells.specs.declared.instance.InstanceId.{InstanceId}
 use Rattle.opa_case.specs.Cases.{CaseView}
 use Rattle.opa_case.specs.declared.question.Question.{Question}
 use Rattle.opa_tree.specs.declared.rulebase.Rulebase.{Rulebase}
+use Rattle.opa_mean.specs.Gathering.{AreThose}
 use Rattle.opa_mean.specs.Reached.Dirty.{slot_reads, is_changed, is_reached, is_fresh, FreshOrReads}
 use Rattle.opa_mean.specs.Rulebases.{IsOf}
+use Rattle.opa_mean.specs.Sameness.{same_question, same_lists}
 use Rattle.opa_mean.specs.Slots.{is_slot}
+use Rattle.opa_mean.proofs.Exact.{lists_exact, question_exact}
 use Rattle.opa_session.specs.Telling.Reaching.{has_stayed, reads_same, ArePlaced}
 
 -- one slot more is counted
@@ -56,3 +59,16 @@ reads_here r r' n n' a i e g = ap (λ (q : Rulebase). slot_reads q n' a i) e ∙
 
 pub placed_same : (r r' : Rulebase) (o o' n n' : CaseView) (found : List Question) → r' ≡ r → o' ≡ o → n' ≡ n → ArePlaced r' o' n' found → ArePlaced r o n found
 placed_same r r' o o' n n' found e f g h = subst (λ (q : Rulebase). ArePlaced q o n found) e (subst (λ (k : CaseView). ArePlaced r' k n found) f (subst (λ (k : CaseView). ArePlaced r' o' k found) g h))
+
+-- where the two don't look at the same questions, the lists of what they look at aren't the same
+pub elsewhere : (before after ours theirs : List Question) → AreThose before ours → AreThose after theirs → (AreThose before after → ⊥) → same_lists same_question ours theirs ≡ false
+elsewhere before after ours theirs of_ours of_theirs apart = go (same_lists same_question ours theirs) refl
+  where
+    go : (b : Bool) → same_lists same_question ours theirs ≡ b → b ≡ false
+    go false e = refl
+    go true e =
+        let same : ours ≡ theirs = lists_exact same_question question_exact ours theirs e in
+        absurd (apart (λ q. (λ h. (of_theirs q).1 (subst (λ (qs : List Question). Contains qs q) same ((of_ours q).0 h)), λ h. (of_ours q).1 (subst (λ (qs : List Question). Contains qs q) (sym same) ((of_theirs q).0 h)))))
+
+pub those_back : (first second : List Question) → (AreThose second first → ⊥) → AreThose first second → ⊥
+those_back first second apart h = apart (λ q. ((h q).1, (h q).0))

@@ -1,5 +1,6 @@
 // What a slot reads in one case and not in another.
-ghost use Rattle.std.specs.Prelude.{IfOk, OnOk};
+ghost use Rattle.std.specs.Prelude.{IfOk, IsTrue, OnOk};
+ghost use Rattle.opa_mean.specs.Gathering.{AreThose};
 ghost use Rattle.opa_session.specs.Readers.Touches.{AreWithout, Sifts};
 
 use crate::readers::asked::Asked;
@@ -25,6 +26,19 @@ pub(crate) fn without(
         sift(alloc, question, &mut passed, &mut left)?;
     }
     Ok(left)
+}
+
+/// Whether some of several questions aren't among others.
+pub(crate) fn has_others(
+    alloc: Global,
+    questions: &[Question],
+    others: &[Question],
+) -> Result<bool, NoMemory>
+    ensures { IfOk result (λ some. IsTrue some → AreThose questions.now others.now → ⊥) }
+{
+    let left = without(alloc, questions, others)?;
+    let rest = left.as_slice();
+    Ok(!rest.is_empty())
 }
 
 /// Takes a question, if it wasn't passed yet.

@@ -11,7 +11,7 @@ use crate::readers::index::Index;
 use opa_case::{Case, InstanceId, Question};
 use opa_cells::Cells;
 use opa_io::NoMemory;
-use opa_mean::reads;
+use opa_mean::gathered_over;
 use opa_model::AttrId;
 use opa_tree::Rulebase;
 use std::alloc::Global;
@@ -39,7 +39,7 @@ pub(crate) fn add_reader(
     requires slot { place.is_slot base.now case.now attr inst.now ≡ true }
     ensures { OnOk result (AddsReads (slot_reads base.now case.now attr inst.now) attr inst.now index.old index.new) }
 {
-    let found = reads(alloc, base, case, attr, inst)?;
+    let found = gathered_over(alloc, base, case, attr, inst)?;
     let questions = found.as_slice();
     add_questions(alloc, questions, attr, inst, index)?;
     Ok(())

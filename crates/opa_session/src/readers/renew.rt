@@ -1,6 +1,7 @@
 // What a change of a list makes of the readers.
 ghost use Rattle.std.specs.Prelude.{◌≡◌, [], IfOk};
 ghost use Rattle.opa_case.specs.Overlays.{relisted_case};
+ghost use Rattle.opa_mean.specs.Gathering.{AreThose};
 ghost use Rattle.opa_mean.specs.Reached.ByLists.{AreListsTold, IsByLists};
 ghost use Rattle.opa_mean.specs.Reached.Settling.{AreReaders, shift};
 ghost use Rattle.opa_mean.specs.Slots as place;
@@ -18,7 +19,7 @@ use crate::settlement::Tasks;
 use crate::store::Owners;
 use opa_case::{Case, InstanceId, Question, Relisted};
 use opa_io::{List, NoMemory};
-use opa_mean::{Slot, is_slot, owner_of, reads_over};
+use opa_mean::{Slot, gathered_over, is_slot, owner_of};
 use opa_model::AttrId;
 use opa_tree::Rulebase;
 use std::alloc::Global;
@@ -95,10 +96,10 @@ fn reads_before(
     attr: AttrId,
     inst: &InstanceId,
 ) -> Result<List<Question>, NoMemory>
-    ensures { IfOk result (λ reads. reads ≡ reads_in base.now held.now attr inst.now) }
+    ensures { IfOk result (λ reads. AreThose reads (reads_in base.now held.now attr inst.now)) }
 {
     if is_slot(base, held, attr, inst) {
-        let reads = reads_over(alloc, base, held, attr, inst)?;
+        let reads = gathered_over(alloc, base, held, attr, inst)?;
         Ok(reads)
     } else {
         Ok(List::new(alloc))
@@ -112,10 +113,10 @@ fn reads_then(
     attr: AttrId,
     inst: &InstanceId,
 ) -> Result<List<Question>, NoMemory>
-    ensures { IfOk result (λ reads. reads ≡ reads_in base.now (relisted_case next.now) attr inst.now) }
+    ensures { IfOk result (λ reads. AreThose reads (reads_in base.now (relisted_case next.now) attr inst.now)) }
 {
     if is_slot_then(base, next, attr, inst) {
-        let reads = reads_over(alloc, base, next, attr, inst)?;
+        let reads = gathered_over(alloc, base, next, attr, inst)?;
         Ok(reads)
     } else {
         Ok(List::new(alloc))

@@ -1,8 +1,9 @@
 // Which slots a change reaches.
-ghost use Rattle.std.specs.Prelude.{◌≡◌, ◌<◌, ◌+◌, ◌^◌, true, cond, not, filter, is_some, length, IfOk, IfSome};
+ghost use Rattle.std.specs.Prelude.{◌≡◌, ◌<◌, ◌+◌, ◌^◌, true, false, cond, not, filter, is_some, length, IfOk, IfSome, IsTrue};
 ghost use Rattle.std.specs.List.{list_any};
 ghost use Rattle.opa_case.specs.Cases.{IsLive};
 ghost use Rattle.opa_session.specs.Telling.Reaching.{reads_same, AreSlots, ArePlaced, HasPlaceIn};
+ghost use Rattle.opa_mean.specs.Gathering.{AreThose};
 ghost use Rattle.opa_mean.specs.Reached.Dirty as law;
 ghost use Rattle.opa_mean.specs.Reached.Dirty.{slot_reads};
 ghost use Rattle.opa_mean.specs.Changes as meant;
@@ -11,12 +12,14 @@ ghost use Rattle.opa_date.specs.declared.TheConstants.{DAYS};
 ghost use Rattle.opa_mean.specs.Rulebases.{IsOf, value_at};
 ghost use Rattle.opa_mean.specs.Slots as place;
 
+use crate::readers::has_others;
 use crate::telling::lines::held_day;
 use crate::telling::lists::{has_stayed, list_differs, same_questions};
+use crate::telling::nested::is_nested;
 use crate::telling::walk::slots;
 use opa_case::{Case, InstanceId, Question};
 use opa_io::{List, NoMemory};
-use opa_mean::{Held, fresh_or_reads, reads, reads_are_lower};
+use opa_mean::{Held, fresh_or_reads, gathered_over, reads, reads_are_lower};
 use opa_model::AttrId;
 use opa_tree::Rulebase;
 use std::alloc::Global;
@@ -148,6 +151,9 @@ fn same_reads(
     ensures placed { IfOk result (λ o. IfSome o (ArePlaced base.now old.now new.now)) }
 {
     reads_are_lower();
+    if looks_elsewhere(alloc, base, old, new, attr, inst)? {
+        return Ok(None);
+    }
     let before = reads(alloc, base, old, attr, inst)?;
     let after = reads(alloc, base, new, attr, inst)?;
     let first = before.as_slice();
@@ -157,6 +163,40 @@ fn same_reads(
     } else {
         Ok(None)
     }
+}
+
+/// Whether the rule of a slot with nested quantifiers looks at something in one case that it doesn't look at in the other. It
+/// is told by what is gathered, which is less than what is compared otherwise.
+fn looks_elsewhere(
+    alloc: Global,
+    base: &Rulebase,
+    old: &Case,
+    new: &Case,
+    attr: AttrId,
+    inst: &InstanceId,
+) -> Result<bool, NoMemory>
+    ensures { IfOk result (λ elsewhere. IsTrue elsewhere → reads_same base.now old.now new.now attr inst.now ≡ false) }
+{
+    if !is_nested(base, attr) {
+        return Ok(false);
+    }
+    let before = gathered_over(alloc, base, old, attr, inst)?;
+    let after = gathered_over(alloc, base, new, attr, inst)?;
+    let first = before.as_slice();
+    let second = after.as_slice();
+    let apart = are_apart(alloc, first, second)?;
+    Ok(apart)
+}
+
+/// Whether two lists haven't the same questions.
+fn are_apart(alloc: Global, first: &[Question], second: &[Question]) -> Result<bool, NoMemory>
+    ensures { IfOk result (λ apart. IsTrue apart → AreThose first.now second.now → ⊥) }
+{
+    if has_others(alloc, first, second)? {
+        return Ok(true);
+    }
+    let others = has_others(alloc, second, first)?;
+    Ok(others)
 }
 
 fn any_differs<H: Held, K: Held>(

@@ -1,0 +1,6 @@
+use Rattle.std.proofs.Common.{Some, ◌∙◌, sym, ap}
+use Rattle.opa_cells.proofs.Orders.{same_is}
+use Rattle.opa_report.proofs.alike.is_one_place.Goals as goal
+
+pub returns-in-Some-Some : goal.returns-in-Some-Some
+returns-in-Some-Some g c = λ yes. sym c.in-Some-Some.ensures ∙ ap Some (same_is c.in-Some-Some.one.now c.in-Some-Some.other.now (sym c.equals.ensures ∙ yes)) ∙ c.in-Some-Some.ensures'
