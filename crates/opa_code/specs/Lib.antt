@@ -3,6 +3,7 @@ pub mod Coding
 pub mod Fresh
 pub mod Keeping
 pub mod Laws
+pub mod LinesOfMembers
 pub mod Mentions
 pub mod Rulebases
 pub mod Runnable

@@ -8,6 +8,7 @@ mod gather;
 mod kept;
 mod laws;
 mod leave;
+mod lines_of_members;
 mod members;
 mod node;
 pub mod over_lines;
@@ -19,6 +20,7 @@ mod tree_lines;
 
 pub use code::Code;
 pub use laws::code_is_short;
+pub use lines_of_members::MemberLines;
 pub use over_lines::{
     Gathering, Items, Operand, amount, certain_line, choice_line, constant_of, first_line,
     fitted_line, gathered, gathering_of, item_line, known_line, not_line, op_line, quantified,

@@ -45,7 +45,7 @@ pub(crate) fn run<'a, K: Look>(
 
 /// The same for one of several members, for which lines of the nodes' quantifiers are kept.
 #[cycle(running)]
-fn run_among<'a, K: Look>(
+pub(crate) fn run_among<'a, K: Look>(
     alloc: Global,
     look: &'a K,
     nodes: &[Node],

@@ -45,7 +45,7 @@ pub fn tree_line<H: Held>(
 }
 
 /// Whether nodes can be run: those of rules can.
-fn can_run(nodes: &[Node]) -> bool
+pub(crate) fn can_run(nodes: &[Node]) -> bool
     ensures { result ≡ list_all runs nodes.now }
 {
     for node in nodes {
@@ -80,7 +80,7 @@ fn left_line<K: Look>(
 }
 
 /// The value at each day, one after another.
-fn day_by_day<H: Held>(
+pub(crate) fn day_by_day<H: Held>(
     alloc: Global,
     held: &H,
     tree: &Expr,
