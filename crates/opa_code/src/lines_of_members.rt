@@ -4,7 +4,8 @@ ghost use Rattle.std.specs.List.{AllByRecursion};
 ghost use Rattle.opa_case.specs.Cases.{IsLive};
 ghost use Rattle.opa_date.specs.declared.TheConstants.{DAYS};
 ghost use Rattle.opa_line.specs.Lines.{StandsFor};
-ghost use Rattle.opa_code.specs.Fresh.{fresh_value};
+ghost use Rattle.opa_code.specs.Fresh.{IsLeft, fresh_value};
+ghost use Rattle.opa_code.specs.Keeping.{AreRight};
 ghost use Rattle.opa_code.specs.LinesOfMembers.{AreLinesOf};
 
 use crate::gather::nodes_in;
@@ -16,7 +17,7 @@ use crate::tree_lines::{can_run, day_by_day};
 use opa_case::InstanceId;
 use opa_io::{List, NoMemory};
 use opa_line::Line;
-use opa_mean::{Held, HeldLook};
+use opa_mean::{Held, HeldLook, Look};
 use opa_tree::Expr;
 use opa_value::Value;
 use std::alloc::Global;
@@ -59,16 +60,44 @@ impl MemberLines {
         ensures line { IfOk result (StandsFor DAYS (fresh_value (H.rules held.now) (H.held held.now) tree.now enclosing.now)) }
         ensures stay { OnOk result (AreLinesOf (H.rules held.now) (H.held held.now) tree.now self.new) }
     {
+        let _case = held.case();
         let nodes = self.nodes.as_slice();
         if can_run(nodes) {
-            let look = HeldLook { held };
-            let lines = run_among(alloc, &look, nodes, enclosing, &mut self.kept)?;
-            taken_first(alloc, lines)
+            left_among(alloc, &HeldLook { held }, nodes, enclosing, &mut self.kept)
         } else {
-            let all = copied(alloc, enclosing)?;
-            day_by_day(alloc, held, tree, &all)
+            by_days(alloc, held, tree, enclosing)
         }
     }
+}
+
+/// What nodes leave at one of several members, over what is looked up.
+fn left_among<K: Look>(
+    alloc: Global,
+    look: &K,
+    nodes: &[Node],
+    enclosing: &[InstanceId],
+    kept: &mut Kept,
+) -> Result<Line<Value>, NoMemory>
+    requires { AreRight (K.looks look.now) nodes.now kept.old.lines.items }
+    ensures left { IfOk result (IsLeft (K.looks look.now) enclosing.now nodes.now) }
+    ensures right { OnOk result (AreRight (K.looks look.now) nodes.now kept.new.lines.items) }
+{
+    let lines = run_among(alloc, look, nodes, enclosing, kept)?;
+    taken_first(alloc, lines)
+}
+
+/// The value at each day, for a tree whose nodes can't be run.
+fn by_days<H: Held>(
+    alloc: Global,
+    held: &H,
+    tree: &Expr,
+    enclosing: &[InstanceId],
+) -> Result<Line<Value>, NoMemory>
+    requires { AllByRecursion (IsLive (H.held held.now)) enclosing.now }
+    ensures { IfOk result (StandsFor DAYS (fresh_value (H.rules held.now) (H.held held.now) tree.now enclosing.now)) }
+{
+    let all = copied(alloc, enclosing)?;
+    day_by_day(alloc, held, tree, &all)
 }
 
 fn copied(alloc: Global, enclosing: &[InstanceId]) -> Result<List<InstanceId>, NoMemory>
