@@ -9,7 +9,7 @@ ghost use Rattle.opa_window.specs.Days.{day_value};
 
 use crate::Sight;
 use opa_case::{Case, InstanceId};
-use opa_code::tree_line;
+use opa_code::{MemberLines, tree_line};
 use opa_io::{List, NoMemory, Txt};
 use opa_line::Line;
 use opa_mean::{Held, owner_of, place_in, source_of, target_of};
@@ -27,6 +27,7 @@ pub(crate) struct HeldSight<'a, H: Held> {
 impl<'a, H: Held> Sight for HeldSight<'a, H> {
     ghost use Rattle.opa_case.specs.Cases.{IsLive};
     ghost use Rattle.opa_case.specs.Shapes.{shape_of};
+    ghost use Rattle.opa_code.specs.LinesOfMembers.{AreLinesOf};
     ghost use Rattle.opa_mean.specs.Given.{base_of, facts_of};
     ghost use Rattle.opa_mean.specs.Mean.{look_of, mean};
 
@@ -36,6 +37,8 @@ impl<'a, H: Held> Sight for HeldSight<'a, H> {
         (mean (base_of (H.rules s.held.now)) (facts_of (H.held s.held.now))) };
 
     ghost live = { λ s i. IsLive (H.held s.held.now) i };
+
+    ghost are_lines = { λ s tree lines. AreLinesOf (H.rules s.held.now) (H.held s.held.now) tree lines };
 
     fn place<'b>(&'b self, enclosing: &'b [InstanceId], attr: AttrId) -> Option<&'b InstanceId> {
         place_in(
@@ -109,6 +112,30 @@ impl<'a, H: Held> Sight for HeldSight<'a, H> {
         if are_live(case, enclosing) {
             let inside = copied(alloc, enclosing)?;
             tree_line(alloc, self.held, tree, &inside)
+        } else {
+            Line::constant(alloc, Value::Unknown)
+        }
+    }
+
+    fn member_lines(
+        &self,
+        alloc: Global,
+        tree: &Expr,
+        entity: u32,
+    ) -> Result<MemberLines, NoMemory> {
+        MemberLines::of(alloc, self.held, tree, entity)
+    }
+
+    fn line_at(
+        &self,
+        alloc: Global,
+        lines: &mut MemberLines,
+        tree: &Expr,
+        enclosing: &[InstanceId],
+    ) -> Result<Line<Value>, NoMemory> {
+        let case = self.held.case();
+        if are_live(case, enclosing) {
+            lines.at(alloc, self.held, tree, enclosing)
         } else {
             Line::constant(alloc, Value::Unknown)
         }

@@ -1,4 +1,4 @@
-use Rattle.std.proofs.Common.{◌≡◌, ◌∙◌, ◌∷◌, [], ◌++◌, ◌&&◌, Some, ap, sym, subst, map, true, false}
+use Rattle.std.proofs.Common.{◌≡◌, ◌∙◌, ◌∷◌, [], ◌++◌, ◌&&◌, Some, refl, ap, sym, subst, map, true, false}
 use Rattle.std.specs.Prelude.{flat_map}
 use Rattle.std.specs.List.{AllByRecursion}
 use Rattle.std.proofs.lemmas.Result.{on_ok_weaker}
@@ -23,6 +23,7 @@ use Rattle.opa_report.proofs.Keeping.{on_ok_under, adds_missing, added_found, fo
 use Rattle.opa_report.proofs.Dating.{back_leads, back_low}
 use Rattle.opa_report.proofs.Going.{all_at, line_at, each_step, going_step, going_end, rows_step, rows_end}
 use Rattle.opa_report.proofs.Parts.{one_is, two_are, over_known, over_unknown, over_deciding, over_each, over_tested, over_few, over_two, over_many, names_live, window_two, window_three}
+use Rattle.opa_tree.specs.declared.expr.Expr.TheVariants as V
 use Rattle.opa_mean.proofs.UseLaws.{uses-Const, uses-Attr, uses-All, uses-Any, uses-Not, uses-Op, uses-Certain, uses-Known, uses-Over, uses-Window, uses-Rolling, uses-Table}
 use Rattle.opa_report.proofs.spread.+spreading.Goals as goal
 
@@ -77,25 +78,31 @@ spread_tree-returns-in-Op-clause-adds g t c = λ live known.
     on_ok_weaker c.spread_each.result (λ a. adds_same (on c.args.days.now) _ _ c.args.found.now _
     (λ d _ _. ap (flat_map (λ e. uses s l e E d)) c.as_slice-in-Op.ensures ∙ sym (ap (λ e. uses s l e E d) c.in-Op.is ∙ uses-Op s l c.in-Op.field-0 c.in-Op.parts E d)) a) (c.spread_each.ensures.adds live known)
 
-pub spread_tree-returns-in-None-source-clause-adds : goal.spread_tree-returns-in-None-source-clause-adds
-spread_tree-returns-in-None-source-clause-adds g t c = λ live known.
-    let s = g.S.Sight.shape c.args.sight.now in let l = g.S.Sight.look c.args.sight.now in let E = c.args.enclosing.now in let r = c.in-Over.rel in
-    adds_same (on c.args.days.now) (λ _. []) _ c.args.found.now _ (λ d _ _. sym (ap (λ e. uses s l e E d) c.in-Over.is ∙ uses-Over s l c.in-Over.quant r c.in-Over.parts E d
-    ∙ ap (λ o. at_place_uses o (λ i. Listed r i ∷ over_uses s l c.in-Over.quant (s.target r) (l.members r i) (map (λ e. (e, uses s l e)) c.in-Over.parts) E d)) (sym c.in-None-source.ensures))) (adds_nothing (on c.args.days.now) c.args.found.now)
-
-pub spread_tree-returns-in-None-members-clause-adds : goal.spread_tree-returns-in-None-members-clause-adds
-spread_tree-returns-in-None-members-clause-adds g t c = λ live known.
+pub spread_tree-returns-in-Over-clause-adds : goal.spread_tree-returns-in-Over-clause-adds
+spread_tree-returns-in-Over-clause-adds g t c = λ live known.
     let s = g.S.Sight.shape c.args.sight.now in let l = g.S.Sight.look c.args.sight.now in let E = c.args.enclosing.now in
-    adds_same (on c.args.days.now) _ _ c.args.found.now _ (λ d _ _. over_unknown s l c.in-Over.quant c.in-Over.rel c.in-Over.parts c.in-Some-source.inst.now E d c.in-Some-source.ensures c.in-None-members.ensures.list ∙ sym (ap (λ e. uses s l e E d) c.in-Over.is)) c.in_ok-add_list-in-Some-source.ensures
+    on_ok_weaker c.spread_quantifier.result (λ a. adds_same (on c.args.days.now) _ _ c.args.found.now _
+    (λ d _ _. ap (λ es. uses s l (V.Over c.in-Over.quant c.in-Over.rel es) E d) c.as_slice-in-Over.ensures ∙ sym (ap (λ e. uses s l e E d) c.in-Over.is)) a) (c.spread_quantifier.ensures live)
 
-pub spread_tree-returns-in-Some-members-clause-adds : goal.spread_tree-returns-in-Some-members-clause-adds
-spread_tree-returns-in-Some-members-clause-adds g t c = λ live known.
+pub spread_quantifier-returns-in-None : goal.spread_quantifier-returns-in-None
+spread_quantifier-returns-in-None g t c = λ live.
+    let s = g.S.Sight.shape c.args.sight.now in let l = g.S.Sight.look c.args.sight.now in let E = c.args.enclosing.now in let q = c.args.quant in let r = c.args.rel in
+    adds_same (on c.args.days.now) (λ _. []) _ c.args.found.now _ (λ d _ _. sym (uses-Over s l q r c.args.trees.now E d
+    ∙ ap (λ o. at_place_uses o (λ i. Listed r i ∷ over_uses s l q (s.target r) (l.members r i) (map (λ e. (e, uses s l e)) c.args.trees.now) E d)) (sym c.in-None.ensures))) (adds_nothing (on c.args.days.now) c.args.found.now)
+
+pub spread_quantifier-returns-in-None-members : goal.spread_quantifier-returns-in-None-members
+spread_quantifier-returns-in-None-members g t c = λ live.
     let s = g.S.Sight.shape c.args.sight.now in let l = g.S.Sight.look c.args.sight.now in let E = c.args.enclosing.now in
-    let names = c.as_slice-in-Some-members.result.now in let es = c.as_slice-in-Some-members-2.result.now in let i = c.in-Some-source.inst.now in
-    on_ok_weaker c.spread_over.result (λ a. adds_same (on c.args.days.now) (λ d. (Listed c.in-Over.rel i ∷ []) ++ over_uses s l c.in-Over.quant c.target.result (Some names) (map (λ e. (e, uses s l e)) es) E d) _ c.args.found.now _
-    (λ d _ _. over_known s l c.in-Over.quant c.in-Over.rel c.in-Over.parts es i c.target.result c.in-Some-members.names.now names E d c.as_slice-in-Some-members-2.ensures c.target.ensures c.as_slice-in-Some-members.ensures c.in-Some-source.ensures c.in-Some-members.ensures.list
-    ∙ sym (ap (λ e. uses s l e E d) c.in-Over.is)) (adds_both (on c.args.days.now) _ _ c.args.found.now _ _ c.in_ok-add_list-in-Some-source.ensures a))
-    (c.spread_over.ensures (names_live (g.S.Sight.live c.args.sight.now) (s.target c.in-Over.rel) c.target.result c.in-Some-members.names.now names c.target.ensures c.as_slice-in-Some-members.ensures c.in-Some-members.ensures.listed) live)
+    adds_same (on c.args.days.now) _ _ c.args.found.now _ (λ d _ _. over_unknown s l c.args.quant c.args.rel c.args.trees.now c.in-Some.inst.now E d c.in-Some.ensures c.in-None-members.ensures.list) c.in_ok-add_list-in-Some.ensures
+
+pub spread_quantifier-returns-in-Some-members : goal.spread_quantifier-returns-in-Some-members
+spread_quantifier-returns-in-Some-members g t c = λ live.
+    let s = g.S.Sight.shape c.args.sight.now in let l = g.S.Sight.look c.args.sight.now in let E = c.args.enclosing.now in
+    let names = c.as_slice.result.now in let es = c.args.trees.now in let i = c.in-Some.inst.now in
+    on_ok_weaker c.spread_over.result (λ a. adds_same (on c.args.days.now) (λ d. (Listed c.args.rel i ∷ []) ++ over_uses s l c.args.quant c.target.result (Some names) (map (λ e. (e, uses s l e)) es) E d) _ c.args.found.now _
+    (λ d _ _. over_known s l c.args.quant c.args.rel es es i c.target.result c.in-Some-members.names.now names E d refl c.target.ensures c.as_slice.ensures c.in-Some.ensures c.in-Some-members.ensures.list)
+    (adds_both (on c.args.days.now) _ _ c.args.found.now _ _ c.in_ok-add_list-in-Some.ensures a))
+    (c.spread_over.ensures (names_live (g.S.Sight.live c.args.sight.now) (s.target c.args.rel) c.target.result c.in-Some-members.names.now names c.target.ensures c.as_slice.ensures c.in-Some-members.ensures.listed) live)
 
 pub spread_tree-returns-in-Window-clause-adds : goal.spread_tree-returns-in-Window-clause-adds
 spread_tree-returns-in-Window-clause-adds g t c = λ live known.
@@ -232,9 +239,10 @@ first_members-loop-name-preserved g t c = (
       let within' = subst (AllByRecursion (g.S.Sight.live c.args.sight.now)) (sym inner') lives' in
       going_step (λ d n. is_truth c.args.truth (value s l c.args.tree.now (named c.args.target n ∷ E) d)) (λ d n. uses s l c.args.tree.now (named c.args.target n ∷ E) d) c.args.names.now c.args.days.now c.loop-name.name-index c.name-item.result c.args.truth c.in_ok-line.line c.in_ok-undecided.undecided c.loop-name.left c.in_ok-left-2.left c.in_ok-first.first
       c.args.found.now c.loop-name.found c.spread_among.new.found c.loop-name-test.true c.name-item.is (c.loop-name.invariant.0 names live)
-      (λ d lt. ap (is_truth c.args.truth) (line_at _ c.in_ok-line.line d (subst (λ es. StandsFor DAYS (value s l c.args.tree.now es) c.in_ok-line.line) inner (c.in_ok-line.ensures within)) lt))
-      (c.in_ok-undecided.ensures names live) c.in_ok-first.ensures c.in_ok-left-2.ensures (subst (λ es. Adds (on c.in_ok-first.first) (uses s l c.args.tree.now es) c.loop-name.found c.spread_among.new.found) inner' (c.in_ok-spread_among.ensures.adds within' (c.loop-name.invariant.1 names live))),
+      (λ d lt. ap (is_truth c.args.truth) (line_at _ c.in_ok-line.line d (subst (λ es. StandsFor DAYS (value s l c.args.tree.now es) c.in_ok-line.line) inner (c.in_ok-line.ensures.line within)) lt))
+      (c.in_ok-undecided.ensures.left names live) c.in_ok-first.ensures c.in_ok-left-2.ensures (subst (λ es. Adds (on c.in_ok-first.first) (uses s l c.args.tree.now es) c.loop-name.found c.spread_among.new.found) inner' (c.in_ok-spread_among.ensures.adds within' (c.loop-name.invariant.1 names live))),
   λ names live. c.in_ok-spread_among.ensures.stays (subst (AllByRecursion (g.S.Sight.live c.args.sight.now)) (sym (c.as_slice-in-loop-name.ensures ∙ c.in_ok-inner.ensures)) (all_at (λ n. g.S.Sight.live c.args.sight.now (named c.args.target n)) c.args.names.now c.loop-name.name-index c.name-item.result names c.loop-name-test.true c.name-item.is, live)) (c.loop-name.invariant.1 names live),
+  c.in_ok-line.ensures.stay,
 )
 
 pub first_members-returns : goal.first_members-returns
@@ -253,12 +261,13 @@ taken_members-loop-name-preserved g t c = (
       let inner' : c.as_slice-in-loop-name.result.now ≡ named c.args.target c.name-item.result ∷ E = c.as_slice-in-loop-name.ensures ∙ c.in_ok-inner.ensures in
       let lives' : AllByRecursion (g.S.Sight.live c.args.sight.now) (named c.args.target c.name-item.result ∷ E) = (all_at (λ n. g.S.Sight.live c.args.sight.now (named c.args.target n)) c.args.names.now c.loop-name.name-index c.name-item.result names c.loop-name-test.true c.name-item.is, live) in
       let within' = subst (AllByRecursion (g.S.Sight.live c.args.sight.now)) (sym inner') lives' in
-      let stands = subst (λ es. StandsFor DAYS (value s l c.args.test.now es) c.in_ok-line.line) inner (c.in_ok-line.ensures within) in
+      let stands = subst (λ es. StandsFor DAYS (value s l c.args.test.now es) c.in_ok-line.line) inner (c.in_ok-line.ensures.line within) in
       each_step (on c.args.days.now) (λ d n. taken_uses s l c.args.number.now c.args.test.now (named c.args.target n ∷ E) d) c.args.names.now c.loop-name.name-index c.name-item.result _ _ _ c.loop-name-test.true c.name-item.is (c.loop-name.invariant.0 names live)
       (adds_where (on c.args.days.now) (λ d. is_true (value s l c.args.test.now (named c.args.target c.name-item.result ∷ E) d)) (on c.in_ok-taken.taken) (uses s l c.args.number.now (named c.args.target c.name-item.result ∷ E)) _ _
       (λ d lt. on_is _ c.in_ok-taken.taken d c.in_ok-taken.ensures lt ∙ ap (λ v. on c.args.days.now d && is_true v) (line_at _ c.in_ok-line.line d stands lt))
       (subst (λ es. Adds (on c.in_ok-taken.taken) (uses s l c.args.number.now es) c.loop-name.found c.spread_among.new.found) inner' (c.in_ok-spread_among.ensures.adds within' (c.loop-name.invariant.1 names live)))),
   λ names live. c.in_ok-spread_among.ensures.stays (subst (AllByRecursion (g.S.Sight.live c.args.sight.now)) (sym (c.as_slice-in-loop-name.ensures ∙ c.in_ok-inner.ensures)) (all_at (λ n. g.S.Sight.live c.args.sight.now (named c.args.target n)) c.args.names.now c.loop-name.name-index c.name-item.result names c.loop-name-test.true c.name-item.is, live)) (c.loop-name.invariant.1 names live),
+  c.in_ok-line.ensures.stay,
 )
 
 pub taken_members-returns : goal.taken_members-returns
@@ -295,12 +304,10 @@ pub spread_tree-returns-in_ok-rest-in-Table-clause-stays : goal.spread_tree-retu
 spread_tree-returns-in_ok-rest-in-Table-clause-stays g t c =
     on_ok_weaker c.spread_among-in-Table.result (λ h live known. h live (c.in_ok-rest-in-Table.ensures.stays live known)) c.spread_among-in-Table.ensures.stays
 
-pub spread_tree-returns-in-Some-members-clause-stays : goal.spread_tree-returns-in-Some-members-clause-stays
-spread_tree-returns-in-Some-members-clause-stays g t c =
-    let s = g.S.Sight.shape c.args.sight.now in let l = g.S.Sight.look c.args.sight.now in let E = c.args.enclosing.now in
-    let names = c.as_slice-in-Some-members.result.now in
-    on_ok_under _ c.spread_over.result (λ live. on_ok_weaker c.spread_over.result (λ a known. found_grow s l _ _ _ c.spread_over.new.found c.args.kept.now.trees.items a (found_grow s l _ _ c.args.found.now _ c.args.kept.now.trees.items c.in_ok-add_list-in-Some-source.ensures known))
-    (c.spread_over.ensures (names_live (g.S.Sight.live c.args.sight.now) (s.target c.in-Over.rel) c.target.result c.in-Some-members.names.now names c.target.ensures c.as_slice-in-Some-members.ensures c.in-Some-members.ensures.listed) live))
+pub spread_tree-returns-in-Over-clause-stays : goal.spread_tree-returns-in-Over-clause-stays
+spread_tree-returns-in-Over-clause-stays g t c =
+    let s = g.S.Sight.shape c.args.sight.now in let l = g.S.Sight.look c.args.sight.now in
+    on_ok_under _ c.spread_quantifier.result (λ live. on_ok_weaker c.spread_quantifier.result (λ a known. found_grow s l _ _ c.args.found.now c.spread_quantifier.new.found c.args.kept.now.trees.items a known) (c.spread_quantifier.ensures live))
 
 pub spread_window-returns-in_ok-window-in-len2-clause-stays : goal.spread_window-returns-in_ok-window-in-len2-clause-stays
 spread_window-returns-in_ok-window-in-len2-clause-stays g t c =

@@ -9,5 +9,6 @@ use Rattle.opa_report.proofs.spread.undecided_member_days.Given as goal
 
 abbrev pub invariant-loop-name : goal.invariant-loop-name
 invariant-loop-name g l =
-    AllByRecursion (λ n. g.S.Sight.live l.sight (named l.target n)) l.names → AllByRecursion (g.S.Sight.live l.sight) l.enclosing
-    → AreLeft (λ d n. is_truth l.truth (value (g.S.Sight.shape l.sight) (g.S.Sight.look l.sight) l.tree (named l.target n ∷ l.enclosing) d)) (λ d n. uses (g.S.Sight.shape l.sight) (g.S.Sight.look l.sight) l.tree (named l.target n ∷ l.enclosing) d) l.names l.days l.name-index l.undecided
+    (AllByRecursion (λ n. g.S.Sight.live l.sight (named l.target n)) l.names → AllByRecursion (g.S.Sight.live l.sight) l.enclosing
+    → AreLeft (λ d n. is_truth l.truth (value (g.S.Sight.shape l.sight) (g.S.Sight.look l.sight) l.tree (named l.target n ∷ l.enclosing) d)) (λ d n. uses (g.S.Sight.shape l.sight) (g.S.Sight.look l.sight) l.tree (named l.target n ∷ l.enclosing) d) l.names l.days l.name-index l.undecided)
+    × g.S.Sight.are_lines l.sight l.tree l.lines
