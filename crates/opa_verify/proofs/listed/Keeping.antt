@@ -1,6 +1,5 @@
 -- What is kept of quantifiers that were seen.
-use Rattle.std.proofs.Common.{◌≡◌, inl, inr, ℕ, ◌<◌, List, [], ◌++◌, ◌∷◌, length, get_or, Result, Ok, Err, IfOk, Option, None, Some, sym, ◌∙◌, ap, subst}
-use Rattle.std.specs.Prelude.{IfSome}
+use Rattle.std.proofs.Common.{◌≡◌, inl, inr, ℕ, ◌<◌, List, [], length, get_or, Result, Ok, Err, IfOk, Some, sym, ◌∙◌, ap, subst}
 use Rattle.opa_date.specs.declared.TheConstants.{DAYS}
 use Rattle.opa_line.specs.Lines.{StandsFor}
 use Rattle.opa_case.specs.Shapes.{Shape}
