@@ -14,7 +14,7 @@ fn same_range(quant: Quant, rel: RelId, other: Quant, over: RelId) -> bool
 
 #[cycle(same)]
 #[tactic(auto, using(crate::proofs::SameLaws::front_passes, crate::proofs::SameLaws::nothing_is_left))]
-pub(crate) fn same_tree(tree: &Expr, other: &Expr) -> bool
+pub fn same_tree(tree: &Expr, other: &Expr) -> bool
     ensures { IsTrue result ↔ (tree.now ≡ other.now) }
 {
     match (tree, other) {

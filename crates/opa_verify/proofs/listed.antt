@@ -1,5 +1,7 @@
+pub mod Enclosed
 pub mod Halving
 pub mod HoldingUp
+pub mod Keeping
 pub mod Levels
 pub mod PartLaws
 pub mod Placed

@@ -1,3 +1,4 @@
+pub mod Keeping
 pub mod Listings
 pub mod Ones
 pub mod Seen

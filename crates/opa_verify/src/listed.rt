@@ -1,8 +1,10 @@
 // Listed evaluation: the value of a tree over what a report lists, or that it is missing; its laws, and how it is found
 // over whole lines.
 
+mod alike;
 mod holding;
 mod joins;
+mod kept;
 mod laws;
 mod members;
 mod ones;

@@ -36,7 +36,7 @@ span_is _ e a b x enclosing d = absurd (cc e)
 pub span_window : (w : WinKind) → has_span w ≡ true → (ls : List ShadeLine) (a b x l : ShadeLine) → ls ≡ a ∷ b ∷ x ∷ [] → StandsFor DAYS (λ d. span_shade (span_fold w) (shade_at x) (shade_at a d) (shade_at b d)) l → StandsFor DAYS (window_shade w (map shading_of ls) []) l
 span_window w e ls a b x l is h d lt = h d lt ∙ ap Some (span_is w e (shading_of a) (shading_of b) (shading_of x) [] d ∙ sym (ap (λ ls. window_shade w (map shading_of ls) [] d) is))
 
-more_is : (w : WinKind) (a b c e : Shading) (ms : List Shading) (enclosing : List InstanceId) (d : ℕ) → there Uncertain ≡ window_shade w (a ∷ b ∷ c ∷ e ∷ ms) enclosing d
+pub more_is : (w : WinKind) (a b c e : Shading) (ms : List Shading) (enclosing : List InstanceId) (d : ℕ) → there Uncertain ≡ window_shade w (a ∷ b ∷ c ∷ e ∷ ms) enclosing d
 more_is win.Before a b c e ms enclosing d = refl
 more_is _ a b c e ms enclosing d = refl
 

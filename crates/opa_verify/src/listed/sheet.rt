@@ -1,10 +1,13 @@
 // What a report lists, by lines.
 ghost use Rattle.std.specs.Prelude.{◌≡◌, IfOk};
+ghost use Rattle.std.specs.Option.{option_copied, option_map};
 ghost use Rattle.opa_case.specs.Shapes.{Shape};
 ghost use Rattle.opa_date.specs.declared.TheConstants.{DAYS};
 ghost use Rattle.opa_line.specs.Lines.{StandsFor};
+ghost use Rattle.opa_mean.specs.Places.{owner_of};
 ghost use Rattle.opa_verify.specs.Listed.Listings.{Listing};
 ghost use Rattle.opa_verify.specs.Listed.Walks.{attr_shade, listed_at};
+ghost use Rattle.opa_verify.specs.Listed.Ways.{place_seen};
 
 use crate::listed::shade::Shade;
 use opa_case::InstanceId;
@@ -47,4 +50,18 @@ pub trait Sheet {
 
     fn target(&self, rel: RelId) -> u32
         ensures { result ≡ (shape self.now).target rel };
+
+    fn source(&self, rel: RelId) -> u32
+        ensures { result ≡ (shape self.now).source rel };
+
+    fn owner(&self, attr: AttrId) -> u32
+        ensures { result ≡ owner_of (shape self.now) attr };
+
+    /// The place of an entity; none where it is missing.
+    fn place<'a>(
+        &'a self,
+        enclosing: &'a [InstanceId],
+        entity: u32,
+    ) -> Option<Option<&'a InstanceId>>
+        ensures { option_map option_copied result ≡ place_seen (listing self.now).container enclosing.now entity };
 }

@@ -3,12 +3,14 @@ ghost use Rattle.std.specs.Prelude.{◌≡◌, ◌<◌, ◌++◌, ◌∷◌, [],
 ghost use Rattle.opa_cells.specs.Instances.{named};
 ghost use Rattle.opa_date.specs.declared.TheConstants.{DAYS};
 ghost use Rattle.opa_line.specs.Lines.{StandsFor};
+ghost use Rattle.opa_verify.specs.Listed.Keeping.{Keeps};
 ghost use Rattle.opa_verify.specs.Listed.Shades.{Shading as Shadings, shade, table_shade, there, window_shade};
 ghost use Rattle.opa_verify.specs.Listed.ShadeLines.{shades_at, shading_of};
 ghost use Rattle.opa_mean.specs.Spans as spans;
 ghost use Rattle.opa_verify.specs.Listed.Walks.{item_shades_at, over_seen_at, row_shading, tree_shades};
 
 use crate::listed::joins::{decided_line, strict_line, taken_line};
+use crate::listed::kept::{SeenTree, kept_line, note};
 use crate::listed::members::{item_shades, quantified_shades, same_shades};
 use crate::listed::ones::{certain_shades, dated_shades, known_shades, not_shades};
 use crate::listed::shade::Shade;
@@ -23,7 +25,6 @@ use opa_value::Value;
 use std::alloc::Global;
 
 /// What is seen of a tree.
-#[cycle(down)]
 pub fn shade_line<K: Sheet>(
     alloc: Global,
     sheet: &K,
@@ -32,64 +33,109 @@ pub fn shade_line<K: Sheet>(
 ) -> Result<Line<Shade>, NoMemory>
     ensures { IfOk result (StandsFor DAYS (shade (K.shape sheet.now) (K.listing sheet.now) tree.now enclosing.now)) }
 {
+    let mut kept = Vec::new(alloc);
+    let line = shade_among(alloc, sheet, tree, enclosing, &mut kept)?;
+    Ok(line)
+}
+
+/// The same, with the quantifiers that were seen and are kept.
+#[cycle(down)]
+fn shade_among<'t, K: Sheet>(
+    alloc: Global,
+    sheet: &K,
+    tree: &'t Expr,
+    enclosing: &[InstanceId],
+    kept: &mut Vec<SeenTree<'t>>,
+) -> Result<Line<Shade>, NoMemory>
+    ensures { IfOk result (λ l. Keeps (K.shape sheet.now) (K.listing sheet.now) kept.old.items kept.new.items (StandsFor DAYS (shade (K.shape sheet.now) (K.listing sheet.now) tree.now enclosing.now) l)) }
+{
+    if !is_quantifier(tree) {
+        return shade_tree(alloc, sheet, tree, enclosing, kept);
+    }
+    match kept_line(alloc, sheet, kept, tree, enclosing)? {
+        Some(line) => Ok(line),
+        None => {
+            let line = shade_tree(alloc, sheet, tree, enclosing, kept)?;
+            note(alloc, kept, tree, enclosing, &line)?;
+            Ok(line)
+        }
+    }
+}
+
+fn is_quantifier(tree: &Expr) -> bool {
+    matches!(tree, Expr::Over(_, _, _))
+}
+
+/// What is seen of a tree by its parts.
+#[cycle(down)]
+fn shade_tree<'t, K: Sheet>(
+    alloc: Global,
+    sheet: &K,
+    tree: &'t Expr,
+    enclosing: &[InstanceId],
+    kept: &mut Vec<SeenTree<'t>>,
+) -> Result<Line<Shade>, NoMemory>
+    ensures { IfOk result (λ l. Keeps (K.shape sheet.now) (K.listing sheet.now) kept.old.items kept.new.items (StandsFor DAYS (shade (K.shape sheet.now) (K.listing sheet.now) tree.now enclosing.now) l)) }
+{
     match tree {
         Expr::Const(value) => there_line(alloc, value),
         Expr::Attr(attr) => sheet.attribute(alloc, *attr, enclosing),
         Expr::All(parts) => {
-            let lines = shade_lines(alloc, sheet, parts.as_slice(), enclosing)?;
+            let lines = shade_lines(alloc, sheet, parts.as_slice(), enclosing, kept)?;
             decided_line(alloc, true, &lines)
         }
         Expr::Any(parts) => {
-            let lines = shade_lines(alloc, sheet, parts.as_slice(), enclosing)?;
+            let lines = shade_lines(alloc, sheet, parts.as_slice(), enclosing, kept)?;
             decided_line(alloc, false, &lines)
         }
         Expr::Not(part) => {
-            let line = shade_line(alloc, sheet, part.get(), enclosing)?;
+            let line = shade_among(alloc, sheet, part.get(), enclosing, kept)?;
             not_shades(alloc, &line)
         }
         Expr::Op(kind, parts) => {
-            let lines = shade_lines(alloc, sheet, parts.as_slice(), enclosing)?;
+            let lines = shade_lines(alloc, sheet, parts.as_slice(), enclosing, kept)?;
             strict_line(alloc, *kind, &lines)
         }
         Expr::Certain(part) => {
-            let line = shade_line(alloc, sheet, part.get(), enclosing)?;
+            let line = shade_among(alloc, sheet, part.get(), enclosing, kept)?;
             certain_shades(alloc, &line)
         }
         Expr::Known(part) => {
-            let line = shade_line(alloc, sheet, part.get(), enclosing)?;
+            let line = shade_among(alloc, sheet, part.get(), enclosing, kept)?;
             known_shades(alloc, &line)
         }
         Expr::Over(quant, rel, parts) => {
-            shade_over(alloc, sheet, *quant, *rel, parts.as_slice(), enclosing)
+            shade_over(alloc, sheet, *quant, *rel, parts.as_slice(), enclosing, kept)
         }
         Expr::Window(kind, parts) => {
-            let lines = shade_lines(alloc, sheet, parts.as_slice(), enclosing)?;
+            let lines = shade_lines(alloc, sheet, parts.as_slice(), enclosing, kept)?;
             window_shades(alloc, *kind, &lines)
         }
         Expr::Rolling(always, count, part) => {
-            let line = shade_line(alloc, sheet, part.get(), enclosing)?;
+            let line = shade_among(alloc, sheet, part.get(), enclosing, kept)?;
             rolling_shades(alloc, *always, *count, &line)
         }
         Expr::Table(rows, last) => {
-            let line = shade_line(alloc, sheet, last.get(), enclosing)?;
-            shade_rows(alloc, sheet, rows.as_slice(), &line, enclosing)
+            let line = shade_among(alloc, sheet, last.get(), enclosing, kept)?;
+            shade_rows(alloc, sheet, rows.as_slice(), &line, enclosing, kept)
         }
     }
 }
 
 /// What is seen of several trees.
 #[cycle(down)]
-fn shade_lines<K: Sheet>(
+fn shade_lines<'t, K: Sheet>(
     alloc: Global,
     sheet: &K,
-    trees: &[Expr],
+    trees: &'t [Expr],
     enclosing: &[InstanceId],
+    kept: &mut Vec<SeenTree<'t>>,
 ) -> Result<Vec<Line<Shade>>, NoMemory>
-    ensures { IfOk result (λ ls. (d : ℕ) → d < DAYS → shades_at ls.items d ≡ tree_shades (K.shape sheet.now) (K.listing sheet.now) trees.now enclosing.now d) }
+    ensures { IfOk result (λ ls. Keeps (K.shape sheet.now) (K.listing sheet.now) kept.old.items kept.new.items ((d : ℕ) → d < DAYS → shades_at ls.items d ≡ tree_shades (K.shape sheet.now) (K.listing sheet.now) trees.now enclosing.now d)) }
 {
     let mut lines = Vec::new(alloc);
     for tree in trees {
-        let line = shade_line(alloc, sheet, tree, enclosing)?;
+        let line = shade_among(alloc, sheet, tree, enclosing, kept)?;
         add(&mut lines, line)?;
     }
     Ok(lines)
@@ -97,15 +143,16 @@ fn shade_lines<K: Sheet>(
 
 /// What is seen of a quantifier.
 #[cycle(down)]
-fn shade_over<K: Sheet>(
+fn shade_over<'t, K: Sheet>(
     alloc: Global,
     sheet: &K,
     quant: Quant,
     rel: RelId,
-    trees: &[Expr],
+    trees: &'t [Expr],
     enclosing: &[InstanceId],
+    kept: &mut Vec<SeenTree<'t>>,
 ) -> Result<Line<Shade>, NoMemory>
-    ensures { IfOk result (StandsFor DAYS (λ d. over_seen_at (K.shape sheet.now) (K.listing sheet.now) quant rel trees.now enclosing.now d)) }
+    ensures { IfOk result (λ l. Keeps (K.shape sheet.now) (K.listing sheet.now) kept.old.items kept.new.items (StandsFor DAYS (λ d. over_seen_at (K.shape sheet.now) (K.listing sheet.now) quant rel trees.now enclosing.now d) l)) }
 {
     match sheet.members(alloc, rel, enclosing)? {
         Listed::Missing => Line::constant(alloc, Shade::gone()),
@@ -121,6 +168,7 @@ fn shade_over<K: Sheet>(
                 names.as_slice(),
                 trees,
                 enclosing,
+                kept,
             )?;
             quantified_shades(alloc, quant, &lines)
         }
@@ -129,21 +177,22 @@ fn shade_over<K: Sheet>(
 
 /// What a quantifier makes of each listed instance, with it as the innermost enclosing one.
 #[cycle(down)]
-fn shade_items<K: Sheet>(
+fn shade_items<'t, K: Sheet>(
     alloc: Global,
     sheet: &K,
     quant: Quant,
     target: u32,
     names: &[Txt],
-    trees: &[Expr],
+    trees: &'t [Expr],
     enclosing: &[InstanceId],
+    kept: &mut Vec<SeenTree<'t>>,
 ) -> Result<Vec<Line<Shade>>, NoMemory>
-    ensures { IfOk result (λ ls. (d : ℕ) → d < DAYS → shades_at ls.items d ≡ item_shades_at (K.shape sheet.now) (K.listing sheet.now) quant target names.now trees.now enclosing.now d) }
+    ensures { IfOk result (λ ls. Keeps (K.shape sheet.now) (K.listing sheet.now) kept.old.items kept.new.items ((d : ℕ) → d < DAYS → shades_at ls.items d ≡ item_shades_at (K.shape sheet.now) (K.listing sheet.now) quant target names.now trees.now enclosing.now d)) }
 {
     let mut items = Vec::new(alloc);
     for name in names {
         let inner = within(alloc, target, name, enclosing)?;
-        let lines = shade_lines(alloc, sheet, trees, inner.as_slice())?;
+        let lines = shade_lines(alloc, sheet, trees, inner.as_slice(), kept)?;
         let item = item_shades(alloc, quant, &lines)?;
         add(&mut items, item)?;
     }
@@ -152,22 +201,23 @@ fn shade_items<K: Sheet>(
 
 /// What is seen of the rows of a table before what stands behind them.
 #[cycle(down)]
-fn shade_rows<K: Sheet>(
+fn shade_rows<'t, K: Sheet>(
     alloc: Global,
     sheet: &K,
-    rows: &[Row],
+    rows: &'t [Row],
     behind: &Line<Shade>,
     enclosing: &[InstanceId],
+    kept: &mut Vec<SeenTree<'t>>,
 ) -> Result<Line<Shade>, NoMemory>
-    ensures { IfOk result (λ l. (last : Shadings) → StandsFor DAYS (last enclosing.now) behind.now → StandsFor DAYS (table_shade (map (row_shading (K.shape sheet.now) (K.listing sheet.now)) rows.now) last enclosing.now) l) }
+    ensures { IfOk result (λ l. Keeps (K.shape sheet.now) (K.listing sheet.now) kept.old.items kept.new.items ((last : Shadings) → StandsFor DAYS (last enclosing.now) behind.now → StandsFor DAYS (table_shade (map (row_shading (K.shape sheet.now) (K.listing sheet.now)) rows.now) last enclosing.now) l)) }
 {
     let mut line = same_shades(alloc, behind)?;
     let mut place = rows.len();
     while place > 0 {
         place -= 1;
         let row = &rows[place];
-        let cond = shade_line(alloc, sheet, &row.cond, enclosing)?;
-        let value = shade_line(alloc, sheet, &row.value, enclosing)?;
+        let cond = shade_among(alloc, sheet, &row.cond, enclosing, kept)?;
+        let value = shade_among(alloc, sheet, &row.value, enclosing, kept)?;
         line = taken_line(alloc, &cond, &value, &line)?;
     }
     Ok(line)

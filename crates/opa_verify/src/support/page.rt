@@ -71,6 +71,22 @@ impl<'a> Sheet for Page<'a> {
     fn target(&self, rel: RelId) -> u32 {
         target_of(self.model, rel)
     }
+
+    fn source(&self, rel: RelId) -> u32 {
+        source_of(self.model, rel)
+    }
+
+    fn owner(&self, attr: AttrId) -> u32 {
+        owner_of(self.model, attr)
+    }
+
+    fn place<'b>(
+        &'b self,
+        enclosing: &'b [InstanceId],
+        entity: u32,
+    ) -> Option<Option<&'b InstanceId>> {
+        place_by(self, enclosing, entity)
+    }
 }
 
 /// What is told of a point over time.
