@@ -104,7 +104,7 @@ fn value_by_line<H: Held>(
 /// Whether the value of a tree at a day is taken from its line. What a function over time is worth at a day rests on other
 /// days, however many; and what a quantifier in another one is worth is determined once for all members only over lines.
 #[cycle(looking)]
-fn is_by_line(tree: &Expr, of_members: bool) -> bool {
+pub(crate) fn is_by_line(tree: &Expr, of_members: bool) -> bool {
     match tree {
         Expr::Const(_) | Expr::Attr(_) => false,
         Expr::Window(_, _) | Expr::Rolling(_, _, _) => true,

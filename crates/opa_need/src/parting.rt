@@ -6,9 +6,11 @@ ghost use Rattle.opa_cells.specs.Instances.{named};
 ghost use Rattle.opa_date.specs.declared.TheConstants.{DAYS};
 ghost use Rattle.opa_mean.specs.Uses.{Use};
 ghost use Rattle.opa_tree.specs.declared.kinds.Quant.TheVariants as quants;
+ghost use Rattle.opa_need.specs.Members.{AreOfOperands, AreValuesOf};
 ghost use Rattle.opa_need.specs.Steps.{StandFor, Adds, part_needs, part_value, tree_needs, member_needs};
 
 use crate::looking::{again, is_true, is_unknown, value_at};
+use crate::members::{MemberValues, OperandValues};
 use crate::operands::{Operands, taken};
 use crate::steps::Step;
 use opa_case::InstanceId;
@@ -75,10 +77,31 @@ pub(crate) fn add_part<'a, H: Held>(
     add_valued(alloc, held, steps, part, &value, enclosing, day)
 }
 
+/// Adds a part at a member.
+fn add_at<'a, H: Held>(
+    alloc: Global,
+    held: &H,
+    values: &mut MemberValues,
+    steps: &mut List<Step<'a>>,
+    part: &'a Expr,
+    inner: &List<InstanceId>,
+    day: u32,
+) -> Result<(), NoMemory>
+    requires day { day < DAYS }
+    requires live { AllByRecursion (IsLive (H.held held.now)) inner.now }
+    requires of { AreValuesOf (H.rules held.now) (H.held held.now) part.now values.old }
+    ensures adds { OnOk result (Adds (H.rules held.now) (H.held held.now) (part_needs (H.rules held.now) (H.held held.now) part.now inner.now day) steps.old steps.new) }
+    ensures stay { OnOk result (AreValuesOf (H.rules held.now) (H.held held.now) part.now values.new) }
+{
+    let value = values.at(alloc, held, part, inner, day)?;
+    add_valued(alloc, held, steps, part, &value, inner, day)
+}
+
 /// Adds what is looked at of a member of a quantifier.
 fn add_member<'a, H: Held>(
     alloc: Global,
     held: &H,
+    values: &mut OperandValues,
     steps: &mut List<Step<'a>>,
     quant: Quant,
     parts: &'a [Expr],
@@ -87,13 +110,17 @@ fn add_member<'a, H: Held>(
 ) -> Result<(), NoMemory>
     requires day { day < DAYS }
     requires live { AllByRecursion (IsLive (H.held held.now)) inner.now }
-    ensures { OnOk result (Adds (H.rules held.now) (H.held held.now) (member_needs (H.rules held.now) (H.held held.now) quant parts.now inner.now day) steps.old steps.new) }
+    requires of { AreOfOperands (H.rules held.now) (H.held held.now) parts.now values.old }
+    ensures adds { OnOk result (Adds (H.rules held.now) (H.held held.now) (member_needs (H.rules held.now) (H.held held.now) quant parts.now inner.now day) steps.old steps.new) }
+    ensures stay { OnOk result (AreOfOperands (H.rules held.now) (H.held held.now) parts.now values.new) }
 {
     match taken(parts) {
-        Operands::One(part) => add_part(alloc, held, steps, part, inner, day),
+        Operands::One(part) => {
+            add_at(alloc, held, &mut values.first, steps, part, inner, day)
+        }
         Operands::Two(number, test) => {
             if quant == Quant::SumIf {
-                add_tested(alloc, held, steps, number, test, inner, day)
+                add_tested(alloc, held, values, steps, number, test, inner, day)
             } else {
                 Ok(())
             }
@@ -106,6 +133,7 @@ fn add_member<'a, H: Held>(
 fn add_tested<'a, H: Held>(
     alloc: Global,
     held: &H,
+    values: &mut OperandValues,
     steps: &mut List<Step<'a>>,
     number: &'a Expr,
     test: &'a Expr,
@@ -114,13 +142,15 @@ fn add_tested<'a, H: Held>(
 ) -> Result<(), NoMemory>
     requires day { day < DAYS }
     requires live { AllByRecursion (IsLive (H.held held.now)) inner.now }
-    ensures { OnOk result (Adds (H.rules held.now) (H.held held.now) (member_needs (H.rules held.now) (H.held held.now) quants.SumIf (number.now ∷ test.now ∷ []) inner.now day) steps.old steps.new) }
+    requires of { AreOfOperands (H.rules held.now) (H.held held.now) (number.now ∷ test.now ∷ []) values.old }
+    ensures adds { OnOk result (Adds (H.rules held.now) (H.held held.now) (member_needs (H.rules held.now) (H.held held.now) quants.SumIf (number.now ∷ test.now ∷ []) inner.now day) steps.old steps.new) }
+    ensures stay { OnOk result (AreOfOperands (H.rules held.now) (H.held held.now) (number.now ∷ test.now ∷ []) values.new) }
 {
-    let value = value_at(alloc, held, test, inner, day)?;
+    let value = values.second.at(alloc, held, test, inner, day)?;
     add_valued(alloc, held, steps, test, &value, inner, day)?;
     let met = is_true(&value);
     if met {
-        add_part(alloc, held, steps, number, inner, day)
+        add_at(alloc, held, &mut values.first, steps, number, inner, day)
     } else {
         Ok(())
     }
@@ -130,6 +160,7 @@ fn add_tested<'a, H: Held>(
 pub(crate) fn member_steps<'a, H: Held>(
     alloc: Global,
     held: &H,
+    values: &mut OperandValues,
     quant: Quant,
     target: u32,
     name: &Txt,
@@ -140,10 +171,12 @@ pub(crate) fn member_steps<'a, H: Held>(
     requires day { day < DAYS }
     requires live { AllByRecursion (IsLive (H.held held.now)) enclosing.now }
     requires listed { IsLive (H.held held.now) (named target name.now) }
-    ensures { IfOk result (StandFor (H.rules held.now) (H.held held.now) (member_needs (H.rules held.now) (H.held held.now) quant parts.now (named target name.now ∷ enclosing.now) day)) }
+    requires of { AreOfOperands (H.rules held.now) (H.held held.now) parts.now values.old }
+    ensures steps { IfOk result (StandFor (H.rules held.now) (H.held held.now) (member_needs (H.rules held.now) (H.held held.now) quant parts.now (named target name.now ∷ enclosing.now) day)) }
+    ensures stay { OnOk result (AreOfOperands (H.rules held.now) (H.held held.now) parts.now values.new) }
 {
     let mut steps = List::new(alloc);
     let inner = within(alloc, target, name, enclosing.as_slice())?;
-    add_member(alloc, held, &mut steps, quant, parts, &inner, day)?;
+    add_member(alloc, held, values, &mut steps, quant, parts, &inner, day)?;
     Ok(steps)
 }

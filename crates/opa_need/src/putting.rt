@@ -6,6 +6,7 @@ ghost use Rattle.opa_date.specs.declared.TheConstants.{DAYS};
 ghost use Rattle.opa_need.specs.Steps.{AreListed, IsFirstMember, IsFirstPart, PutsOn, members_needs, part_needs, parts_needs, tree_needs};
 
 use crate::looking::{again, is_unknown, value_at};
+use crate::members::OperandValues;
 use crate::opening::open;
 use crate::parting::member_steps;
 use crate::steps::Step;
@@ -171,9 +172,12 @@ fn first_member<'a, H: Held>(
     requires listed { AreListed (H.rules held.now) (H.held held.now) target names.now }
     ensures { IfOk result (IsFirstMember (H.rules held.now) (H.held held.now) quant target names.now parts.now enclosing.now day) }
 {
+    let mut values = OperandValues::of(alloc, held, parts, target)?;
     let mut rest = names;
     while let Some((name, later)) = front(rest) {
-        let steps = member_steps(alloc, held, quant, target, name, parts, enclosing, day)?;
+        let steps = member_steps(
+            alloc, held, &mut values, quant, target, name, parts, enclosing, day,
+        )?;
         if steps.len() > 0 {
             return Ok(Some((steps, later)));
         }

@@ -5,8 +5,8 @@ use Rattle.opa_need.specs.Steps.{StandFor, member_needs}
 use Rattle.opa_need.proofs.OpeningLaws.{from_nothing}
 use Rattle.opa_need.proofs.parting.member_steps.Goals as goal
 
-pub returns : goal.returns
-returns g c =
+pub returns-clause-steps : goal.returns-clause-steps
+returns-clause-steps g c =
     let r = g.H.Held.rules c.args.held.now in let held = g.H.Held.held c.args.held.now in
     subst (λ (es : List InstanceId). StandFor r held (member_needs r held c.args.quant c.args.parts.now es c.args.day) c.add_member.new.steps) (c.in_ok-inner.ensures ∙ ap (λ es. named c.args.target c.args.name.now ∷ es) c.as_slice.ensures)
-    (from_nothing r held _ _ _ c.new-steps.ensures c.in_ok-add_member.ensures)
+    (from_nothing r held _ _ _ c.new-steps.ensures c.in_ok-add_member.ensures.adds)
