@@ -115,9 +115,7 @@ fn add_member<'a, H: Held>(
     ensures stay { OnOk result (AreOfOperands (H.rules held.now) (H.held held.now) parts.now values.new) }
 {
     match taken(parts) {
-        Operands::One(part) => {
-            add_at(alloc, held, &mut values.first, steps, part, inner, day)
-        }
+        Operands::One(part) => { add_at(alloc, held, &mut values.first, steps, part, inner, day) }
         Operands::Two(number, test) => {
             if quant == Quant::SumIf {
                 add_tested(alloc, held, values, steps, number, test, inner, day)

@@ -176,7 +176,15 @@ fn first_member<'a, H: Held>(
     let mut rest = names;
     while let Some((name, later)) = front(rest) {
         let steps = member_steps(
-            alloc, held, &mut values, quant, target, name, parts, enclosing, day,
+            alloc,
+            held,
+            &mut values,
+            quant,
+            target,
+            name,
+            parts,
+            enclosing,
+            day,
         )?;
         if steps.len() > 0 {
             return Ok(Some((steps, later)));

@@ -114,10 +114,7 @@ fn has_one_place<K: Sheet>(
 fn is_one_place<K: Sheet>(sheet: &K, here: &[InstanceId], there: &[InstanceId], entity: u32) -> bool
     ensures { IsTrue result → place_seen (K.listing sheet.now).container here.now entity ≡ place_seen (K.listing sheet.now).container there.now entity }
 {
-    match (
-        sheet.place(here, entity),
-        sheet.place(there, entity),
-    ) {
+    match (sheet.place(here, entity), sheet.place(there, entity)) {
         (None, None) => true,
         (Some(one), Some(other)) => is_one(one, other),
         _ => false,

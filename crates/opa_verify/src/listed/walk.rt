@@ -105,7 +105,15 @@ fn shade_tree<'t, K: Sheet>(
             known_shades(alloc, &line)
         }
         Expr::Over(quant, rel, parts) => {
-            shade_over(alloc, sheet, *quant, *rel, parts.as_slice(), enclosing, kept)
+            shade_over(
+                alloc,
+                sheet,
+                *quant,
+                *rel,
+                parts.as_slice(),
+                enclosing,
+                kept,
+            )
         }
         Expr::Window(kind, parts) => {
             let lines = shade_lines(alloc, sheet, parts.as_slice(), enclosing, kept)?;
