@@ -17,7 +17,7 @@ use opa_tree::Expr;
 use opa_value::Value;
 use std::alloc::Global;
 
-/// What the values of one part have in common at the members of a list: its lines, where its value is taken from a line.
+/// What the values of one part have in common at the members of a list: its lines, where its value comes from a line.
 #[derive(Drop)]
 pub(crate) struct MemberValues {
     lines: Option<MemberLines>,
