@@ -134,13 +134,14 @@ NESTED = {
     "counted": "InstanceCountIf(the persons, (number a > 0 and {} > 0))",
     "mixed": "InstanceMinimum(the persons, InstanceCountIf(the persons, (number a > 0 and {} > 0)) + number a)",
 }
+DEEPEST = {"greatest": 31, "counted": 21, "mixed": 12}
 members = [f"p{n}" for n in range(20_000)]
 for name, answers in {"no_answers": [], "answers": [{"attribute": "number a", "line": [[0, "n:1"], [200_000, f"n:{n % 7 + 1}"]], "of": member} for n, member in enumerate(members)]}.items():
     case = {"answers": answers, "format": "policy-case", "lists": [{"list": "the persons", "names": members, "of": ""}], "model": 0, "version": 2}
     write(f"persons_{name}.json", json.dumps(case, separators=(",", ":"), sort_keys=True), FILE)
 for kind, shape in NESTED.items():
     text = "number a"
-    for _ in range(31 if kind != "mixed" else 15):
+    for _ in range(DEEPEST[kind]):
         text = shape.format(text)
     write(f"quantifiers_{kind}.txt", f"global\n  number the total\nentity the person\n  in global: the persons\n  number number a\ngoal the total\nthe total = {text}\n", FILE)
     for name in ("no_answers", "answers"):
