@@ -48,3 +48,4 @@ pub mod ConeLying
 pub mod AttributeLists
 pub mod UsesAt
 pub mod Owned
+pub mod EqualLists

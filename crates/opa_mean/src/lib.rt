@@ -20,6 +20,7 @@ mod quantifiers;
 mod questions;
 pub mod reached;
 mod read;
+mod same_trees;
 mod slot_laws;
 mod slots;
 mod spans;
@@ -52,6 +53,7 @@ pub use reached::{
     nothing_is_fresh, readers_stay, readers_then, reads_are_lower, reads_stay,
     relisted_is_by_lists, settled_stays,
 };
+pub use same_trees::same_tree;
 pub use slot_laws::{
     changes_are, cone_lies, held_is_fresh, instances_once, line_is_one, nothing_changes,
     nothing_is_dirty, owned_are_members, sameness_is_exact, slots_are_live, slots_counted,

@@ -23,6 +23,5 @@ pub mod Parts
 pub mod Placing
 pub mod Pointing
 pub mod Promised
-pub mod SameLaws
 pub mod Seeing
 pub mod Stretches

@@ -10,10 +10,10 @@ ghost use Rattle.opa_report.specs.declared.found.Found.{Found as OfFound};
 use crate::Sight;
 use crate::alike::is_alike;
 use crate::day_sets::{both, without};
-use crate::same_trees::same_tree;
 use opa_case::InstanceId;
 use opa_io::{List, NoMemory};
 use opa_line::Line;
+use opa_mean::same_tree;
 use opa_tree::Expr;
 use std::alloc::Global;
 

@@ -17,7 +17,6 @@ mod owned;
 mod points;
 mod reporting;
 mod runs;
-mod same_trees;
 mod sight;
 mod spread;
 pub mod text;
@@ -28,7 +27,6 @@ pub use day_sets::{Span, both, covered, either, has_some, looked_back, nothing, 
 pub use laws::{at_most_one, report_supports, runs_are_exact};
 pub use lines::{Report, ReportLine};
 pub use mark::Mark;
-pub use same_trees::same_tree;
 pub use sight::Sight;
 pub use text::{origin_text, report_text};
 pub use whole::report;

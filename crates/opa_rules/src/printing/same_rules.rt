@@ -3,8 +3,8 @@ ghost use Rattle.std.specs.Prelude.{◌≡◌, IsTrue, map};
 ghost use Rattle.opa_rules.specs.Printing.Same.{said, IsSame};
 
 use crate::printing::same_models::same_model;
-use crate::same_trees::same_tree;
 use opa_io::front;
+use opa_mean::same_tree;
 use opa_tree::{Rule, Rulebase};
 
 /// Whether two rules say the same, wherever they stand.

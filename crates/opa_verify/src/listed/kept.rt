@@ -16,7 +16,7 @@ use crate::listed::sheet::Sheet;
 use opa_case::InstanceId;
 use opa_io::{List, NoMemory};
 use opa_line::Line;
-use opa_report::same_tree;
+use opa_mean::same_tree;
 use opa_tree::Expr;
 use std::alloc::Global;
 

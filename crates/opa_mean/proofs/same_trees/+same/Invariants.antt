@@ -1,5 +1,5 @@
 use Rattle.std.proofs.Common.{◌≡◌, ◌++◌, take}
-use Rattle.opa_report.proofs.same_trees.+same.Given as goal
+use Rattle.opa_mean.proofs.same_trees.+same.Given as goal
 
 abbrev pub invariant-same_parts-loop-part : goal.invariant-same_parts-loop-part
 invariant-same_parts-loop-part l = l.others ≡ take l.part-index l.parts ++ l.more

@@ -13,7 +13,7 @@ fn same_range(quant: Quant, rel: RelId, other: Quant, over: RelId) -> bool
 }
 
 #[cycle(same)]
-#[tactic(auto, using(crate::proofs::SameLaws::front_passes, crate::proofs::SameLaws::nothing_is_left))]
+#[tactic(auto, using(crate::proofs::EqualLists::front_passes, crate::proofs::EqualLists::nothing_is_left))]
 pub fn same_tree(tree: &Expr, other: &Expr) -> bool
     ensures { IsTrue result ↔ (tree.now ≡ other.now) }
 {
@@ -45,7 +45,7 @@ pub fn same_tree(tree: &Expr, other: &Expr) -> bool
 }
 
 #[cycle(same)]
-#[tactic(auto, using(crate::proofs::SameLaws::front_passes, crate::proofs::SameLaws::nothing_is_left))]
+#[tactic(auto, using(crate::proofs::EqualLists::front_passes, crate::proofs::EqualLists::nothing_is_left))]
 fn same_parts(parts: &[Expr], others: &[Expr]) -> bool
     ensures { IsTrue result ↔ (parts.now ≡ others.now) }
 {
@@ -63,7 +63,7 @@ fn same_parts(parts: &[Expr], others: &[Expr]) -> bool
 }
 
 #[cycle(same)]
-#[tactic(auto, using(crate::proofs::SameLaws::front_passes, crate::proofs::SameLaws::nothing_is_left))]
+#[tactic(auto, using(crate::proofs::EqualLists::front_passes, crate::proofs::EqualLists::nothing_is_left))]
 fn same_row(row: &Row, other: &Row) -> bool
     ensures { IsTrue result ↔ (row.now ≡ other.now) }
 {
@@ -71,7 +71,7 @@ fn same_row(row: &Row, other: &Row) -> bool
 }
 
 #[cycle(same)]
-#[tactic(auto, using(crate::proofs::SameLaws::front_passes, crate::proofs::SameLaws::nothing_is_left))]
+#[tactic(auto, using(crate::proofs::EqualLists::front_passes, crate::proofs::EqualLists::nothing_is_left))]
 fn same_rows(rows: &[Row], others: &[Row]) -> bool
     ensures { IsTrue result ↔ (rows.now ≡ others.now) }
 {
