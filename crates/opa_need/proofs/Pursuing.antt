@@ -166,10 +166,9 @@ module _ (r : Rulebase) (c : CaseView) where
   pub unruled : IsOf r c → (a : AttrId) (i : InstanceId) (d : ℕ) → None ≡ rule_of r.rules a → point_needs r c a i d ≡ Point a i d ∷ []
   unruled is a i d none = by_its_rule (base_of r) (facts_of c) (base r c is).falls a i d ∙ ap (λ o. needs_or o (Point a i d ∷ []) (λ x. tree_needs r c x (i ∷ []) d)) (sym none)
 
-  pub point_asked : IsOf r c → (found found' : List Question) (runs : FinMap cell_cmp (List Run)) (a : AttrId) (i i' : InstanceId) (d : ℕ) (steps : List Step) → None ≡ rule_of r.rules a → i' ≡ i → found' ≡ with_new same_question found (question.Attr a i')
+  pub point_asked : IsOf r c → (found found' : List Question) (runs : FinMap cell_cmp (List Run)) (a : AttrId) (i : InstanceId) (d : ℕ) (steps : List Step) → None ≡ rule_of r.rules a → found' ≡ with_new same_question found (question.Attr a i)
       → LeadsOn r c (step.Point a i d) found runs steps found' runs steps
-  point_asked is found found' runs a i i' d steps none same e total h =
-      one_asked total found found' runs (step.Point a i d) (Point a i d) (reverse steps) (unruled is a i d none) (e ∙ ap (λ j. with_new same_question found (question.Attr a j)) same) h
+  point_asked is found found' runs a i d steps none e total h = one_asked total found found' runs (step.Point a i d) (Point a i d) (reverse steps) (unruled is a i d none) e h
 
   -- a point with a run that has the day is done
   pub covered : (found : List Question) (runs : FinMap cell_cmp (List Run)) (a : AttrId) (i : InstanceId) (d : ℕ) (run : Run) → AreRuns r c found runs → IsRunOf (get runs (a.0, i)) d run → (k : ℕ) → d ≤ k → k < run.end → AreFound found (point_needs r c a i k)
@@ -203,8 +202,8 @@ module _ (r : Rulebase) (c : CaseView) where
   pub of_step : (s s' : Step) (found found' : List Question) (runs runs' : FinMap cell_cmp (List Run)) (old new : List Step) → s ≡ s' → LeadsOn r c s' found runs old found' runs' new → LeadsOn r c s found runs old found' runs' new
   of_step s s' found found' runs runs' old new e h = subst (λ t. LeadsOn r c t found runs old found' runs' new) (sym e) h
 
-  pub list_asked : (found found' : List Question) (runs : FinMap cell_cmp (List Run)) (l : RelId) (i i' : InstanceId) (steps : List Step) → i' ≡ i → found' ≡ with_new same_question found (question.Members l i') → LeadsOn r c (step.Listed l i) found runs steps found' runs steps
-  list_asked found found' runs l i i' steps same e total h = one_asked total found found' runs (step.Listed l i) (Listed l i) (reverse steps) refl (e ∙ ap (λ j. with_new same_question found (question.Members l j)) same) h
+  pub list_asked : (found found' : List Question) (runs : FinMap cell_cmp (List Run)) (l : RelId) (i : InstanceId) (steps : List Step) → found' ≡ with_new same_question found (question.Members l i) → LeadsOn r c (step.Listed l i) found runs steps found' runs steps
+  list_asked found found' runs l i steps e total h = one_asked total found found' runs (step.Listed l i) (Listed l i) (reverse steps) refl e h
 
   pub no_days_left : (found : List Question) (runs : FinMap cell_cmp (List Run)) (e : Bor Expr) (es : List InstanceId) (first end : ℕ) (steps : List Step) → end ≤ first → LeadsOn r c (step.Days e es first end) found runs steps found runs steps
   no_days_left found runs e es first end steps over total h =

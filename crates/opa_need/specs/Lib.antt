@@ -3,6 +3,7 @@ pub mod Dates
 pub mod Finding
 pub mod Goals
 pub mod Indexed
+pub mod Inner
 pub mod Members
 pub mod Operands
 pub mod Steps

@@ -186,6 +186,10 @@ module _ (r : Rulebase) (c : CaseView) where
   abbrev pub LeadsOn : Step → List Question → FinMap cell_cmp (List Run) → List Step → List Question → FinMap cell_cmp (List Run) → List Step → Type 0
   LeadsOn s found runs steps found' runs' steps' = (total : List Question) → IsOnTheWay total found runs (s ∷ reverse steps) → IsOnTheWay total found' runs' (reverse steps')
 
+  -- a step gives way to others, whatever is found
+  abbrev pub GivesWay : Step → List Step → List Step → Type 0
+  GivesWay s steps steps' = (found : List Question) (runs : FinMap cell_cmp (List Run)) → LeadsOn s found runs steps found runs steps'
+
 -- the first run that has the day
 abbrev pub IsRunOf : Option (List Run) → ℕ → Run → Type 0
 IsRunOf None d run = ⊥

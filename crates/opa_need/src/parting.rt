@@ -6,16 +6,18 @@ ghost use Rattle.opa_cells.specs.Instances.{named};
 ghost use Rattle.opa_date.specs.declared.TheConstants.{DAYS};
 ghost use Rattle.opa_mean.specs.Uses.{Use};
 ghost use Rattle.opa_tree.specs.declared.kinds.Quant.TheVariants as quants;
+ghost use Rattle.opa_need.specs.Inner.{HasRoom};
 ghost use Rattle.opa_need.specs.Members.{AreOfOperands, AreValuesOf};
 ghost use Rattle.opa_need.specs.Steps.{StandFor, Adds, part_needs, part_value, tree_needs, member_needs};
 
+use crate::inner::put_first;
 use crate::looking::{again, is_true, is_unknown, value_at};
 use crate::members::{MemberValues, OperandValues};
 use crate::operands::{Operands, taken};
 use crate::steps::Step;
 use opa_case::InstanceId;
 use opa_io::{List, NoMemory, Txt};
-use opa_mean::{Held, within};
+use opa_mean::Held;
 use opa_tree::{Expr, Quant};
 use opa_value::Value;
 use std::alloc::Global;
@@ -159,6 +161,7 @@ pub(crate) fn member_steps<'a, H: Held>(
     alloc: Global,
     held: &H,
     values: &mut OperandValues,
+    inner: &mut List<InstanceId>,
     quant: Quant,
     target: u32,
     name: &Txt,
@@ -170,11 +173,13 @@ pub(crate) fn member_steps<'a, H: Held>(
     requires live { AllByRecursion (IsLive (H.held held.now)) enclosing.now }
     requires listed { IsLive (H.held held.now) (named target name.now) }
     requires of { AreOfOperands (H.rules held.now) (H.held held.now) parts.now values.old }
+    requires room { HasRoom enclosing.now inner.old }
     ensures steps { IfOk result (StandFor (H.rules held.now) (H.held held.now) (member_needs (H.rules held.now) (H.held held.now) quant parts.now (named target name.now ∷ enclosing.now) day)) }
     ensures stay { OnOk result (AreOfOperands (H.rules held.now) (H.held held.now) parts.now values.new) }
+    ensures room { OnOk result (HasRoom enclosing.now inner.new) }
 {
     let mut steps = List::new(alloc);
-    let inner = within(alloc, target, name, enclosing.as_slice())?;
-    add_member(alloc, held, values, &mut steps, quant, parts, &inner, day)?;
+    put_first(alloc, inner, enclosing, target, name)?;
+    add_member(alloc, held, values, &mut steps, quant, parts, inner, day)?;
     Ok(steps)
 }

@@ -1,14 +1,16 @@
 // All questions of a point at a day, step by step.
-ghost use Rattle.std.specs.Prelude.{◌≡◌, [], ◌<◌, false, None, IfOk, List as Seq};
-ghost use Rattle.std.specs.List.{AllByRecursion};
+ghost use Rattle.std.specs.Prelude.{◌≡◌, [], ◌<◌, false, None, Some, IfOk, OnOk, List as Seq};
 ghost use Rattle.opa_case.specs.Cases.{IsLive};
-ghost use Rattle.opa_case.specs.declared.question.Question.{Question as Questions};
+ghost use Rattle.opa_case.specs.declared.question.Question.TheVariants as question;
 ghost use Rattle.opa_date.specs.declared.TheConstants.{DAYS};
 ghost use Rattle.opa_mean.specs.Next.{first_or};
+ghost use Rattle.opa_mean.specs.Sameness.{same_question};
 ghost use Rattle.opa_need.specs.Finding.{added};
-ghost use Rattle.opa_need.specs.Steps.{AreListed, IsReady, LeadsOn, Settles, point_needs};
+ghost use Rattle.opa_need.specs.Steps.{GivesWay, IsReady, LeadsOn, Settles, point_needs};
 ghost use Rattle.opa_need.specs.declared.steps.Step.{Step as Steps};
 ghost use Rattle.opa_need.specs.declared.steps.Step.TheVariants as step;
+ghost use Rattle.opa_tree.specs.FirstOnes.{with_new};
+ghost use Rattle.opa_tree.specs.Rules as rules;
 
 use crate::found::Found;
 use crate::looking::{again, rule_of};
@@ -20,10 +22,10 @@ use crate::stretches::{settled, settled_part};
 use opa_case::{InstanceId, Question};
 use opa_cells::Cells;
 use opa_date::DAYS;
-use opa_io::{List, NoMemory, Txt};
+use opa_io::{List, NoMemory};
 use opa_mean::{Held, alone};
 use opa_model::{AttrId, RelId};
-use opa_tree::{Expr, Quant};
+use opa_tree::{Expr, Rule};
 use std::alloc::Global;
 
 /// The questions of a point at a day, each once; or, where only the first is wanted, some of them from the first one on.
@@ -52,9 +54,7 @@ pub(crate) fn questions<H: Held>(
         match steps.pop() {
             None => return Ok(found.into_list()),
             Some(step) => {
-                let (more, noted) = take(alloc, held, &step, &mut steps, found, runs)?;
-                found = more;
-                runs = noted;
+                take(alloc, held, &step, &mut steps, &mut found, &mut runs)?;
             }
         }
     }
@@ -67,166 +67,57 @@ fn take<'a, H: Held>(
     held: &'a H,
     step: &Step<'a>,
     steps: &mut List<Step<'a>>,
-    found: Found,
-    runs: Runs,
-) -> Result<(Found, Runs), NoMemory>
+    found: &mut Found,
+    runs: &mut Runs,
+) -> Result<(), NoMemory>
     requires { IsReady (H.rules held.now) (H.held held.now) step.now }
-    ensures { IfOk result (λ x. LeadsOn (H.rules held.now) (H.held held.now) step.now found runs steps.old x.0 x.1 steps.new) }
+    ensures { OnOk result (LeadsOn (H.rules held.now) (H.held held.now) step.now found.old runs.old steps.old found.new runs.new steps.new) }
 {
     match step {
         Step::Tree(tree, enclosing, day) => {
-            step_tree(alloc, held, steps, *tree, enclosing, *day, found, runs)
+            take_tree(alloc, held, steps, *tree, enclosing, *day)
         }
         Step::Part(part, enclosing, day) => {
-            step_part(alloc, held, steps, *part, enclosing, *day, found, runs)
+            take_part(alloc, held, steps, *part, enclosing, *day)
         }
         Step::Point(attr, inst, day) => {
-            step_point(alloc, held, steps, *attr, inst, *day, found, runs)
+            take_point(alloc, held, steps, *attr, inst, *day, found, runs)
         }
-        Step::Listed(rel, inst) => step_list(alloc, held, steps, *rel, inst, found, runs),
+        Step::Listed(rel, inst) => ask_list(alloc, found, *rel, inst),
         Step::Days(part, enclosing, first, end) => {
-            step_days(
-                alloc, held, steps, *part, enclosing, *first, *end, found, runs,
-            )
+            take_days(alloc, held, steps, *part, enclosing, *first, *end)
         }
         Step::AfterDay(part, enclosing, day, end) => {
-            step_after(
+            leave_day(
                 alloc, held, steps, *part, enclosing, *day, *end, found, runs,
             )
         }
         Step::AfterPoint(attr, inst, day) => {
-            step_leave(alloc, held, steps, *attr, inst, *day, found, runs)
+            let last = steps.len() == 0;
+            leave_point(alloc, held, *attr, inst, *day, last, found, runs)
         }
         Step::Parts(parts, enclosing, day) => {
-            step_parts(alloc, held, steps, *parts, enclosing, *day, found, runs)
+            take_parts(alloc, held, steps, *parts, enclosing, *day)
         }
         Step::Members(quant, target, names, parts, enclosing, day) => {
-            step_members(
-                alloc, held, steps, *quant, *target, *names, *parts, enclosing, *day, found, runs,
+            take_members(
+                alloc, held, steps, *quant, *target, *names, *parts, enclosing, *day,
             )
         }
     }
 }
 
-/// A tree: its parts take its place.
-fn step_tree<'a, H: Held>(
-    alloc: Global,
-    held: &'a H,
-    steps: &mut List<Step<'a>>,
-    tree: &'a Expr,
-    enclosing: &List<InstanceId>,
-    day: u32,
-    found: Found,
-    runs: Runs,
-) -> Result<(Found, Runs), NoMemory>
-    requires day { day < DAYS }
-    requires live { AllByRecursion (IsLive (H.held held.now)) enclosing.now }
-    ensures { IfOk result (λ x. LeadsOn (H.rules held.now) (H.held held.now) (step.Tree tree.entry enclosing.now day) found runs steps.old x.0 x.1 steps.new) }
-{
-    take_tree(alloc, held, steps, tree, enclosing, day)?;
-    Ok((found, runs))
-}
-
-/// A part.
-fn step_part<'a, H: Held>(
-    alloc: Global,
-    held: &'a H,
-    steps: &mut List<Step<'a>>,
-    part: &'a Expr,
-    enclosing: &List<InstanceId>,
-    day: u32,
-    found: Found,
-    runs: Runs,
-) -> Result<(Found, Runs), NoMemory>
-    requires day { day < DAYS }
-    requires live { AllByRecursion (IsLive (H.held held.now)) enclosing.now }
-    ensures { IfOk result (λ x. LeadsOn (H.rules held.now) (H.held held.now) (step.Part part.entry enclosing.now day) found runs steps.old x.0 x.1 steps.new) }
-{
-    take_part(alloc, held, steps, part, enclosing, day)?;
-    Ok((found, runs))
-}
-
-/// Parts, one behind the other.
-fn step_parts<'a, H: Held>(
-    alloc: Global,
-    held: &'a H,
-    steps: &mut List<Step<'a>>,
-    parts: &'a [Expr],
-    enclosing: &List<InstanceId>,
-    day: u32,
-    found: Found,
-    runs: Runs,
-) -> Result<(Found, Runs), NoMemory>
-    requires day { day < DAYS }
-    requires live { AllByRecursion (IsLive (H.held held.now)) enclosing.now }
-    ensures { IfOk result (λ x. LeadsOn (H.rules held.now) (H.held held.now) (step.Parts parts.entry enclosing.now day) found runs steps.old x.0 x.1 steps.new) }
-{
-    take_parts(alloc, held, steps, parts, enclosing, day)?;
-    Ok((found, runs))
-}
-
-/// Members of a quantifier, in list order.
-fn step_members<'a, H: Held>(
-    alloc: Global,
-    held: &'a H,
-    steps: &mut List<Step<'a>>,
-    quant: Quant,
-    target: u32,
-    names: &'a [Txt],
-    parts: &'a [Expr],
-    enclosing: &List<InstanceId>,
-    day: u32,
-    found: Found,
-    runs: Runs,
-) -> Result<(Found, Runs), NoMemory>
-    requires day { day < DAYS }
-    requires live { AllByRecursion (IsLive (H.held held.now)) enclosing.now }
-    requires listed { AreListed (H.rules held.now) (H.held held.now) target names.now }
-    ensures { IfOk result (λ x. LeadsOn (H.rules held.now) (H.held held.now) (step.Members quant target names.entry parts.entry enclosing.now day) found runs steps.old x.0 x.1 steps.new) }
-{
-    take_members(
-        alloc, held, steps, quant, target, names, parts, enclosing, day,
-    )?;
-    Ok((found, runs))
-}
-
-/// A point.
-fn step_point<'a, H: Held>(
-    alloc: Global,
-    held: &'a H,
-    steps: &mut List<Step<'a>>,
-    attr: AttrId,
-    inst: &InstanceId,
-    day: u32,
-    found: Found,
-    runs: Runs,
-) -> Result<(Found, Runs), NoMemory>
-    requires day { day < DAYS }
-    requires live { IsLive (H.held held.now) inst.now }
-    ensures { IfOk result (λ x. LeadsOn (H.rules held.now) (H.held held.now) (step.Point attr inst.now day) found runs steps.old x.0 x.1 steps.new) }
-{
-    let more = take_point(alloc, held, steps, attr, inst, day, found, &runs)?;
-    Ok((more, runs))
-}
-
 /// A list is asked for.
-fn step_list<'a, H: Held>(
-    alloc: Global,
-    _held: &'a H,
-    _steps: &mut List<Step<'a>>,
-    rel: RelId,
-    inst: &InstanceId,
-    found: Found,
-    runs: Runs,
-) -> Result<(Found, Runs), NoMemory>
-    ensures { IfOk result (λ x. LeadsOn (H.rules _held.now) (H.held _held.now) (step.Listed rel inst.now) found runs _steps.old x.0 x.1 _steps.new) }
+fn ask_list(alloc: Global, found: &mut Found, rel: RelId, inst: &InstanceId) -> Result<(), NoMemory>
+    ensures { OnOk result (found.new ≡ with_new same_question found.old (question.Members rel inst.now)) }
 {
-    let more = found.with(alloc, Question::Members(rel, inst.copy(alloc)?))?;
-    Ok((more, runs))
+    let inst = inst.copy(alloc)?;
+    found.add(alloc, Question::Members(rel, inst))?;
+    Ok(())
 }
 
 /// Days: the first of them on which the part isn't known, and what is behind it.
-fn step_days<'a, H: Held>(
+fn take_days<'a, H: Held>(
     alloc: Global,
     held: &'a H,
     steps: &mut List<Step<'a>>,
@@ -234,63 +125,57 @@ fn step_days<'a, H: Held>(
     enclosing: &List<InstanceId>,
     first: u32,
     end: u32,
-    found: Found,
-    runs: Runs,
-) -> Result<(Found, Runs), NoMemory>
-    ensures { IfOk result (λ x. LeadsOn (H.rules held.now) (H.held held.now) (step.Days part.entry enclosing.now first end) found runs steps.old x.0 x.1 steps.new) }
+) -> Result<(), NoMemory>
+    ensures { OnOk result (GivesWay (H.rules held.now) (H.held held.now) (step.Days part.entry enclosing.now first end) steps.old steps.new) }
 {
     let from = open_from(alloc, held, part, enclosing, first)?;
     if from >= end {
-        return Ok((found, runs));
+        return Ok(());
     }
-    let at_first = again(alloc, enclosing)?;
+    put_day(alloc, held, steps, part, enclosing, from, end)?;
+    Ok(())
+}
+
+/// The first of some days, and what is behind it.
+fn put_day<'a, H: Held>(
+    alloc: Global,
+    _held: &H,
+    steps: &mut List<Step<'a>>,
+    part: &'a Expr,
+    enclosing: &List<InstanceId>,
+    first: u32,
+    end: u32,
+) -> Result<(), NoMemory>
+    requires { first < end }
+    ensures { OnOk result (GivesWay (H.rules _held.now) (H.held _held.now) (step.Days part.entry enclosing.now first end) steps.old steps.new) }
+{
     let behind = again(alloc, enclosing)?;
-    steps.push(Step::AfterDay(part, behind, from, end))?;
-    steps.push(Step::Part(part, at_first, from))?;
-    Ok((found, runs))
+    steps.push(Step::AfterDay(part, behind, first, end))?;
+    let at_first = again(alloc, enclosing)?;
+    steps.push(Step::Part(part, at_first, first))?;
+    Ok(())
 }
 
 /// Days behind one whose questions are found: those on which nothing new is needed are passed over.
-fn step_after<'a, H: Held>(
+fn leave_day<'a, H: Held>(
     alloc: Global,
-    held: &'a H,
+    held: &H,
     steps: &mut List<Step<'a>>,
     part: &'a Expr,
     enclosing: &List<InstanceId>,
     day: u32,
     end: u32,
-    found: Found,
-    runs: Runs,
-) -> Result<(Found, Runs), NoMemory>
+    found: &Found,
+    runs: &Runs,
+) -> Result<(), NoMemory>
     requires day { day < DAYS }
-    requires live { AllByRecursion (IsLive (H.held held.now)) enclosing.now }
-    ensures { IfOk result (λ x. LeadsOn (H.rules held.now) (H.held held.now) (step.AfterDay part.entry enclosing.now day end) found runs steps.old x.0 x.1 steps.new) }
+    ensures { OnOk result (LeadsOn (H.rules held.now) (H.held held.now) (step.AfterDay part.entry enclosing.now day end) found.now runs.now steps.old found.now runs.now steps.new) }
 {
-    let until = settled_part(alloc, held, &found, &runs, part, enclosing, day)?;
+    let until = settled_part(alloc, held, found, runs, part, enclosing, day)?;
     let from = until.max(day + 1);
     let behind = again(alloc, enclosing)?;
     steps.push(Step::Days(part, behind, from, end))?;
-    Ok((found, runs))
-}
-
-/// A point whose questions are found.
-fn step_leave<'a, H: Held>(
-    alloc: Global,
-    held: &'a H,
-    steps: &mut List<Step<'a>>,
-    attr: AttrId,
-    inst: &InstanceId,
-    day: u32,
-    found: Found,
-    runs: Runs,
-) -> Result<(Found, Runs), NoMemory>
-    requires day { day < DAYS }
-    requires live { IsLive (H.held held.now) inst.now }
-    ensures { IfOk result (λ x. LeadsOn (H.rules held.now) (H.held held.now) (step.AfterPoint attr inst.now day) found runs steps.old x.0 x.1 steps.new) }
-{
-    let last = steps.len() == 0;
-    let noted = leave_point(alloc, held, attr, inst, day, last, &found, runs)?;
-    Ok((found, noted))
+    Ok(())
 }
 
 /// A point: the question itself where it has no rule. Else its rule's tree is looked at, unless a run has the day.
@@ -301,30 +186,59 @@ fn take_point<'a, H: Held>(
     attr: AttrId,
     inst: &InstanceId,
     day: u32,
-    found: Found,
+    found: &mut Found,
     runs: &Runs,
-) -> Result<Found, NoMemory>
+) -> Result<(), NoMemory>
     requires day { day < DAYS }
     requires live { IsLive (H.held held.now) inst.now }
-    ensures { IfOk result (λ more. LeadsOn (H.rules held.now) (H.held held.now) (step.Point attr inst.now day) found runs.now steps.old more runs.now steps.new) }
+    ensures { OnOk result (LeadsOn (H.rules held.now) (H.held held.now) (step.Point attr inst.now day) found.old runs.now steps.old found.new runs.now steps.new) }
 {
     let _case = held.case();
     match rule_of(held, attr) {
-        None => found.with(alloc, Question::Attr(attr, inst.copy(alloc)?)),
+        None => ask_point(alloc, found, attr, inst),
         Some(rule) => match run_of(runs, attr, inst, day) {
-            Some(_) => Ok(found),
-            None => {
-                let enclosing = alone(alloc, inst)?;
-                let behind = inst.copy(alloc)?;
-                steps.push(Step::AfterPoint(attr, behind, day))?;
-                steps.push(Step::Tree(&rule.expr, enclosing, day))?;
-                Ok(found)
-            }
+            Some(_) => Ok(()),
+            None => enter(alloc, held, steps, attr, rule, inst, day),
         },
     }
 }
 
-/// The runs, with one more of a point all of whose questions at a day are found.
+/// A point is asked for.
+fn ask_point(
+    alloc: Global,
+    found: &mut Found,
+    attr: AttrId,
+    inst: &InstanceId,
+) -> Result<(), NoMemory>
+    ensures { OnOk result (found.new ≡ with_new same_question found.old (question.Attr attr inst.now)) }
+{
+    let inst = inst.copy(alloc)?;
+    found.add(alloc, Question::Attr(attr, inst))?;
+    Ok(())
+}
+
+/// A point with a rule: its tree comes first, and then it is noted that the questions of the point are found.
+fn enter<'a, H: Held>(
+    alloc: Global,
+    held: &H,
+    steps: &mut List<Step<'a>>,
+    attr: AttrId,
+    rule: &'a Rule,
+    inst: &InstanceId,
+    day: u32,
+) -> Result<(), NoMemory>
+    requires ruled { Some rule.now ≡ rules.rule_of (H.rules held.now).rules attr }
+    ensures { OnOk result (GivesWay (H.rules held.now) (H.held held.now) (step.Point attr inst.now day) steps.old steps.new) }
+{
+    let _case = held.case();
+    let behind = inst.copy(alloc)?;
+    steps.push(Step::AfterPoint(attr, behind, day))?;
+    let enclosing = alone(alloc, inst)?;
+    steps.push(Step::Tree(&rule.expr, enclosing, day))?;
+    Ok(())
+}
+
+/// A point all of whose questions at a day are found: a run more of it is noted.
 fn leave_point<H: Held>(
     alloc: Global,
     held: &H,
@@ -333,20 +247,18 @@ fn leave_point<H: Held>(
     day: u32,
     last: bool,
     found: &Found,
-    runs: Runs,
-) -> Result<Runs, NoMemory>
+    runs: &mut Runs,
+) -> Result<(), NoMemory>
     requires day { day < DAYS }
-    requires live { IsLive (H.held held.now) inst.now }
-    ensures { IfOk result (λ more. (steps : Seq Steps) → LeadsOn (H.rules held.now) (H.held held.now) (step.AfterPoint attr inst.now day) found.now runs steps found.now more steps) }
+    ensures { OnOk result ((steps : Seq Steps) → LeadsOn (H.rules held.now) (H.held held.now) (step.AfterPoint attr inst.now day) found.now runs.old steps found.now runs.new steps) }
 {
-    let until = point_until(alloc, held, found, &runs, attr, inst, day, last)?;
+    let until = point_until(alloc, held, found, runs, attr, inst, day, last)?;
     let run = Run {
         first: day,
         end: until.max(day + 1),
     };
-    let mut noted = runs;
-    add_run(alloc, &mut noted, attr, inst, run)?;
-    Ok(noted)
+    add_run(alloc, runs, attr, inst, run)?;
+    Ok(())
 }
 
 /// The day below which all that a point needs is found, from a day on which it is. Of the last point nobody asks, so no

@@ -5,6 +5,7 @@ ghost use Rattle.opa_case.specs.Cases.{IsLive};
 ghost use Rattle.opa_date.specs.declared.TheConstants.{DAYS};
 ghost use Rattle.opa_need.specs.Steps.{AreListed, IsFirstMember, IsFirstPart, PutsOn, members_needs, part_needs, parts_needs, tree_needs};
 
+use crate::inner::with_room;
 use crate::looking::{again, is_unknown, value_at};
 use crate::members::OperandValues;
 use crate::opening::open;
@@ -173,12 +174,14 @@ fn first_member<'a, H: Held>(
     ensures { IfOk result (IsFirstMember (H.rules held.now) (H.held held.now) quant target names.now parts.now enclosing.now day) }
 {
     let mut values = OperandValues::of(alloc, held, parts, target)?;
+    let mut inner = with_room(alloc, enclosing)?;
     let mut rest = names;
     while let Some((name, later)) = front(rest) {
         let steps = member_steps(
             alloc,
             held,
             &mut values,
+            &mut inner,
             quant,
             target,
             name,

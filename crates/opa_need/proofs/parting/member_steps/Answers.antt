@@ -1,5 +1,4 @@
-use Rattle.std.proofs.Common.{◌∙◌, ◌∷◌, ap, subst, List}
-use Rattle.opa_cells.specs.Instances.{named}
+use Rattle.std.proofs.Common.{subst, List}
 use Rattle.opa_cells.specs.declared.instance.InstanceId.{InstanceId}
 use Rattle.opa_need.specs.Steps.{StandFor, member_needs}
 use Rattle.opa_need.proofs.OpeningLaws.{from_nothing}
@@ -8,5 +7,5 @@ use Rattle.opa_need.proofs.parting.member_steps.Goals as goal
 pub returns-clause-steps : goal.returns-clause-steps
 returns-clause-steps g c =
     let r = g.H.Held.rules c.args.held.now in let held = g.H.Held.held c.args.held.now in
-    subst (λ (es : List InstanceId). StandFor r held (member_needs r held c.args.quant c.args.parts.now es c.args.day) c.add_member.new.steps) (c.in_ok-inner.ensures ∙ ap (λ es. named c.args.target c.args.name.now ∷ es) c.as_slice.ensures)
+    subst (λ (es : List InstanceId). StandFor r held (member_needs r held c.args.quant c.args.parts.now es c.args.day) c.add_member.new.steps) c.in_ok-put_first.ensures
     (from_nothing r held _ _ _ c.new-steps.ensures c.in_ok-add_member.ensures.adds)

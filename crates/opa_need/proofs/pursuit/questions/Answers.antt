@@ -22,4 +22,4 @@ returns-then-len-gt0-clause-front g c =
 pub loop-preserved : goal.loop-preserved
 loop-preserved g c =
     let r = g.H.Held.rules c.args.held.now in let held = g.H.Held.held c.args.held.now in
-    c.in_ok-more-in-Some.ensures (added [] (point_needs r held c.args.attr c.args.inst.now c.args.day)) (subst (λ (xs : List Step). IsOnTheWay r held (added [] (point_needs r held c.args.attr c.args.inst.now c.args.day)) c.loop.found c.loop.runs xs) (ap reverse c.in-Some.ensures ∙ reverse_push c.pop.new.self c.in-Some.step) c.loop.invariant)
+    c.in_ok-take-in-Some.ensures (added [] (point_needs r held c.args.attr c.args.inst.now c.args.day)) (subst (λ (xs : List Step). IsOnTheWay r held (added [] (point_needs r held c.args.attr c.args.inst.now c.args.day)) c.loop.found c.loop.runs xs) (ap reverse c.in-Some.ensures ∙ reverse_push c.pop.new.self c.in-Some.step) c.loop.invariant)

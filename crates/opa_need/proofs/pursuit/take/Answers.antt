@@ -1,127 +1,118 @@
-use Rattle.std.proofs.Common.{subst}
-use Rattle.opa_io.proofs.Results.{if_ok_then}
-use Rattle.opa_need.specs.Steps.{IsReady}
+use Rattle.std.proofs.Common.{ap, subst, sym}
+use Rattle.std.proofs.lemmas.Result.{on_ok_weaker}
+use Rattle.opa_need.specs.Steps as spec
+use Rattle.opa_need.specs.Steps.{IsReady, step_needs}
 use Rattle.opa_need.specs.declared.steps.Step.{Step}
 use Rattle.opa_need.specs.declared.steps.Step.TheVariants as step
-use Rattle.opa_need.proofs.Pursuing.{of_step}
+use Rattle.opa_need.proofs.Pursuing.{of_step, put_steps, list_asked}
 use Rattle.opa_need.proofs.pursuit.take.Goals as goal
 
-pub step_tree-requires-clause-day : goal.step_tree-requires-clause-day
-step_tree-requires-clause-day g c =
+pub take_tree-requires-clause-day : goal.take_tree-requires-clause-day
+take_tree-requires-clause-day g c =
     let r = g.H.Held.rules c.args.held.now in let held = g.H.Held.held c.args.held.now in
     let ready = subst (λ (s : Step). IsReady r held s) c.in-Tree.is c.requires in ready.1
 
-pub step_tree-requires-clause-live : goal.step_tree-requires-clause-live
-step_tree-requires-clause-live g c =
+pub take_tree-requires-clause-live : goal.take_tree-requires-clause-live
+take_tree-requires-clause-live g c =
     let r = g.H.Held.rules c.args.held.now in let held = g.H.Held.held c.args.held.now in
     let ready = subst (λ (s : Step). IsReady r held s) c.in-Tree.is c.requires in ready.0
 
-pub step_part-requires-clause-day : goal.step_part-requires-clause-day
-step_part-requires-clause-day g c =
+pub take_part-requires-clause-day : goal.take_part-requires-clause-day
+take_part-requires-clause-day g c =
     let r = g.H.Held.rules c.args.held.now in let held = g.H.Held.held c.args.held.now in
     let ready = subst (λ (s : Step). IsReady r held s) c.in-Part.is c.requires in ready.1
 
-pub step_part-requires-clause-live : goal.step_part-requires-clause-live
-step_part-requires-clause-live g c =
+pub take_part-requires-clause-live : goal.take_part-requires-clause-live
+take_part-requires-clause-live g c =
     let r = g.H.Held.rules c.args.held.now in let held = g.H.Held.held c.args.held.now in
     let ready = subst (λ (s : Step). IsReady r held s) c.in-Part.is c.requires in ready.0
 
-pub step_point-requires-clause-day : goal.step_point-requires-clause-day
-step_point-requires-clause-day g c =
+pub take_parts-requires-clause-day : goal.take_parts-requires-clause-day
+take_parts-requires-clause-day g c =
+    let r = g.H.Held.rules c.args.held.now in let held = g.H.Held.held c.args.held.now in
+    let ready = subst (λ (s : Step). IsReady r held s) c.in-Parts.is c.requires in ready.1
+
+pub take_parts-requires-clause-live : goal.take_parts-requires-clause-live
+take_parts-requires-clause-live g c =
+    let r = g.H.Held.rules c.args.held.now in let held = g.H.Held.held c.args.held.now in
+    let ready = subst (λ (s : Step). IsReady r held s) c.in-Parts.is c.requires in ready.0
+
+pub take_members-requires-clause-day : goal.take_members-requires-clause-day
+take_members-requires-clause-day g c =
+    let r = g.H.Held.rules c.args.held.now in let held = g.H.Held.held c.args.held.now in
+    let ready = subst (λ (s : Step). IsReady r held s) c.in-Members.is c.requires in ready.1
+
+pub take_members-requires-clause-live : goal.take_members-requires-clause-live
+take_members-requires-clause-live g c =
+    let r = g.H.Held.rules c.args.held.now in let held = g.H.Held.held c.args.held.now in
+    let ready = subst (λ (s : Step). IsReady r held s) c.in-Members.is c.requires in ready.0
+
+pub take_members-requires-clause-listed : goal.take_members-requires-clause-listed
+take_members-requires-clause-listed g c =
+    let r = g.H.Held.rules c.args.held.now in let held = g.H.Held.held c.args.held.now in
+    let ready = subst (λ (s : Step). IsReady r held s) c.in-Members.is c.requires in ready.2
+
+pub take_point-requires-clause-day : goal.take_point-requires-clause-day
+take_point-requires-clause-day g c =
     let r = g.H.Held.rules c.args.held.now in let held = g.H.Held.held c.args.held.now in
     let ready = subst (λ (s : Step). IsReady r held s) c.in-Point.is c.requires in ready.1
 
-pub step_point-requires-clause-live : goal.step_point-requires-clause-live
-step_point-requires-clause-live g c =
+pub take_point-requires-clause-live : goal.take_point-requires-clause-live
+take_point-requires-clause-live g c =
     let r = g.H.Held.rules c.args.held.now in let held = g.H.Held.held c.args.held.now in
     let ready = subst (λ (s : Step). IsReady r held s) c.in-Point.is c.requires in ready.0
 
-pub step_after-requires-clause-day : goal.step_after-requires-clause-day
-step_after-requires-clause-day g c =
+pub leave_day-requires : goal.leave_day-requires
+leave_day-requires g c =
     let r = g.H.Held.rules c.args.held.now in let held = g.H.Held.held c.args.held.now in
-    let ready = subst (λ (s : Step). IsReady r held s) c.in-AfterDay.is c.requires in ready.1
+    let ready = subst (λ (s : Step). IsReady r held s) c.in-AfterDay.is c.requires in record { day = ready.1 }
 
-pub step_after-requires-clause-live : goal.step_after-requires-clause-live
-step_after-requires-clause-live g c =
+pub leave_point-requires : goal.leave_point-requires
+leave_point-requires g c =
     let r = g.H.Held.rules c.args.held.now in let held = g.H.Held.held c.args.held.now in
-    let ready = subst (λ (s : Step). IsReady r held s) c.in-AfterDay.is c.requires in ready.0
-
-pub step_leave-requires-clause-day : goal.step_leave-requires-clause-day
-step_leave-requires-clause-day g c =
-    let r = g.H.Held.rules c.args.held.now in let held = g.H.Held.held c.args.held.now in
-    let ready = subst (λ (s : Step). IsReady r held s) c.in-AfterPoint.is c.requires in ready.1
-
-pub step_leave-requires-clause-live : goal.step_leave-requires-clause-live
-step_leave-requires-clause-live g c =
-    let r = g.H.Held.rules c.args.held.now in let held = g.H.Held.held c.args.held.now in
-    let ready = subst (λ (s : Step). IsReady r held s) c.in-AfterPoint.is c.requires in ready.0
+    let ready = subst (λ (s : Step). IsReady r held s) c.in-AfterPoint.is c.requires in record { day = ready.1 }
 
 pub returns-in-Tree : goal.returns-in-Tree
 returns-in-Tree g c =
     let r = g.H.Held.rules c.args.held.now in let held = g.H.Held.held c.args.held.now in
-    if_ok_then _ _ c.step_tree.result (λ x h. of_step r held c.args.step.now (step.Tree c.in-Tree.tree c.in-Tree.enclosing c.in-Tree.day) c.args.found x.0 c.args.runs x.1 c.args.steps.now c.step_tree.new.steps c.in-Tree.is h) c.step_tree.ensures
+    on_ok_weaker c.take_tree.result (put_steps r held c.args.found.now c.args.runs.now c.args.step.now (spec.tree_needs r held c.in-Tree.tree.now c.in-Tree.enclosing c.in-Tree.day) c.args.steps.now c.take_tree.new.steps (sym (ap (step_needs r held) c.in-Tree.is))) c.take_tree.ensures
 
 pub returns-in-Part : goal.returns-in-Part
 returns-in-Part g c =
     let r = g.H.Held.rules c.args.held.now in let held = g.H.Held.held c.args.held.now in
-    if_ok_then _ _ c.step_part.result (λ x h. of_step r held c.args.step.now (step.Part c.in-Part.part c.in-Part.enclosing c.in-Part.day) c.args.found x.0 c.args.runs x.1 c.args.steps.now c.step_part.new.steps c.in-Part.is h) c.step_part.ensures
-
-pub returns-in-Point : goal.returns-in-Point
-returns-in-Point g c =
-    let r = g.H.Held.rules c.args.held.now in let held = g.H.Held.held c.args.held.now in
-    if_ok_then _ _ c.step_point.result (λ x h. of_step r held c.args.step.now (step.Point c.in-Point.attr c.in-Point.inst c.in-Point.day) c.args.found x.0 c.args.runs x.1 c.args.steps.now c.step_point.new.steps c.in-Point.is h) c.step_point.ensures
-
-pub returns-in-Listed : goal.returns-in-Listed
-returns-in-Listed g c =
-    let r = g.H.Held.rules c.args.held.now in let held = g.H.Held.held c.args.held.now in
-    if_ok_then _ _ c.step_list.result (λ x h. of_step r held c.args.step.now (step.Listed c.in-Listed.rel c.in-Listed.inst) c.args.found x.0 c.args.runs x.1 c.args.steps.now c.step_list.new._steps c.in-Listed.is h) c.step_list.ensures
-
-pub returns-in-Days : goal.returns-in-Days
-returns-in-Days g c =
-    let r = g.H.Held.rules c.args.held.now in let held = g.H.Held.held c.args.held.now in
-    if_ok_then _ _ c.step_days.result (λ x h. of_step r held c.args.step.now (step.Days c.in-Days.part c.in-Days.enclosing c.in-Days.first c.in-Days.end) c.args.found x.0 c.args.runs x.1 c.args.steps.now c.step_days.new.steps c.in-Days.is h) c.step_days.ensures
-
-pub returns-in-AfterDay : goal.returns-in-AfterDay
-returns-in-AfterDay g c =
-    let r = g.H.Held.rules c.args.held.now in let held = g.H.Held.held c.args.held.now in
-    if_ok_then _ _ c.step_after.result (λ x h. of_step r held c.args.step.now (step.AfterDay c.in-AfterDay.part c.in-AfterDay.enclosing c.in-AfterDay.day c.in-AfterDay.end) c.args.found x.0 c.args.runs x.1 c.args.steps.now c.step_after.new.steps c.in-AfterDay.is h) c.step_after.ensures
-
-pub returns-in-AfterPoint : goal.returns-in-AfterPoint
-returns-in-AfterPoint g c =
-    let r = g.H.Held.rules c.args.held.now in let held = g.H.Held.held c.args.held.now in
-    if_ok_then _ _ c.step_leave.result (λ x h. of_step r held c.args.step.now (step.AfterPoint c.in-AfterPoint.attr c.in-AfterPoint.inst c.in-AfterPoint.day) c.args.found x.0 c.args.runs x.1 c.args.steps.now c.step_leave.new.steps c.in-AfterPoint.is h) c.step_leave.ensures
-
-pub step_parts-requires-clause-day : goal.step_parts-requires-clause-day
-step_parts-requires-clause-day g c =
-    let r = g.H.Held.rules c.args.held.now in let held = g.H.Held.held c.args.held.now in
-    let ready = subst (λ (s : Step). IsReady r held s) c.in-Parts.is c.requires in ready.1
-
-pub step_parts-requires-clause-live : goal.step_parts-requires-clause-live
-step_parts-requires-clause-live g c =
-    let r = g.H.Held.rules c.args.held.now in let held = g.H.Held.held c.args.held.now in
-    let ready = subst (λ (s : Step). IsReady r held s) c.in-Parts.is c.requires in ready.0
-
-pub step_members-requires-clause-day : goal.step_members-requires-clause-day
-step_members-requires-clause-day g c =
-    let r = g.H.Held.rules c.args.held.now in let held = g.H.Held.held c.args.held.now in
-    let ready = subst (λ (s : Step). IsReady r held s) c.in-Members.is c.requires in ready.1
-
-pub step_members-requires-clause-live : goal.step_members-requires-clause-live
-step_members-requires-clause-live g c =
-    let r = g.H.Held.rules c.args.held.now in let held = g.H.Held.held c.args.held.now in
-    let ready = subst (λ (s : Step). IsReady r held s) c.in-Members.is c.requires in ready.0
-
-pub step_members-requires-clause-listed : goal.step_members-requires-clause-listed
-step_members-requires-clause-listed g c =
-    let r = g.H.Held.rules c.args.held.now in let held = g.H.Held.held c.args.held.now in
-    let ready = subst (λ (s : Step). IsReady r held s) c.in-Members.is c.requires in ready.2
+    on_ok_weaker c.take_part.result (put_steps r held c.args.found.now c.args.runs.now c.args.step.now (spec.part_needs r held c.in-Part.part.now c.in-Part.enclosing c.in-Part.day) c.args.steps.now c.take_part.new.steps (sym (ap (step_needs r held) c.in-Part.is))) c.take_part.ensures
 
 pub returns-in-Parts : goal.returns-in-Parts
 returns-in-Parts g c =
     let r = g.H.Held.rules c.args.held.now in let held = g.H.Held.held c.args.held.now in
-    if_ok_then _ _ c.step_parts.result (λ x h. of_step r held c.args.step.now (step.Parts c.in-Parts.parts c.in-Parts.enclosing c.in-Parts.day) c.args.found x.0 c.args.runs x.1 c.args.steps.now c.step_parts.new.steps c.in-Parts.is h) c.step_parts.ensures
+    on_ok_weaker c.take_parts.result (put_steps r held c.args.found.now c.args.runs.now c.args.step.now (spec.parts_needs r held c.in-Parts.parts.now c.in-Parts.enclosing c.in-Parts.day) c.args.steps.now c.take_parts.new.steps (sym (ap (step_needs r held) c.in-Parts.is))) c.take_parts.ensures
 
 pub returns-in-Members : goal.returns-in-Members
 returns-in-Members g c =
     let r = g.H.Held.rules c.args.held.now in let held = g.H.Held.held c.args.held.now in
-    if_ok_then _ _ c.step_members.result (λ x h. of_step r held c.args.step.now (step.Members c.in-Members.quant c.in-Members.target c.in-Members.names c.in-Members.parts c.in-Members.enclosing c.in-Members.day) c.args.found x.0 c.args.runs x.1 c.args.steps.now c.step_members.new.steps c.in-Members.is h) c.step_members.ensures
+    on_ok_weaker c.take_members.result (put_steps r held c.args.found.now c.args.runs.now c.args.step.now (spec.members_needs r held c.in-Members.quant c.in-Members.target c.in-Members.names.now c.in-Members.parts.now c.in-Members.enclosing c.in-Members.day) c.args.steps.now c.take_members.new.steps (sym (ap (step_needs r held) c.in-Members.is))) c.take_members.ensures
+
+pub returns-in-Point : goal.returns-in-Point
+returns-in-Point g c =
+    let r = g.H.Held.rules c.args.held.now in let held = g.H.Held.held c.args.held.now in
+    on_ok_weaker c.take_point.result (λ h. of_step r held c.args.step.now (step.Point c.in-Point.attr c.in-Point.inst c.in-Point.day) c.args.found.now c.take_point.new.found c.args.runs.now c.args.runs.now c.args.steps.now c.take_point.new.steps c.in-Point.is h) c.take_point.ensures
+
+pub returns-in-Listed : goal.returns-in-Listed
+returns-in-Listed g c =
+    let r = g.H.Held.rules c.args.held.now in let held = g.H.Held.held c.args.held.now in
+    on_ok_weaker c.ask_list.result (λ h. of_step r held c.args.step.now (step.Listed c.in-Listed.rel c.in-Listed.inst) c.args.found.now c.ask_list.new.found c.args.runs.now c.args.runs.now c.args.steps.now c.args.steps.now c.in-Listed.is (list_asked r held c.args.found.now c.ask_list.new.found c.args.runs.now c.in-Listed.rel c.in-Listed.inst c.args.steps.now h)) c.ask_list.ensures
+
+pub returns-in-Days : goal.returns-in-Days
+returns-in-Days g c =
+    let r = g.H.Held.rules c.args.held.now in let held = g.H.Held.held c.args.held.now in
+    on_ok_weaker c.take_days.result (λ h. of_step r held c.args.step.now (step.Days c.in-Days.part c.in-Days.enclosing c.in-Days.first c.in-Days.end) c.args.found.now c.args.found.now c.args.runs.now c.args.runs.now c.args.steps.now c.take_days.new.steps c.in-Days.is (h c.args.found.now c.args.runs.now)) c.take_days.ensures
+
+pub returns-in-AfterDay : goal.returns-in-AfterDay
+returns-in-AfterDay g c =
+    let r = g.H.Held.rules c.args.held.now in let held = g.H.Held.held c.args.held.now in
+    on_ok_weaker c.leave_day.result (λ h. of_step r held c.args.step.now (step.AfterDay c.in-AfterDay.part c.in-AfterDay.enclosing c.in-AfterDay.day c.in-AfterDay.end) c.args.found.now c.args.found.now c.args.runs.now c.args.runs.now c.args.steps.now c.leave_day.new.steps c.in-AfterDay.is h) c.leave_day.ensures
+
+pub returns-in-AfterPoint : goal.returns-in-AfterPoint
+returns-in-AfterPoint g c =
+    let r = g.H.Held.rules c.args.held.now in let held = g.H.Held.held c.args.held.now in
+    on_ok_weaker c.leave_point.result (λ h. of_step r held c.args.step.now (step.AfterPoint c.in-AfterPoint.attr c.in-AfterPoint.inst c.in-AfterPoint.day) c.args.found.now c.args.found.now c.args.runs.now c.leave_point.new.runs c.args.steps.now c.args.steps.now c.in-AfterPoint.is (h c.args.steps.now)) c.leave_point.ensures

@@ -17,7 +17,7 @@ pub loop-name-preserved : goal.loop-name-preserved
 loop-name-preserved g c =
     let r = g.H.Held.rules c.args.held.now in let held = g.H.Held.held c.args.held.now in
     let passed = members_pass r held c.args.quant c.args.target c.args.names.now c.loop-name.rest.now c.in-Some.later.now c.in-Some.name.now c.args.parts.now c.args.enclosing.now c.args.day c.in_ok-steps.steps c.in-Some.ensures (let none : length c.in_ok-steps.steps ≡ 0 = omega (arith, c.if-len-gt0.false, c.len.ensures) in none) c.in_ok-steps.ensures.steps (c.loop-name.invariant.needs, c.loop-name.invariant.listed) in
-    record { needs = passed.0; listed = passed.1; values = c.in_ok-steps.ensures.stay }
+    record { needs = passed.0; listed = passed.1; values = c.in_ok-steps.ensures.stay; room = c.in_ok-steps.ensures.room }
 
 pub returns : goal.returns
 returns g c =

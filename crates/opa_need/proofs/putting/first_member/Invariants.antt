@@ -1,4 +1,5 @@
 use Rattle.std.proofs.Common.{◌≡◌, length}
+use Rattle.opa_need.specs.Inner.{HasRoom}
 use Rattle.opa_need.specs.Members.{AreOfOperands}
 use Rattle.opa_need.specs.Steps.{AreListed, members_needs}
 use Rattle.opa_need.proofs.putting.first_member.Given as goal
@@ -11,6 +12,7 @@ invariant-loop-name g l =
       needs : members_needs r held l.quant l.target l.names l.parts l.enclosing l.day ≡ members_needs r held l.quant l.target l.rest l.parts l.enclosing l.day;
       listed : AreListed r held l.target l.rest;
       values : AreOfOperands r held l.parts l.values;
+      room : HasRoom l.enclosing l.inner;
     }
 
 abbrev pub decreases-loop-name : goal.decreases-loop-name
