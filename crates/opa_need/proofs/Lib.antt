@@ -10,3 +10,6 @@ pub mod GoalLaws
 pub mod Settling
 pub mod SettledParts
 pub mod Steadiness
+pub mod PlacesAlike
+pub mod NeedsAlike
+pub mod SameLaws

@@ -1,3 +1,4 @@
+pub mod Alike
 pub mod Completions
 pub mod Dates
 pub mod Finding
