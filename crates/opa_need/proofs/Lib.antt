@@ -12,4 +12,4 @@ pub mod SettledParts
 pub mod Steadiness
 pub mod PlacesAlike
 pub mod NeedsAlike
-pub mod SameLaws
+pub mod Noting

@@ -170,6 +170,10 @@ module _ (r : Rulebase) (c : CaseView) where
   parts_on x es es' d old new same live lt e =
       puts_one (step.Parts x es' d) (parts_needs r c x.now es d) old new e (ap (λ ks. parts_needs r c x.now ks d) same) refl (subst (λ ks. AllByRecursion (IsLive c) ks) (sym same) live, lt)
 
+  pub tree_on : (x : Bor Expr) (es es' : List InstanceId) (d : ℕ) (old new : List Step) → es' ≡ es → AllByRecursion (IsLive c) es → d < DAYS → new ≡ old ++ step.Tree x es' d ∷ [] → PutsOn r c (tree_needs r c x.now es d) old new
+  tree_on x es es' d old new same live lt e =
+      puts_one (step.Tree x es' d) (tree_needs r c x.now es d) old new e (ap (λ ks. tree_needs r c x.now ks d) same) refl (subst (λ ks. AllByRecursion (IsLive c) ks) (sym same) live, lt)
+
   pub members_on : (q : Quant) (t : ℕ) (names : Bor (List (List ℕ))) (x : Bor (List Expr)) (es es' : List InstanceId) (d : ℕ) (old new : List Step) → es' ≡ es → AllByRecursion (IsLive c) es → d < DAYS → AreListed r c t names.now → new ≡ old ++ step.Members q t names x es' d ∷ []
       → PutsOn r c (members_needs r c q t names.now x.now es d) old new
   members_on q t names x es es' d old new same live lt listed e =

@@ -6,5 +6,6 @@ pub mod Goals
 pub mod Indexed
 pub mod Inner
 pub mod Members
+pub mod Noted
 pub mod Operands
 pub mod Steps

@@ -106,6 +106,7 @@ module _ (r : Rulebase) (c : CaseView) where
   step_needs (step.Days e enclosing first end) = days_needs e.now enclosing first end
   step_needs (step.AfterDay e enclosing d end) = days_needs e.now enclosing (d + 1) end
   step_needs (step.AfterPoint a i d) = []
+  step_needs (step.AfterTree e enclosing d) = []
   step_needs (step.Parts es enclosing d) = parts_needs es.now enclosing d
   step_needs (step.Members q t names es enclosing d) = members_needs q t names.now es.now enclosing d
 
@@ -113,6 +114,7 @@ module _ (r : Rulebase) (c : CaseView) where
   abbrev pub claim : Step → List Use
   claim (step.AfterDay e enclosing d end) = part_needs e.now enclosing d
   claim (step.AfterPoint a i d) = point_needs a i d
+  claim (step.AfterTree e enclosing d) = tree_needs e.now enclosing d
   claim _ = []
 
   abbrev pub AreAsking : List Step → List Use
@@ -136,6 +138,7 @@ module _ (r : Rulebase) (c : CaseView) where
   IsReady (step.Days e enclosing first end) = AllByRecursion (IsLive c) enclosing × (end ≤ DAYS)
   IsReady (step.AfterDay e enclosing d end) = AllByRecursion (IsLive c) enclosing × (d < DAYS) × (end ≤ DAYS)
   IsReady (step.AfterPoint a i d) = IsLive c i × (d < DAYS)
+  IsReady (step.AfterTree e enclosing d) = AllByRecursion (IsLive c) enclosing × (d < DAYS)
   IsReady (step.Parts es enclosing d) = AllByRecursion (IsLive c) enclosing × (d < DAYS)
   IsReady (step.Members q t names es enclosing d) = AllByRecursion (IsLive c) enclosing × (d < DAYS) × AreListed t names.now
 

@@ -5,7 +5,8 @@ ghost use Rattle.opa_case.specs.declared.question.Question.TheVariants as questi
 ghost use Rattle.opa_date.specs.declared.TheConstants.{DAYS};
 ghost use Rattle.opa_mean.specs.Next.{first_or};
 ghost use Rattle.opa_mean.specs.Sameness.{same_question};
-ghost use Rattle.opa_need.specs.Finding.{added};
+ghost use Rattle.opa_need.specs.Finding.{Grows, added};
+ghost use Rattle.opa_need.specs.Noted.{GoesOn};
 ghost use Rattle.opa_need.specs.Steps.{GivesWay, IsReady, LeadsOn, Settles, point_needs};
 ghost use Rattle.opa_need.specs.declared.steps.Step.{Step as Steps};
 ghost use Rattle.opa_need.specs.declared.steps.Step.TheVariants as step;
@@ -14,7 +15,9 @@ ghost use Rattle.opa_tree.specs.Rules as rules;
 
 use crate::found::Found;
 use crate::looking::{again, rule_of};
-use crate::putting::{take_members, take_part, take_parts, take_tree};
+use crate::noted::{NotedTree, note_tree};
+use crate::passing::take_or_pass;
+use crate::putting::{take_members, take_part, take_parts};
 use crate::runs::{Run, Runs, add_run, run_of};
 use crate::stays::open_from;
 use crate::steps::Step;
@@ -44,6 +47,7 @@ pub(crate) fn questions<H: Held>(
 {
     let mut found = Found::new(alloc);
     let mut runs = Cells::new(alloc);
+    let mut noted = Vec::new(alloc);
     let mut steps = List::new(alloc);
     let from = inst.copy(alloc)?;
     steps.push(Step::Point(attr, from, day))?;
@@ -54,7 +58,9 @@ pub(crate) fn questions<H: Held>(
         match steps.pop() {
             None => return Ok(found.into_list()),
             Some(step) => {
-                take(alloc, held, &step, &mut steps, &mut found, &mut runs)?;
+                take(
+                    alloc, held, &step, &mut steps, &mut found, &mut runs, &mut noted,
+                )?;
             }
         }
     }
@@ -69,13 +75,14 @@ fn take<'a, H: Held>(
     steps: &mut List<Step<'a>>,
     found: &mut Found,
     runs: &mut Runs,
+    noted: &mut Vec<NotedTree<'a>>,
 ) -> Result<(), NoMemory>
     requires { IsReady (H.rules held.now) (H.held held.now) step.now }
-    ensures { OnOk result (LeadsOn (H.rules held.now) (H.held held.now) step.now found.old runs.old steps.old found.new runs.new steps.new) }
+    ensures { OnOk result (GoesOn (H.rules held.now) (H.held held.now) step.now found.old runs.old noted.old.items steps.old found.new runs.new noted.new.items steps.new) }
 {
     match step {
         Step::Tree(tree, enclosing, day) => {
-            take_tree(alloc, held, steps, *tree, enclosing, *day)
+            take_or_pass(alloc, held, steps, *tree, enclosing, *day, noted)
         }
         Step::Part(part, enclosing, day) => {
             take_part(alloc, held, steps, *part, enclosing, *day)
@@ -96,6 +103,7 @@ fn take<'a, H: Held>(
             let last = steps.len() == 0;
             leave_point(alloc, held, *attr, inst, *day, last, found, runs)
         }
+        Step::AfterTree(tree, enclosing, day) => note_tree(alloc, noted, *tree, enclosing, *day),
         Step::Parts(parts, enclosing, day) => {
             take_parts(alloc, held, steps, *parts, enclosing, *day)
         }
@@ -191,7 +199,8 @@ fn take_point<'a, H: Held>(
 ) -> Result<(), NoMemory>
     requires day { day < DAYS }
     requires live { IsLive (H.held held.now) inst.now }
-    ensures { OnOk result (LeadsOn (H.rules held.now) (H.held held.now) (step.Point attr inst.now day) found.old runs.now steps.old found.new runs.now steps.new) }
+    ensures leads { OnOk result (LeadsOn (H.rules held.now) (H.held held.now) (step.Point attr inst.now day) found.old runs.now steps.old found.new runs.now steps.new) }
+    ensures grows { OnOk result (Grows found.old found.new) }
 {
     let _case = held.case();
     match rule_of(held, attr) {

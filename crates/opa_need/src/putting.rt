@@ -8,6 +8,7 @@ ghost use Rattle.opa_need.specs.Steps.{AreListed, IsFirstMember, IsFirstPart, Pu
 use crate::inner::with_room;
 use crate::looking::{again, is_unknown, value_at};
 use crate::members::OperandValues;
+use crate::noted::is_inner;
 use crate::opening::open;
 use crate::parting::member_steps;
 use crate::steps::Step;
@@ -45,6 +46,43 @@ pub(crate) fn take_tree<'a, H: Held>(
     Ok(())
 }
 
+/// A tree that is unknown: a quantifier in the operand of another one comes as a step of its own, so that it can be passed
+/// over; the parts of any other take its place.
+fn take_open<'a, H: Held>(
+    alloc: Global,
+    held: &'a H,
+    steps: &mut List<Step<'a>>,
+    tree: &'a Expr,
+    enclosing: &List<InstanceId>,
+    day: u32,
+) -> Result<(), NoMemory>
+    requires day { day < DAYS }
+    requires live { AllByRecursion (IsLive (H.held held.now)) enclosing.now }
+    ensures { OnOk result (PutsOn (H.rules held.now) (H.held held.now) (tree_needs (H.rules held.now) (H.held held.now) tree.now enclosing.now day) steps.old steps.new) }
+{
+    if is_inner(tree, enclosing) {
+        put_tree(alloc, held, steps, tree, enclosing, day)
+    } else {
+        take_tree(alloc, held, steps, tree, enclosing, day)
+    }
+}
+
+fn put_tree<'a, H: Held>(
+    alloc: Global,
+    _held: &H,
+    steps: &mut List<Step<'a>>,
+    tree: &'a Expr,
+    enclosing: &List<InstanceId>,
+    day: u32,
+) -> Result<(), NoMemory>
+    requires day { day < DAYS }
+    requires live { AllByRecursion (IsLive (H.held _held.now)) enclosing.now }
+    ensures { OnOk result (PutsOn (H.rules _held.now) (H.held _held.now) (tree_needs (H.rules _held.now) (H.held _held.now) tree.now enclosing.now day) steps.old steps.new) }
+{
+    let enclosing = again(alloc, enclosing)?;
+    steps.push(Step::Tree(tree, enclosing, day))
+}
+
 /// A part: it is looked at where it is unknown.
 pub(crate) fn take_part<'a, H: Held>(
     alloc: Global,
@@ -60,7 +98,7 @@ pub(crate) fn take_part<'a, H: Held>(
 {
     let value = value_at(alloc, held, part, enclosing, day)?;
     if is_unknown(&value) {
-        take_tree(alloc, held, steps, part, enclosing, day)?;
+        take_open(alloc, held, steps, part, enclosing, day)?;
     }
     Ok(())
 }
@@ -82,7 +120,7 @@ pub(crate) fn take_parts<'a, H: Held>(
         None => Ok(()),
         Some((part, later)) => {
             put_parts(alloc, held, steps, later, enclosing, day)?;
-            take_tree(alloc, held, steps, part, enclosing, day)
+            take_open(alloc, held, steps, part, enclosing, day)
         }
     }
 }
