@@ -25,6 +25,10 @@ behind_last front text whole out part full h =
 pub behind_nothing : (front text whole out : List ℕ) → text ≡ [] → out ++ fronted front text ≡ whole → out ≡ whole
 behind_nothing front text whole out e h = sym (append-nil out) ∙ ap (λ t. out ++ fronted front t) (sym e) ∙ h
 
+-- nothing stands behind a front if there is nothing
+pub nothing_behind : (front text : List ℕ) → text ≡ [] → [] ≡ fronted front text
+nothing_behind front text e = sym (ap (fronted front) e)
+
 pub behind_shorter : (text line after : List ℕ) → text ≡ line ++ 10 ∷ after → length after < length text
 behind_shorter text line after e = omega (arith, ap length e, length-append line (10 ∷ after))
 

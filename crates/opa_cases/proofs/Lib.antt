@@ -1,6 +1,7 @@
 pub mod ReadLaws
 pub mod OrderLaws
 pub mod OpenLaws
+pub mod RoomLaws
 pub mod FitLaws
 pub mod BehindLaws
 pub mod ServeLaws

@@ -119,9 +119,13 @@ fn add_lines(out: &mut Vec<u8>, front: &[u8], text: &[u8]) -> Result<(), NoMemor
 }
 
 /// Puts the name of a case before each line of a text.
+#[tactic(auto, using(crate::proofs::BehindLaws::nothing_behind))]
 pub(crate) fn behind_name(alloc: Global, name: &Txt, text: &[u8]) -> Result<Vec<u8>, NoMemory>
     ensures { IfOk result (λ t. t.items ≡ text_behind name.now text.now) }
 {
+    if text.is_empty() {
+        return Ok(Vec::new(alloc));
+    }
     let front = front_of(alloc, name)?;
     let mut out = Vec::new(alloc);
     add_lines(&mut out, &front, text)?;

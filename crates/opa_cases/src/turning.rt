@@ -67,10 +67,15 @@ impl<L: Ledger> Caseload<L> {
     }
 
     /// Whether no further name may be opened, and this one isn't open.
+    #[tactic(auto, using(crate::proofs::RoomLaws::room_left, crate::proofs::RoomLaws::no_room))]
     pub(crate) fn is_full(&self, name: &Txt) -> bool
         ensures { result ≡ is_full_of (opens_of self.now.session self.now.current self.now.others) name.now }
     {
-        !self.has(name) && self.count() >= MOST_CASES
+        // The number first: it is there, and a name is looked up.
+        if self.count() < MOST_CASES {
+            return false;
+        }
+        !self.has(name)
     }
 
     /// Lays the case that the session holds beside the others.
@@ -88,6 +93,7 @@ impl<L: Ledger> Caseload<L> {
             pile,
         } = current;
         self.others.insert(
+            alloc,
             name,
             OpenCase {
                 case,

@@ -2,15 +2,15 @@
 ghost use Rattle.std.specs.Prelude.{◌≡◌, ◌<◌, ◌^◌, is_some, OnOk, OnErr};
 ghost use Rattle.std.specs.FinMap as map;
 
-use opa_io::{NoMemory, Txt};
+use opa_io::{Boxed, NoMemory, Txt};
 use std::alloc::Global;
 use std::collections::BTreeMap;
 use std::marker::Model;
 
-/// What stands under names.
+/// What stands under names. The tree shifts its entries at each change, so that they are to be small.
 #[derive(Drop)]
 pub struct Named<V> {
-    entries: BTreeMap<Txt, V>,
+    entries: BTreeMap<Txt, Boxed<V>>,
 }
 
 impl<V> Model for Named<V> {
@@ -53,11 +53,12 @@ impl<V> Named<V> {
 
 impl<V: Drop> Named<V> {
     /// Puts a value under a name.
-    pub fn insert(&mut self, name: Txt, value: V) -> Result<(), NoMemory>
+    pub fn insert(&mut self, alloc: Global, name: Txt, value: V) -> Result<(), NoMemory>
         ensures ok { OnOk result (self.new ≡ map.insert self.old name value) }
         ensures err { OnErr result (self.new ≡ self.old) }
     {
-        match self.entries.insert(name, value) {
+        let boxed = Boxed::new(alloc, value)?;
+        match self.entries.insert(name, boxed) {
             Ok(_) => Ok(()),
             Err(_) => Err(NoMemory),
         }
@@ -68,6 +69,7 @@ impl<V: Drop> Named<V> {
         ensures value { result ≡ map.get self.old name.now }
         ensures rest { self.new ≡ map.remove self.old name.now }
     {
-        self.entries.remove(name)
+        let boxed = self.entries.remove(name)?;
+        Some(boxed.into_inner())
     }
 }
