@@ -67,14 +67,17 @@ module _ {W : Type 0} (contents : W → Option (List ℕ)) where
   pub rows_of_base : (old new : Writer W) (r r' : Rulebase) (heads : List Head) (records : List (List (List ℕ))) → r' ≡ r → AddsRows contents old new r' heads records → AddsRows contents old new r heads records
   rows_of_base old new r r' heads records e h = subst (λ b. AddsRows contents old new b heads records) e h
 
-  -- behind a heading
-  pub rows_follow : (none headed new : Writer W) (r : Rulebase) (heads : List Head) (records : List (List (List ℕ))) (row : List (List ℕ)) (text : List ℕ) → HoldsText contents none []
-      → row ≡ heading r → AddsText contents none headed (written_row row) → AddsRows contents headed new r heads records → ((all : List ℕ) → HoldsText contents new all → text ≡ all)
-      → HasRows r heads records (written_row (heading r)) text
-  rows_follow none headed new r heads records row text empty is first rows told =
-      let begun : HoldsText contents headed (written_row row) = first.adds [] empty in
-      let (all, holds, has) = rows.all (written_row row) begun in
-      subst (λ t. HasRows r heads records (written_row (heading r)) t) (sym (told all holds)) (subst (λ cells. HasRows r heads records (written_row cells) all) is has)
+  -- the heading alone
+  pub heading_begins : (none headed : Writer W) (r : Rulebase) (row : List (List ℕ)) → HoldsText contents none [] → row ≡ heading r → AddsText contents none headed (written_row row)
+      → HoldsText contents headed (written_row (heading r))
+  heading_begins none headed r row empty is first = subst (λ cells. HoldsText contents headed (written_row cells)) is (first.adds [] empty)
+
+  -- the rows behind a text
+  pub rows_end : (headed new : Writer W) (r : Rulebase) (heads : List Head) (records : List (List (List ℕ))) (first text : List ℕ) → HoldsText contents headed first → AddsRows contents headed new r heads records
+      → ((all : List ℕ) → HoldsText contents new all → text ≡ all) → HasRows r heads records first text
+  rows_end headed new r heads records first text begun rows told =
+      let (all, holds, has) = rows.all first begun in
+      subst (λ t. HasRows r heads records first t) (sym (told all holds)) has
 
 -- ---- what is given
 

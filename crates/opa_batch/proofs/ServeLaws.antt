@@ -1,5 +1,5 @@
 -- What becomes of a batch, with the shelf left out of sight.
-use Rattle.std.proofs.Common.{◌≡◌, ℕ, List, subst}
+use Rattle.std.proofs.Common.{◌≡◌, ℕ, List, subst, sym}
 use Rattle.std.specs.Prelude.{Option, None, Some, Err, IfSome}
 use Rattle.opa_io.specs.Outside.{Files}
 use Rattle.opa_io.specs.declared.fault.Status.{Status}
@@ -8,11 +8,13 @@ use Rattle.opa_tree.specs.declared.rulebase.Rulebase.{Rulebase}
 use Rattle.opa_rulebase.specs.declared.fault.LoadError.{LoadError}
 use Rattle.opa_rulebase.specs.declared.fault.LoadError.TheVariants as load
 use Rattle.opa_rulebase.specs.Loading.{Opens, IsRefusalOf, HasLoadError}
-use Rattle.opa_talk.specs.WholeInput.Outside.{MOST, Outside}
-use Rattle.opa_talk.specs.WholeInput.Reading.{ReadsAll}
+use Rattle.opa_talk.specs.declared.whole_input.stop.Stop.{Stop}
+use Rattle.opa_talk.specs.declared.whole_input.stop.Stop.TheVariants as stop
+use Rattle.opa_talk.specs.WholeInput.Outside.{MOST, Outside, IsSilent}
+use Rattle.opa_talk.specs.WholeInput.Reading.{HasStopCause, ReadsAll, StopsReading}
 use Rattle.opa_talk.specs.WholeInput.Telling.{IsTold}
 use Rattle.opa_batch.specs.Batches.{Gives}
-use Rattle.opa_batch.specs.Serving.{IsOpened, Decides}
+use Rattle.opa_batch.specs.Serving.{IsOpened, Decides, stopped}
 
 -- whatever the shelf told and counted
 pub decides_beside : (base : Rulebase) (old new : Outside) (f f' : Option Files) (t t' k k' : ℕ) (s : Status) → Decides base old new s
@@ -28,6 +30,16 @@ pub worked : (base : Rulebase) (old new : Outside) (bytes text : List ℕ) (good
     → IsTold good text old.written new.written old.writes new.writes s → Decides base old new s
 worked base old new bytes text good s read gives told =
     Decides.works (record { read = bytes; took = read.took; within = read.within; ended = read.ended; good = good; text = text; gives = gives; told = told })
+
+-- the input wasn't read to its end, and nothing was written
+ended : (base : Rulebase) (old new : Outside) (s : Stop) → HasStopCause old.reads new.reads s → StopsReading MOST old.left new.left s → IsSilent old new → Decides base old new (stopped s)
+ended base old new stop.Input cause read none = Decides.cannot_read cause read none
+ended base old new stop.Memory cause read none = Decides.runs_out read none
+ended base old new stop.Limit cause read none = Decides.too_long read none
+
+pub not_read : (base : Rulebase) (old new : Outside) (s : Stop) (result : Status) → result ≡ stopped s → HasStopCause old.reads new.reads s → StopsReading MOST old.left new.left s → IsSilent old new
+    → Decides base old new result
+not_read base old new s result e cause read none = subst (Decides base old new) (sym e) (ended base old new s cause read none)
 
 -- ---- what was opened
 

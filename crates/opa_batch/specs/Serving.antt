@@ -9,6 +9,8 @@ use Rattle.opa_tree.specs.declared.rulebase.Rulebase.{Rulebase}
 use Rattle.opa_rulebase.specs.Loading.{Opens}
 use Rattle.opa_talk.specs.WholeInput.Outside.{MOST, Outside, IsUnused, IsSilent, ReadAtMost, ReadExactly}
 use Rattle.opa_talk.specs.WholeInput.Telling.{IsTold}
+use Rattle.opa_talk.specs.declared.whole_input.stop.Stop.{Stop}
+use Rattle.opa_talk.specs.declared.whole_input.stop.Stop.TheVariants as stop
 use Rattle.opa_batch.specs.Batches.{Gives}
 
 -- this is what the files open under the name, where they are told
@@ -41,3 +43,11 @@ pub data Serves (name : List ℕ) (old new : Outside) : Status → Type 0 where
   refuses : {result : Status} (text : List ℕ) → IsOpened old.files name (Err text) → IsUnused old new → IsTold status.Refused text old.written new.written old.writes new.writes result → Serves name old new result
   cannot_take : Rose old.takes new.takes → IsUnused old new → IsSilent old new → Serves name old new status.ReadFault
   cannot_hold : IsUnused old new → IsSilent old new → Serves name old new status.NoMemory
+
+-- ---- on the way there
+
+-- how a batch ends whose input wasn't read
+abbrev pub stopped : Stop → Status
+stopped stop.Input = status.ReadFault
+stopped stop.Memory = status.NoMemory
+stopped stop.Limit = status.InputLimit

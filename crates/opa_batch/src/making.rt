@@ -9,7 +9,7 @@ ghost use Rattle.opa_batch.specs.Aims.{AreAimed};
 ghost use Rattle.opa_batch.specs.Batches.{Gives, GivesOf, no_heading, written_row as written_row_of, heading as heading_of};
 ghost use Rattle.opa_batch.specs.Counting.{CountsAtMost, RecordReaches, RecordsReach, MayCount, due};
 ghost use Rattle.opa_batch.specs.Cutting.{HasLeft, IsAt, below};
-ghost use Rattle.opa_batch.specs.Gathered.{AddsRow, AddsRows};
+ghost use Rattle.opa_batch.specs.Gathered.{AddsRow, AddsRows, HoldsText};
 ghost use Rattle.opa_batch.specs.Known.{AreKept};
 ghost use Rattle.opa_batch.specs.Numbered.{HasRows};
 
@@ -23,7 +23,7 @@ use crate::kept::{Kept, add_kept, add_known, none_kept};
 use crate::records::{cut_next, reader_of};
 use crate::same::slot_of;
 use csv::{ByteRecord, Reader, Writer};
-use opa_io::{NoMemory, Status, Steps};
+use opa_io::{NoMemory, Status, Steps, Txt};
 use opa_session::Session;
 use opa_tree::Rulebase;
 use std::alloc::Global;
@@ -148,7 +148,11 @@ fn determined<L: Ledger>(
     ensures rows { OnOk result (AddsRows (λ v. Some v.items) out.old out.new base heads.now (below bytes.now)) }
     ensures counts { CountsAtMost (RecordsReach base heads.now (below bytes.now)) steps.old steps.new }
 {
-    let aims = aims_of(alloc, &base.model, heads)?;
+    // A rulebase has many parts: here and below, no exit lets them go one by one.
+    let Ok(aims) = aims_of(alloc, &base.model, heads) else {
+        drop(base);
+        return Err(NoMemory);
+    };
     let mut session = Session::start(alloc, base, steps)?;
     let added = add_rows(
         alloc,
@@ -180,12 +184,47 @@ fn with_rows<L: Ledger>(
     ensures rows { OnOk result (AddsRows (λ v. Some v.items) out.old out.new base heads.now (below bytes.now)) }
     ensures counts { CountsAtMost (RecordsReach base heads.now (below bytes.now)) steps.old steps.new }
 {
-    let found = cut_next(reader, row)?;
+    let Ok(found) = cut_next(reader, row) else {
+        drop(base);
+        return Err(NoMemory);
+    };
     if !found {
+        drop(base);
         return Ok(());
     }
     determined(alloc, base, heads, bytes, reader, row, out, steps)?;
     Ok(())
+}
+
+/// The heading, as a batch writes it.
+fn begun(alloc: Global, base: &Rulebase, row: &mut ByteRecord) -> Result<Writer<Vec<u8>>, NoMemory>
+    ensures { IfOk result (λ w. HoldsText (λ v. Some v.items) w (written_row_of (heading_of base.now))) }
+{
+    fill_heading(base, row)?;
+    let mut out = no_rows(alloc);
+    add_row(&mut out, row)?;
+    Ok(out)
+}
+
+/// The text of a heading and of the rows of the records below heads.
+fn filled<L: Ledger>(
+    alloc: Global,
+    base: Rulebase,
+    heads: &[Head],
+    bytes: &[u8],
+    reader: &mut Reader<&[u8]>,
+    row: &mut ByteRecord,
+    mut out: Writer<Vec<u8>>,
+    steps: &mut Steps<L>,
+) -> Result<Vec<u8>, NoMemory>
+    requires left { HasLeft reader.old (below bytes.now) }
+    requires begun { HoldsText (λ v. Some v.items) out (written_row_of (heading_of base)) }
+    ensures rows { IfOk result (λ t. HasRows base heads.now (below bytes.now) (written_row_of (heading_of base)) t.items) }
+    ensures counts { CountsAtMost (RecordsReach base heads.now (below bytes.now)) steps.old steps.new }
+{
+    with_rows(alloc, base, heads, bytes, reader, row, &mut out, steps)?;
+    let text = text_of(out)?;
+    Ok(text)
 }
 
 /// The heading and the rows of the records below heads.
@@ -202,12 +241,23 @@ fn decided<L: Ledger>(
     ensures rows { IfOk result (λ t. HasRows base heads.now (below bytes.now) (written_row_of (heading_of base)) t.items) }
     ensures counts { CountsAtMost (RecordsReach base heads.now (below bytes.now)) steps.old steps.new }
 {
-    let mut out = no_rows(alloc);
-    fill_heading(&base, row)?;
-    add_row(&mut out, row)?;
-    with_rows(alloc, base, heads, bytes, reader, row, &mut out, steps)?;
-    let text = text_of(out)?;
-    Ok(text)
+    let Ok(out) = begun(alloc, &base, row) else {
+        drop(base);
+        return Err(NoMemory);
+    };
+    filled(alloc, base, heads, bytes, reader, row, out, steps)
+}
+
+/// What the heads of an input that are none give.
+fn refused(alloc: Global, text: &Txt) -> Result<Made, NoMemory>
+    ensures good { IfOk result (λ m. m.good ≡ statuses.Refused) }
+    ensures text { IfOk result (λ m. m.text.items ≡ text.now) }
+{
+    let text = text.as_str().as_bytes().to_vec(alloc)?;
+    Ok(Made {
+        good: Status::Refused,
+        text,
+    })
 }
 
 /// What the heading of an input, which was cut, and the records below it give.
@@ -223,14 +273,15 @@ fn headed<L: Ledger>(
     ensures gives { IfOk result (λ m. GivesOf base (fields_of row.old ∷ below bytes.now) m.good m.text.items) }
     ensures counts { MayCount base (fields_of row.old ∷ below bytes.now) steps.old steps.new }
 {
-    let columns = heads_of(alloc, &base.model, row)?;
+    let Ok(columns) = heads_of(alloc, &base.model, row) else {
+        drop(base);
+        return Err(NoMemory);
+    };
     match columns {
         Err(text) => {
-            let text = text.as_str().as_bytes().to_vec(alloc)?;
-            Ok(Made {
-                good: Status::Refused,
-                text,
-            })
+            drop(base);
+            let made = refused(alloc, &text)?;
+            Ok(made)
         }
         Ok(heads) => {
             let text = decided(alloc, base, heads.as_slice(), bytes, reader, row, steps)?;
@@ -260,19 +311,23 @@ fn given<L: Ledger>(
     base: Rulebase,
     bytes: &[u8],
     reader: &mut Reader<&[u8]>,
+    row: &mut ByteRecord,
     steps: &mut Steps<L>,
 ) -> Result<Made, NoMemory>
     requires left { HasLeft reader.old (table_records bytes.now) }
     ensures gives { IfOk result (λ m. Gives base bytes.now m.good m.text.items) }
     ensures counts { MayCount base (table_records bytes.now) steps.old steps.new }
 {
-    let mut row = ByteRecord::new(alloc);
-    let found = cut_next(reader, &mut row)?;
+    let Ok(found) = cut_next(reader, row) else {
+        drop(base);
+        return Err(NoMemory);
+    };
     if !found {
+        drop(base);
         let made = without_heading(alloc)?;
         return Ok(made);
     }
-    let made = headed(alloc, base, bytes, reader, &mut row, steps)?;
+    let made = headed(alloc, base, bytes, reader, row, steps)?;
     Ok(made)
 }
 
@@ -287,6 +342,7 @@ pub(crate) fn make<L: Ledger>(
     ensures counts { MayCount base (table_records bytes.now) steps.old steps.new }
 {
     let mut reader = reader_of(alloc, bytes);
-    let made = given(alloc, base, bytes, &mut reader, steps)?;
-    Ok(made)
+    let mut row = ByteRecord::new(alloc);
+    let made = given(alloc, base, bytes, &mut reader, &mut row, steps);
+    made
 }

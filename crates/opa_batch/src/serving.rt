@@ -4,6 +4,7 @@ ghost use Rattle.opa_model.specs.Models.{IsModel};
 ghost use Rattle.opa_talk.specs.WholeInput.Outside.{outside};
 ghost use Rattle.opa_batch.specs.Counting.{Counts, CountsOver};
 ghost use Rattle.opa_batch.specs.Serving.{Decides, Serves};
+ghost use Rattle.opa_batch.specs.Serving as meant;
 
 use crate::making::make;
 use opa_io::{Shelf, Sink, Source, Status, Steps};
@@ -18,6 +19,17 @@ fn declares_a_model(base: &Rulebase)
     ensures { IsModel base.now.model }
 {
     let _count = base.model.entity_count();
+}
+
+/// How a batch ends whose input wasn't read.
+fn stopped(stop: Stop) -> Status
+    ensures { result ≡ meant.stopped stop }
+{
+    match stop {
+        Stop::Input => Status::ReadFault,
+        Stop::Memory => Status::NoMemory,
+        Stop::Limit => Status::InputLimit,
+    }
 }
 
 /// Reads an input, and writes what it gives over a rulebase.
@@ -39,9 +51,10 @@ fn decide<S: Source, F: Shelf, K: Sink, L: Ledger>(
             Ok(made) => tell(made.good, out, &made.text),
             Err(_) => Status::NoMemory,
         },
-        Err(Stop::Input) => Status::ReadFault,
-        Err(Stop::Memory) => Status::NoMemory,
-        Err(Stop::Limit) => Status::InputLimit,
+        Err(stop) => {
+            drop(base);
+            stopped(stop)
+        }
     }
 }
 

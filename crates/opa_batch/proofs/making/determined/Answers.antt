@@ -25,10 +25,10 @@ returns-clause-counts g c =
     determined_counts c.args.base (rules_of c.in_ok-session.session) c.args.heads.now (below c.args.bytes.now) c.args.steps.now c.start.new.steps c.add_rows-added.new.steps c.in_ok-session.ensures.base c.in_ok-session.ensures.bound
     c.add_rows-added.ensures.counts
 
-pub returns-in_err-aims-clause-counts : goal.returns-in_err-aims-clause-counts
-returns-in_err-aims-clause-counts g c =
+pub returns-in_default-clause-counts : goal.returns-in_default-clause-counts
+returns-in_default-clause-counts g c =
     started c.args.base c.args.heads.now (below c.args.bytes.now) c.args.steps.now c.args.steps.now (some_below c.args.bytes.now (fields_of c.args.row.now) c.args.reader.now c.requires.at) (omega arith)
 
 pub add_rows-added-requires-clause-aimed : goal.add_rows-added-requires-clause-aimed
 add_rows-added-requires-clause-aimed g c =
-    subst (λ (b : Rulebase). AreAimed b.model c.args.heads.now c.deref.result.now) (sym c.in_ok-session.ensures.base) (subst (AreAimed c.args.base.model c.args.heads.now) (sym c.deref.ensures.value) c.in_ok-aims.ensures)
+    subst (λ (b : Rulebase). AreAimed b.model c.args.heads.now c.deref.result.now) (sym c.in_ok-session.ensures.base) (subst (AreAimed c.args.base.model c.args.heads.now) (sym c.deref.ensures.value) c.in-Ok.ensures)

@@ -1,6 +1,6 @@
 use Rattle.opa_io.proofs.Appended.{Appends-none}
 use Rattle.opa_batch.specs.Serving.{Decides}
-use Rattle.opa_batch.proofs.ServeLaws.{worked}
+use Rattle.opa_batch.proofs.ServeLaws.{not_read, worked}
 use Rattle.opa_batch.proofs.serving.decide.Goals as goal
 
 pub returns-in-Ok-make-clause-decides : goal.returns-in-Ok-make-clause-decides
@@ -10,11 +10,5 @@ returns-in-Ok-make-clause-decides g c =
 pub returns-in-Ok-clause-decides : goal.returns-in-Ok-clause-decides
 returns-in-Ok-clause-decides g c = Decides.runs_out (c.in-Ok.bytes.items, c.in-Ok.ensures.ok.took, c.in-Ok.ensures.ok.within) (Appends-none _)
 
-pub returns-in-Err-Input-clause-decides : goal.returns-in-Err-Input-clause-decides
-returns-in-Err-Input-clause-decides g c = Decides.cannot_read (rw c.in-Err-Input.field-0-is at c.in-Err-Input.ensures.cause) (rw c.in-Err-Input.field-0-is at c.in-Err-Input.ensures.err) (Appends-none _)
-
-pub returns-in-Err-Memory-clause-decides : goal.returns-in-Err-Memory-clause-decides
-returns-in-Err-Memory-clause-decides g c = Decides.runs_out (rw c.in-Err-Memory.field-0-is at c.in-Err-Memory.ensures.err) (Appends-none _)
-
 pub returns-clause-decides : goal.returns-clause-decides
-returns-clause-decides g c = Decides.too_long (rw c.in-Err-Limit.field-0-is at c.in-Err-Limit.ensures.err) (Appends-none _)
+returns-clause-decides g c = not_read c.args.base _ _ c.in-Err.stop c.stopped.result c.stopped.ensures c.in-Err.ensures.cause c.in-Err.ensures.err (Appends-none _)
