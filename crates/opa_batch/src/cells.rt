@@ -87,9 +87,15 @@ fn case_of(
         return Ok(Err(text));
     }
     let mut case = empty_case(alloc, base);
-    let fault = take_cells(alloc, base, &mut case, heads, aims, row)?;
+    let Ok(fault) = take_cells(alloc, base, &mut case, heads, aims, row) else {
+        drop(case);
+        return Err(NoMemory);
+    };
     match fault {
-        Some(text) => Ok(Err(text)),
+        Some(text) => {
+            drop(case);
+            Ok(Err(text))
+        }
         None => Ok(Ok(case)),
     }
 }

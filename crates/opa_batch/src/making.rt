@@ -130,9 +130,6 @@ fn add_rows<L: Ledger>(
     Ok(())
 }
 
-/// Lets a session go.
-fn let_go<L: Ledger>(_session: Session<L>) {}
-
 /// Adds the rows of the records from the first one on, which was cut, over a session of their own.
 fn determined<L: Ledger>(
     alloc: Global,
@@ -165,7 +162,7 @@ fn determined<L: Ledger>(
         out,
         steps,
     );
-    let_go(session);
+    drop(session);
     added
 }
 
