@@ -1,4 +1,6 @@
 """The descriptions of all examples: of the schema's form, and as the programs say it."""
+import importlib
+import importlib.util
 import json
 import os
 import pathlib
@@ -16,10 +18,8 @@ from sennabasket import Attribute, Cases, Fault, Listed, Rulebase, RulebaseRefus
 from sennabasket.program import found
 from sennabasket.reports import Gone, Stated
 
-try:
-    import jsonschema
-except ImportError:
-    jsonschema = None  # type: ignore[assignment]
+# By its name: whether its types are known depends on what else is installed.
+jsonschema: Any = importlib.import_module("jsonschema") if importlib.util.find_spec("jsonschema") else None
 
 RULEBASES = sorted(
     p.name for p in EXAMPLES.glob("*.txt") if re.search(r"^goal ", p.read_text(), re.M) and not p.stem.endswith(("_input", "_output", "_replies"))
