@@ -1,5 +1,6 @@
 pub mod Codes
 pub mod Coding
+pub mod Constants
 pub mod Fresh
 pub mod Keeping
 pub mod Laws

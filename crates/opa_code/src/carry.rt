@@ -16,7 +16,7 @@ ghost use Rattle.opa_code.specs.declared.node.Node.TheVariants as nodes_of;
 use crate::node::Node;
 use crate::over_lines::{
     Gathering, Operand, certain_line, choice_line, choice_over, gathered_over, known_line, newest,
-    not_line, op_over, rolling_line, window_line,
+    not_line, op_over, rolling_line, same_line, window_line,
 };
 use opa_case::InstanceId;
 use opa_io::NoMemory;
@@ -39,7 +39,7 @@ pub(crate) fn carry_out<'a, K: Look>(
     alloc: Global,
     look: &'a K,
     stack: &mut Vec<Operand<'a>>,
-    node: &Node,
+    node: &'a Node,
     enclosing: &[InstanceId],
 ) -> Result<(), NoMemory>
     ensures { OnOk result ((st : Seq meant.Meaning) → IsStep node.now → Stand enclosing.now stack.old.items st → Stand enclosing.now stack.new.items (put (K.looks look.now) node.now st)) }
@@ -78,7 +78,7 @@ fn carry<'a, K: Look>(
     alloc: Global,
     look: &'a K,
     stack: &mut Vec<Operand<'a>>,
-    node: &Node,
+    node: &'a Node,
     enclosing: &[InstanceId],
 ) -> Result<(), NoMemory>
     ensures { OnOk result ((st : Seq meant.Meaning) → IsStep node.now → Stand enclosing.now stack.old.items st → Stand enclosing.now stack.new.items (put (K.looks look.now) node.now st)) }
@@ -109,11 +109,11 @@ fn operand_count(node: &Node) -> usize
     }
 }
 
-/// What a node makes of its operands: the line of an attribute stays where it is.
+/// What a node makes of its operands: the line of an attribute or of a constant stays where it is.
 fn node_operand<'a, K: Look>(
     alloc: Global,
     look: &'a K,
-    node: &Node,
+    node: &'a Node,
     operands: &[Operand<'a>],
     enclosing: &[InstanceId],
 ) -> Result<Operand<'a>, NoMemory>
@@ -121,7 +121,21 @@ fn node_operand<'a, K: Look>(
 {
     match attribute_in(node) {
         Some((attr, owner)) => attr_operand(alloc, look, attr, owner, enclosing),
-        None => {
+        None => other_operand(alloc, node, operands),
+    }
+}
+
+/// The same of a node that reads no attribute: the line of a constant stays where it is.
+fn other_operand<'a>(
+    alloc: Global,
+    node: &'a Node,
+    operands: &[Operand<'a>],
+) -> Result<Operand<'a>, NoMemory>
+    ensures { IfOk result (λ line. (l : Looked) (enclosing : Seq Instance) → attribute_in node.now ≡ None → IsStep node.now → Has (node_meaning l node.now (map meaning_of operands.now) enclosing) line) }
+{
+    match node {
+        Node::Const(value) => Ok(Operand::seen(value.line())),
+        _ => {
             let line = made_line(alloc, node, operands)?;
             Ok(Operand::made(line))
         }
@@ -144,7 +158,7 @@ fn made_line(alloc: Global, node: &Node, operands: &[Operand<'_>]) -> Result<Lin
     ensures { IfOk result (λ line. (l : Looked) (enclosing : Seq Instance) → attribute_in node.now ≡ None → IsStep node.now → StandsFor DAYS (node_meaning l node.now (map meaning_of operands.now) enclosing) line) }
 {
     match node {
-        Node::Const(value) => Line::constant(alloc, value.copy(alloc)?),
+        Node::Const(value) => same_line(alloc, value.line()),
         Node::All(_) => gathered_over(alloc, Gathering::All, operands),
         Node::Any(_) => gathered_over(alloc, Gathering::Any, operands),
         Node::Not => not_sole(alloc, operands),

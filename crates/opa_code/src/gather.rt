@@ -7,6 +7,7 @@ ghost use Rattle.opa_code.specs.declared.node.Decider.TheVariants as deciders;
 ghost use Rattle.opa_code.specs.declared.node.Node.{Node as ANode};
 ghost use Rattle.opa_code.specs.declared.node.Node.TheVariants as nodes_of;
 
+use crate::constant::Constant;
 use crate::node::{Decider, Node};
 use opa_io::{List, NoMemory};
 use opa_mean::{owner_of, source_of, target_of};
@@ -39,7 +40,10 @@ fn gather(alloc: Global, model: &Model, nodes: &mut List<Node>, tree: &Expr) -> 
     ensures { OnOk result (reverse nodes.new ≡ code (shape_of model.now) tree.now ++ reverse nodes.old) }
 {
     match tree {
-        Expr::Const(value) => nodes.push(Node::Const(value.copy(alloc)?)),
+        Expr::Const(value) => {
+            let value = Constant::of(alloc, value.copy(alloc)?)?;
+            nodes.push(Node::Const(value))
+        }
         Expr::Attr(attr) => nodes.push(Node::Attr(*attr, owner_of(model, *attr))),
         Expr::All(parts) => {
             let behind = nodes.len();

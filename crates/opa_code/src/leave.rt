@@ -23,7 +23,7 @@ pub(crate) fn go_on<'a, 'n, K: Look>(
     alloc: Global,
     look: &'a K,
     stack: &mut Vec<Operand<'a>>,
-    node: &Node,
+    node: &'a Node,
     after: &'n [Node],
     enclosing: &[InstanceId],
 ) -> Result<&'n [Node], NoMemory>
@@ -43,7 +43,7 @@ fn go_past<'a, 'n, K: Look>(
     alloc: Global,
     look: &'a K,
     stack: &mut Vec<Operand<'a>>,
-    node: &Node,
+    node: &'a Node,
     after: &'n [Node],
     enclosing: &[InstanceId],
 ) -> Result<&'n [Node], NoMemory>

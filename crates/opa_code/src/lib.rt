@@ -3,6 +3,7 @@
 
 mod carry;
 mod code;
+mod constant;
 mod derive;
 mod gather;
 mod kept;

@@ -1,7 +1,7 @@
 // The nodes of a rule's code.
+use crate::constant::Constant;
 use opa_model::{AttrId, RelId};
 use opa_tree::{OpKind, Quant, WinKind};
-use opa_value::Value;
 
 /// What makes the nodes behind it needless: a newest result that is false on every day, one that is true, or a true one
 /// before it.
@@ -19,7 +19,7 @@ pub(crate) enum Decider {
 /// so many.
 #[derive(Debug, Drop)]
 pub(crate) enum Node {
-    Const(Value),
+    Const(Constant),
     Attr(AttrId, u32),
     All(usize),
     Any(usize),

@@ -34,7 +34,7 @@ const FIRST_ROOM: usize = 8;
 pub(crate) fn run<'a, K: Look>(
     alloc: Global,
     look: &'a K,
-    nodes: &[Node],
+    nodes: &'a [Node],
     enclosing: &[InstanceId],
 ) -> Result<Vec<Operand<'a>>, NoMemory>
     ensures { IfOk result (λ lines. Leaves (K.looks look.now) enclosing.now nodes.now lines.items) }
@@ -48,7 +48,7 @@ pub(crate) fn run<'a, K: Look>(
 pub(crate) fn run_among<'a, K: Look>(
     alloc: Global,
     look: &'a K,
-    nodes: &[Node],
+    nodes: &'a [Node],
     enclosing: &[InstanceId],
     kept: &mut Kept,
 ) -> Result<Vec<Operand<'a>>, NoMemory>
@@ -66,15 +66,15 @@ pub(crate) fn run_among<'a, K: Look>(
 
 /// One node, or one quantifier with the nodes of its operand: the nodes that are left.
 #[cycle(running)]
-fn step<'a, 'n, K: Look>(
+fn step<'a, K: Look>(
     alloc: Global,
     look: &'a K,
     stack: &mut Vec<Operand<'a>>,
-    node: &Node,
-    after: &'n [Node],
+    node: &'a Node,
+    after: &'a [Node],
     enclosing: &[InstanceId],
     kept: &mut Kept,
-) -> Result<&'n [Node], NoMemory>
+) -> Result<&'a [Node], NoMemory>
     ensures kept { IfOk result (λ rest. (nodes : Seq OfCode) → IsEnd nodes (node.now ∷ after.now) → AreRight (K.looks look.now) nodes kept.old.lines.items
         → Keeps (K.looks look.now) enclosing.now stack.old.items (node.now ∷ after.now) stack.new.items rest.now) }
     ensures right { OnOk result ((nodes : Seq OfCode) → IsEnd nodes (node.now ∷ after.now) → AreRight (K.looks look.now) nodes kept.old.lines.items
@@ -243,7 +243,7 @@ fn add_item<'a, K: Look>(
     alloc: Global,
     look: &'a K,
     quant: Quant,
-    operand: &[Node],
+    operand: &'a [Node],
     enclosing: &[InstanceId],
     items: &mut Items<'a>,
     kept: &mut Kept,

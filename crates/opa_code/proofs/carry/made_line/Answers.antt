@@ -13,7 +13,7 @@ use Rattle.opa_code.specs.declared.node.Node.TheVariants as node
 use Rattle.opa_model.specs.declared.ids.AttrId.{AttrId}
 use Rattle.opa_model.specs.declared.ids.RelId.{RelId}
 use Rattle.opa_tree.specs.declared.kinds.Quant.{Quant}
-use Rattle.opa_code.proofs.Standing.{stands_same, each_lines}
+use Rattle.opa_code.proofs.Standing.{stands_same, each_lines, day_is}
 use Rattle.opa_code.proofs.carry.made_line.Goals as goal
 
 pub returns-in-All : goal.returns-in-All
@@ -48,4 +48,10 @@ no_operation n none ok (inr (inr (inl e))) = subst IsStep e.3 ok
 no_operation n none ok (inr (inr (inr e))) = subst IsStep e.1 ok
 
 pub returns-in-Attr : goal.returns-in-Attr
-returns-in-Attr c = ok_weaker c.constant-in-Attr.result _ _ (λ line h l enclosing none ok. absurd (no_operation c.args.node.now none ok c.in-Attr.is)) c.constant-in-Attr.ensures.everywhere
+returns-in-Attr c = ok_weaker c.constant.result _ _ (λ line h l enclosing none ok. absurd (no_operation c.args.node.now none ok c.in-Attr.is)) c.constant.ensures.everywhere
+
+pub returns-in-Const : goal.returns-in-Const
+returns-in-Const c =
+    let ops = c.args.operands.now in
+    ok_weaker c.same_line.result _ _ (λ line h l enclosing none ok. subst (λ n. StandsFor DAYS (node_meaning l n (map meaning_of ops) enclosing) line) (sym c.in-Const.is)
+    (stands_same line _ _ (day_is c.line.result.now _ c.line.ensures) h)) c.same_line.ensures

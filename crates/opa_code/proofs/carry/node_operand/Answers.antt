@@ -3,7 +3,6 @@ use Rattle.opa_line.proofs.Zipping.{ok_weaker}
 use Rattle.opa_code.specs.OverLines.Lines.{Has, meaning_of}
 use Rattle.opa_code.specs.Running.{node_meaning}
 use Rattle.opa_code.proofs.Listing.{reads_attribute}
-use Rattle.opa_code.proofs.Standing.{has_made}
 use Rattle.opa_code.proofs.carry.node_operand.Goals as goal
 
 pub returns-in-Some : goal.returns-in-Some
@@ -11,7 +10,7 @@ returns-in-Some g c =
     let l = g.K.Look.looks c.args.look.now in let ops = c.args.operands.now in let enclosing = c.args.enclosing.now in
     ok_weaker c.attr_operand.result _ _ (λ line h _. subst (λ n. Has (node_meaning l n (map meaning_of ops) enclosing) line) (sym (reads_attribute c.args.node.now c.in-Some.attr c.in-Some.owner (sym c.attribute_in.ensures ∙ c.in-Some.is))) h) c.attr_operand.ensures
 
-pub returns-in_ok-line-in-None : goal.returns-in_ok-line-in-None
-returns-in_ok-line-in-None g c ok =
+pub returns-in-None : goal.returns-in-None
+returns-in-None g c =
     let l = g.K.Look.looks c.args.look.now in let enclosing = c.args.enclosing.now in
-    has_made c.in_ok-line-in-None.line c.made.result _ c.made.ensures (c.in_ok-line-in-None.ensures l enclosing (sym c.attribute_in.ensures ∙ c.in-None.is) ok)
+    ok_weaker c.other_operand.result _ _ (λ line h ok. h l enclosing (sym c.attribute_in.ensures ∙ c.in-None.is) ok) c.other_operand.ensures

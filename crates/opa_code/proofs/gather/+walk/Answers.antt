@@ -86,11 +86,11 @@ gather-returns-in_ok-gather-in-Table t c =
     ∙ ap (λ x. chosen_rows (map (row_code s) x) last ++ reverse old) c.as_slice-in-Table.ensures
     ∙ ap (λ ys. ys ++ reverse old) (sym (ap (code s) c.in-Table.is ∙ code-Table s rows c.in-Table.last))) c.gather_rows.ensures
 
-pub gather-returns-in_ok-copy-in-Const : goal.gather-returns-in_ok-copy-in-Const
-gather-returns-in_ok-copy-in-Const t c =
+pub gather-returns-in_ok-value-in-Const : goal.gather-returns-in_ok-value-in-Const
+gather-returns-in_ok-value-in-Const t c =
     let s = shape_of c.args.model.now in let old = c.args.nodes.now in
-    on_ok_weaker c.push.result (λ e. pushed old c.push.new.self (node.Const c.in_ok-copy-in-Const.field-0) e
-    ∙ ap (λ v. node.Const v ∷ reverse old) c.in_ok-copy-in-Const.ensures
+    on_ok_weaker c.push.result (λ e. pushed old c.push.new.self (node.Const c.in_ok-value-in-Const.value) e
+    ∙ ap (λ v. node.Const v ∷ reverse old) (c.in_ok-value-in-Const.ensures ∙ c.in_ok-copy-in-Const.ensures)
     ∙ ap (λ ys. ys ++ reverse old) (sym (ap (code s) c.in-Const.is ∙ code-Const s c.in-Const.value))) c.push.ensures.ok
 
 pub gather-returns-in-Attr : goal.gather-returns-in-Attr
