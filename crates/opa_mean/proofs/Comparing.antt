@@ -7,7 +7,7 @@ use Rattle.std.proofs.lemmas.Bool.{eq-eqb}
 use Rattle.std.proofs.lemmas.Bool.Decides.{eqb_tells}
 use Rattle.std.proofs.lemmas.List.{take_more, append-nil}
 use Rattle.std.proofs.lemmas.Grind.{flat_map-append}
-use Rattle.std.proofs.lemmas.List.Elements.{Contains-push_cases}
+use Rattle.std.proofs.lemmas.List.Elements.{Contains-push_cases, Contains-append_left}
 use Rattle.opa_cells.specs.Instances.{named}
 use Rattle.opa_cells.specs.declared.instance.InstanceId.{InstanceId}
 use Rattle.opa_model.specs.declared.ids.RelId.{RelId}
@@ -74,6 +74,14 @@ module _ (up : InstanceId → Option InstanceId) where
         → AreAlike up (λ g. flat_map (λ y. of y g) (take (i + 1) xs)) bound e f
     alike_next of xs i x lt is before here e' f' follows =
         split_next of xs i x lt is e' ∙ ap (λ qs. qs ++ of x e') (before e' f' follows) ∙ ap (λ qs. flat_map (λ y. of y f') (take i xs) ++ qs) (here e' f' follows) ∙ sym (split_next of xs i x lt is f')
+
+    -- the same where more entities have one place
+    pub alike_more : (reads : Reads) (more : List ℕ) → AreAlike up reads bound e f → AreAlike up reads (bound ++ more) e f
+    alike_more reads more alike e' f' follows = alike e' f' (λ o one. follows o (wider o one))
+      where
+        wider : (o : ℕ) → Contains bound o ⊎ (place up e o ≡ place up f o) → Contains (bound ++ more) o ⊎ (place up e o ≡ place up f o)
+        wider o (inl has) = inl (Contains-append_left bound more o has)
+        wider o (inr same) = inr same
 
     -- at a place that is the same
     pub alike_place : (o : ℕ) (at : InstanceId → List Question) → Contains bound o ⊎ (place up e o ≡ place up f o) → AreAlike up (λ g. at_place_reads (place up g o) at) bound e f

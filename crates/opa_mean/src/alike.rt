@@ -75,12 +75,34 @@ pub(crate) fn over_is_alike<K: Look>(
     ensures { IfOk result (λ alike. IsTrue alike → AreAlike (K.looks look.now).container (over_reads (shape_of model.now) (K.looks look.now).members (K.looks look.now).container rel parts.now) bound.now first.now second.now) }
 {
     if has_one_place(look, source_of(model, rel), first, second, bound) {
-        let inner = with_one(alloc, bound, target_of(model, rel))?;
-        let within = inner.as_slice();
-        all_are_alike(alloc, model, look, parts, first, second, within)
+        let target = target_of(model, rel);
+        parts_are_alike(alloc, model, look, target, parts, first, second, bound)
     } else {
         Ok(false)
     }
+}
+
+/// The same of a quantifier's operands, for which an instance of an entity is listed. Of quantifiers in one another over
+/// one list only the outermost takes memory.
+#[cycle(comparing)]
+fn parts_are_alike<K: Look>(
+    alloc: Global,
+    model: &Model,
+    look: &K,
+    target: u32,
+    parts: &[Expr],
+    first: &[InstanceId],
+    second: &[InstanceId],
+    bound: &[u32],
+) -> Result<bool, NoMemory>
+    ensures { IfOk result (λ alike. IsTrue alike → AreAlike (K.looks look.now).container (trees_reads (shape_of model.now) (K.looks look.now).members (K.looks look.now).container parts.now) (bound.now ++ target ∷ []) first.now second.now) }
+{
+    if bound.contains(&target) {
+        return all_are_alike(alloc, model, look, parts, first, second, bound);
+    }
+    let inner = with_one(alloc, bound, target)?;
+    let within = inner.as_slice();
+    all_are_alike(alloc, model, look, parts, first, second, within)
 }
 
 /// The same of each of several trees.

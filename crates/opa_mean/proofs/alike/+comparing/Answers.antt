@@ -8,7 +8,7 @@ use Rattle.opa_case.specs.Shapes.{shape_of}
 use Rattle.opa_mean.specs.Gathering.{AreAlike, over_reads}
 use Rattle.opa_mean.specs.Places.{place}
 use Rattle.opa_mean.specs.Reads.{reads, trees_reads, rows_reads}
-use Rattle.opa_mean.proofs.Comparing.{alike_over}
+use Rattle.opa_mean.proofs.Comparing.{alike_over, alike_more}
 use Rattle.opa_mean.proofs.ReadLaws.{reads-Over}
 use Rattle.opa_mean.proofs.alike.+comparing.Goals as goal
 
@@ -30,11 +30,24 @@ is_alike-returns-in-Over g t c =
     IfOk-weaker c.over_is_alike.result (λ alike. IsTrue alike → AreAlike up (over_reads s m up r c.as_slice.result.now) bound e f) (λ alike. IsTrue alike → AreAlike up (reads s m up c.args.tree.now) bound e f)
     (λ alike h true e' f' follows. at e' ∙ subst (λ xs. AreAlike up (over_reads s m up r xs) bound e f) c.as_slice.ensures (h true) e' f' follows ∙ sym (at f')) c.over_is_alike.ensures
 
-pub over_is_alike-returns-in_ok-inner : goal.over_is_alike-returns-in_ok-inner
-over_is_alike-returns-in_ok-inner g t c =
+pub over_is_alike-returns-then-has_one_place : goal.over_is_alike-returns-then-has_one_place
+over_is_alike-returns-then-has_one_place g t c =
     let s = shape_of c.args.model.now in let m = (g.K.Look.looks c.args.look.now).members in let up = (g.K.Look.looks c.args.look.now).container in
     let r = c.args.rel in let es = c.args.parts.now in let bound = c.args.bound.now in let e = c.args.first.now in let f = c.args.second.now in
     let one : Contains bound (s.source r) ⊎ (place up e (s.source r) ≡ place up f (s.source r)) = subst (λ o. Contains bound o ⊎ (place up e o ≡ place up f o)) c.source_of.ensures (c.has_one_place.ensures c.if-has_one_place.true) in
-    let within : c.as_slice-within.result.now ≡ bound ++ s.target r ∷ [] = c.as_slice-within.ensures ∙ c.in_ok-inner.ensures ∙ ap (λ o. bound ++ o ∷ []) c.target_of.ensures in
-    IfOk-weaker c.all_are_alike.result (λ alike. IsTrue alike → AreAlike up (trees_reads s m up es) c.as_slice-within.result.now e f) (λ alike. IsTrue alike → AreAlike up (over_reads s m up r es) bound e f)
-    (λ alike h true. alike_over up bound e f s m r es one (subst (λ b. AreAlike up (trees_reads s m up es) b e f) within (h true))) c.all_are_alike.ensures
+    IfOk-weaker c.parts_are_alike.result (λ alike. IsTrue alike → AreAlike up (trees_reads s m up es) (bound ++ c.target_of-target.result ∷ []) e f) (λ alike. IsTrue alike → AreAlike up (over_reads s m up r es) bound e f)
+    (λ alike h true. alike_over up bound e f s m r es one (subst (λ o. AreAlike up (trees_reads s m up es) (bound ++ o ∷ []) e f) c.target_of-target.ensures (h true))) c.parts_are_alike.ensures
+
+pub parts_are_alike-returns-then-contains : goal.parts_are_alike-returns-then-contains
+parts_are_alike-returns-then-contains g t c =
+    let s = shape_of c.args.model.now in let m = (g.K.Look.looks c.args.look.now).members in let up = (g.K.Look.looks c.args.look.now).container in
+    let reads = trees_reads s m up c.args.parts.now in let bound = c.args.bound.now in let e = c.args.first.now in let f = c.args.second.now in
+    IfOk-weaker c.all_are_alike.result (λ alike. IsTrue alike → AreAlike up reads bound e f) (λ alike. IsTrue alike → AreAlike up reads (bound ++ c.args.target ∷ []) e f)
+    (λ alike h true. alike_more up bound e f reads (c.args.target ∷ []) (h true)) c.all_are_alike.ensures
+
+pub parts_are_alike-returns : goal.parts_are_alike-returns
+parts_are_alike-returns g t c =
+    let s = shape_of c.args.model.now in let m = (g.K.Look.looks c.args.look.now).members in let up = (g.K.Look.looks c.args.look.now).container in
+    let reads = trees_reads s m up c.args.parts.now in let e = c.args.first.now in let f = c.args.second.now in
+    IfOk-weaker c.all_are_alike-2.result (λ alike. IsTrue alike → AreAlike up reads c.as_slice-within.result.now e f) (λ alike. IsTrue alike → AreAlike up reads (c.args.bound.now ++ c.args.target ∷ []) e f)
+    (λ alike h true. subst (λ b. AreAlike up reads b e f) (c.as_slice-within.ensures ∙ c.in_ok-inner.ensures) (h true)) c.all_are_alike-2.ensures
