@@ -1,4 +1,4 @@
-use Rattle.std.proofs.Common.{◌∙◌, map, sym, subst}
+use Rattle.std.proofs.Common.{map, sym, subst}
 use Rattle.opa_code.specs.OverLines.Lines.{Has, meaning_of}
 use Rattle.opa_code.specs.Running.{node_meaning}
 use Rattle.opa_code.proofs.Standing.{has_made}

@@ -1,4 +1,4 @@
-use Rattle.std.proofs.Common.{◌≡◌, ◌∙◌, ◌∷◌, [], ap, sym}
+use Rattle.std.proofs.Common.{◌∙◌, ◌∷◌, [], ap, sym}
 use Rattle.opa_code.proofs.constant.Constant.of.Goals as goal
 use Rattle.opa_code.specs.Constants.{value_of}
 
