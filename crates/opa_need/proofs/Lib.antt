@@ -13,3 +13,4 @@ pub mod Steadiness
 pub mod PlacesAlike
 pub mod NeedsAlike
 pub mod Noting
+pub mod LastingLaws

@@ -5,6 +5,7 @@ pub mod Finding
 pub mod Goals
 pub mod Indexed
 pub mod Inner
+pub mod Lasting
 pub mod Members
 pub mod Noted
 pub mod Operands

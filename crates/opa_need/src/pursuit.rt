@@ -21,7 +21,7 @@ use crate::putting::{take_members, take_part, take_parts};
 use crate::runs::{Run, Runs, add_run, run_of};
 use crate::stays::open_from;
 use crate::steps::Step;
-use crate::stretches::{settled, settled_part};
+use crate::untils::{settled, settled_part};
 use opa_case::{InstanceId, Question};
 use opa_cells::Cells;
 use opa_date::DAYS;

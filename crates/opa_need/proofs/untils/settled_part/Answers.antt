@@ -1,0 +1,5 @@
+use Rattle.opa_need.proofs.LastingLaws.{none_lasting}
+use Rattle.opa_need.proofs.untils.settled_part.Goals as goal
+
+pub settled_part-requires : goal.settled_part-requires
+settled_part-requires g c = none_lasting (g.H.Held.rules c.args.held.now) (g.H.Held.held c.args.held.now) c.args.found.now c.args.runs.now c.new-noted.result.items c.new-noted.ensures.items
