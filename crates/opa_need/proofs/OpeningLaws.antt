@@ -23,6 +23,8 @@ use Rattle.opa_tree.specs.declared.kinds.Quant.{Quant}
 use Rattle.opa_tree.specs.declared.kinds.Quant.TheVariants as quant
 use Rattle.opa_cells.specs.Instances.{named}
 use Rattle.opa_need.specs.Steps.{part_needs, part_value, parts_needs, tree_needs, member_needs, members_needs, span_needs, step_needs, claim, AreListed, IsFirstMember, IsFirstPart, IsReady, PutsOn, StandFor, Adds}
+use Rattle.opa_need.specs.Members.{AreOfOperands}
+use Rattle.opa_need.specs.declared.members.OperandValues.{OperandValues}
 use Rattle.opa_need.specs.declared.steps.Step.{Step}
 
 -- one item more of those that are gone through
@@ -174,10 +176,10 @@ module _ (r : Rulebase) (c : CaseView) where
   tree_on x es es' d old new same live lt e =
       puts_one (step.Tree x es' d) (tree_needs r c x.now es d) old new e (ap (λ ks. tree_needs r c x.now ks d) same) refl (subst (λ ks. AllByRecursion (IsLive c) ks) (sym same) live, lt)
 
-  pub members_on : (q : Quant) (t : ℕ) (names : Bor (List (List ℕ))) (x : Bor (List Expr)) (es es' : List InstanceId) (d : ℕ) (old new : List Step) → es' ≡ es → AllByRecursion (IsLive c) es → d < DAYS → AreListed r c t names.now → new ≡ old ++ step.Members q t names x es' d ∷ []
+  pub members_on : (q : Quant) (t : ℕ) (names : Bor (List (List ℕ))) (x : Bor (List Expr)) (values : OperandValues) (es es' : List InstanceId) (d : ℕ) (old new : List Step) → es' ≡ es → AllByRecursion (IsLive c) es → d < DAYS → AreListed r c t names.now → AreOfOperands r c x.now values → new ≡ old ++ step.Members q t names x values es' d ∷ []
       → PutsOn r c (members_needs r c q t names.now x.now es d) old new
-  members_on q t names x es es' d old new same live lt listed e =
-      puts_one (step.Members q t names x es' d) (members_needs r c q t names.now x.now es d) old new e (ap (λ ks. members_needs r c q t names.now x.now ks d) same) refl (subst (λ ks. AllByRecursion (IsLive c) ks) (sym same) live, lt, listed)
+  members_on q t names x values es es' d old new same live lt listed of e =
+      puts_one (step.Members q t names x values es' d) (members_needs r c q t names.now x.now es d) old new e (ap (λ ks. members_needs r c q t names.now x.now ks d) same) refl (subst (λ ks. AllByRecursion (IsLive c) ks) (sym same) live, lt, listed, of)
 
   pub member_single : (q : Quant) (x : Expr) (es : List InstanceId) (d : ℕ) → part_needs r c x es d ≡ member_needs r c q (x ∷ []) es d
   member_single quant.SumIf x es d = refl

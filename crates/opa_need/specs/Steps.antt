@@ -27,6 +27,7 @@ use Rattle.opa_mean.specs.Places.{owner_of, place}
 use Rattle.opa_mean.specs.Needs.{asked, over_needs}
 use Rattle.opa_mean.specs.Uses.{Use, Uses, Listed, at_place_uses, last_days_uses}
 use Rattle.opa_need.specs.Finding.{AreFound, added}
+use Rattle.opa_need.specs.Members.{AreOfOperands}
 use Rattle.opa_mean.specs.PartNeeds as part
 use Rattle.opa_need.specs.declared.steps.Step.{Step}
 use Rattle.opa_need.specs.declared.steps.Step.TheVariants as step
@@ -108,7 +109,7 @@ module _ (r : Rulebase) (c : CaseView) where
   step_needs (step.AfterPoint a i d) = []
   step_needs (step.AfterTree e enclosing d) = []
   step_needs (step.Parts es enclosing d) = parts_needs es.now enclosing d
-  step_needs (step.Members q t names es enclosing d) = members_needs q t names.now es.now enclosing d
+  step_needs (step.Members q t names es values enclosing d) = members_needs q t names.now es.now enclosing d
 
   -- what is found when a step comes to the front
   abbrev pub claim : Step → List Use
@@ -140,7 +141,7 @@ module _ (r : Rulebase) (c : CaseView) where
   IsReady (step.AfterPoint a i d) = IsLive c i × (d < DAYS)
   IsReady (step.AfterTree e enclosing d) = AllByRecursion (IsLive c) enclosing × (d < DAYS)
   IsReady (step.Parts es enclosing d) = AllByRecursion (IsLive c) enclosing × (d < DAYS)
-  IsReady (step.Members q t names es enclosing d) = AllByRecursion (IsLive c) enclosing × (d < DAYS) × AreListed t names.now
+  IsReady (step.Members q t names es values enclosing d) = AllByRecursion (IsLive c) enclosing × (d < DAYS) × AreListed t names.now × AreOfOperands r c es.now values
 
   -- Steps that stand for needs: they ask for them in order, claim nothing of their own, and are ready.
   pub record StandFor (us : List Use) (steps : List Step) : Type 0 where

@@ -105,6 +105,13 @@ impl OperandValues {
             Operands::Nothing | Operands::Three(_, _, _) | Operands::Many => Ok(of_none()),
         }
     }
+
+    /// Moved out: nothing is left.
+    pub(crate) fn moved(&mut self) -> OperandValues
+        ensures { result ≡ self.old }
+    {
+        std::mem::replace(self, of_none())
+    }
 }
 
 fn of_none() -> OperandValues

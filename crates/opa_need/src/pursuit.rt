@@ -57,9 +57,9 @@ pub(crate) fn questions<H: Held>(
         }
         match steps.pop() {
             None => return Ok(found.into_list()),
-            Some(step) => {
+            Some(mut step) => {
                 take(
-                    alloc, held, &step, &mut steps, &mut found, &mut runs, &mut noted,
+                    alloc, held, &mut step, &mut steps, &mut found, &mut runs, &mut noted,
                 )?;
             }
         }
@@ -71,14 +71,14 @@ pub(crate) fn questions<H: Held>(
 fn take<'a, H: Held>(
     alloc: Global,
     held: &'a H,
-    step: &Step<'a>,
+    step: &mut Step<'a>,
     steps: &mut List<Step<'a>>,
     found: &mut Found,
     runs: &mut Runs,
     noted: &mut Vec<NotedTree<'a>>,
 ) -> Result<(), NoMemory>
-    requires { IsReady (H.rules held.now) (H.held held.now) step.now }
-    ensures { OnOk result (GoesOn (H.rules held.now) (H.held held.now) step.now found.old runs.old noted.old.items steps.old found.new runs.new noted.new.items steps.new) }
+    requires { IsReady (H.rules held.now) (H.held held.now) step.old }
+    ensures { OnOk result (GoesOn (H.rules held.now) (H.held held.now) step.old found.old runs.old noted.old.items steps.old found.new runs.new noted.new.items steps.new) }
 {
     match step {
         Step::Tree(tree, enclosing, day) => {
@@ -107,9 +107,9 @@ fn take<'a, H: Held>(
         Step::Parts(parts, enclosing, day) => {
             take_parts(alloc, held, steps, *parts, enclosing, *day)
         }
-        Step::Members(quant, target, names, parts, enclosing, day) => {
+        Step::Members(quant, target, names, parts, values, enclosing, day) => {
             take_members(
-                alloc, held, steps, *quant, *target, *names, *parts, enclosing, *day,
+                alloc, held, steps, *quant, *target, *names, *parts, values, enclosing, *day,
             )
         }
     }

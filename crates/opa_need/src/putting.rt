@@ -3,6 +3,7 @@ ghost use Rattle.std.specs.Prelude.{◌≡◌, ◌++◌, ◌<◌, reverse, IfOk,
 ghost use Rattle.std.specs.List.{AllByRecursion};
 ghost use Rattle.opa_case.specs.Cases.{IsLive};
 ghost use Rattle.opa_date.specs.declared.TheConstants.{DAYS};
+ghost use Rattle.opa_need.specs.Members.{AreOfOperands};
 ghost use Rattle.opa_need.specs.Steps.{AreListed, IsFirstMember, IsFirstPart, PutsOn, members_needs, part_needs, parts_needs, tree_needs};
 
 use crate::inner::with_room;
@@ -176,19 +177,23 @@ pub(crate) fn take_members<'a, H: Held>(
     target: u32,
     names: &'a [Txt],
     parts: &'a [Expr],
+    values: &mut OperandValues,
     enclosing: &List<InstanceId>,
     day: u32,
 ) -> Result<(), NoMemory>
     requires day { day < DAYS }
     requires live { AllByRecursion (IsLive (H.held held.now)) enclosing.now }
     requires listed { AreListed (H.rules held.now) (H.held held.now) target names.now }
+    requires of { AreOfOperands (H.rules held.now) (H.held held.now) parts.now values.old }
     ensures { OnOk result (PutsOn (H.rules held.now) (H.held held.now) (members_needs (H.rules held.now) (H.held held.now) quant target names.now parts.now enclosing.now day) steps.old steps.new) }
 {
-    match first_member(alloc, held, quant, target, names, parts, enclosing, day)? {
+    match first_member(
+        alloc, held, quant, target, names, parts, values, enclosing, day,
+    )? {
         None => Ok(()),
         Some((mut new, later)) => {
             put_members(
-                alloc, held, steps, quant, target, later, parts, enclosing, day,
+                alloc, held, steps, quant, target, later, parts, values, enclosing, day,
             )?;
             put_all(steps, &mut new)
         }
@@ -203,29 +208,22 @@ fn first_member<'a, H: Held>(
     target: u32,
     names: &'a [Txt],
     parts: &'a [Expr],
+    values: &mut OperandValues,
     enclosing: &List<InstanceId>,
     day: u32,
 ) -> Result<Option<(List<Step<'a>>, &'a [Txt])>, NoMemory>
     requires day { day < DAYS }
     requires live { AllByRecursion (IsLive (H.held held.now)) enclosing.now }
     requires listed { AreListed (H.rules held.now) (H.held held.now) target names.now }
-    ensures { IfOk result (IsFirstMember (H.rules held.now) (H.held held.now) quant target names.now parts.now enclosing.now day) }
+    requires of { AreOfOperands (H.rules held.now) (H.held held.now) parts.now values.old }
+    ensures member { IfOk result (IsFirstMember (H.rules held.now) (H.held held.now) quant target names.now parts.now enclosing.now day) }
+    ensures stay { OnOk result (AreOfOperands (H.rules held.now) (H.held held.now) parts.now values.new) }
 {
-    let mut values = OperandValues::of(alloc, held, parts, target)?;
     let mut inner = with_room(alloc, enclosing)?;
     let mut rest = names;
     while let Some((name, later)) = front(rest) {
         let steps = member_steps(
-            alloc,
-            held,
-            &mut values,
-            &mut inner,
-            quant,
-            target,
-            name,
-            parts,
-            enclosing,
-            day,
+            alloc, held, values, &mut inner, quant, target, name, parts, enclosing, day,
         )?;
         if steps.len() > 0 {
             return Ok(Some((steps, later)));
@@ -243,14 +241,17 @@ fn put_members<'a, H: Held>(
     target: u32,
     names: &'a [Txt],
     parts: &'a [Expr],
+    values: &mut OperandValues,
     enclosing: &List<InstanceId>,
     day: u32,
 ) -> Result<(), NoMemory>
     requires day { day < DAYS }
     requires live { AllByRecursion (IsLive (H.held _held.now)) enclosing.now }
     requires listed { AreListed (H.rules _held.now) (H.held _held.now) target names.now }
+    requires of { AreOfOperands (H.rules _held.now) (H.held _held.now) parts.now values.old }
     ensures { OnOk result (PutsOn (H.rules _held.now) (H.held _held.now) (members_needs (H.rules _held.now) (H.held _held.now) quant target names.now parts.now enclosing.now day) steps.old steps.new) }
 {
     let enclosing = again(alloc, enclosing)?;
-    steps.push(Step::Members(quant, target, names, parts, enclosing, day))
+    let values = values.moved();
+    steps.push(Step::Members(quant, target, names, parts, values, enclosing, day))
 }

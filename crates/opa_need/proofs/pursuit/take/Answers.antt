@@ -58,6 +58,11 @@ take_members-requires-clause-listed g c =
     let r = g.H.Held.rules c.args.held.now in let held = g.H.Held.held c.args.held.now in
     let ready = subst (λ (s : Step). IsReady r held s) c.in-Members.is c.requires in ready.2
 
+pub take_members-requires-clause-of : goal.take_members-requires-clause-of
+take_members-requires-clause-of g c =
+    let r = g.H.Held.rules c.args.held.now in let held = g.H.Held.held c.args.held.now in
+    let ready = subst (λ (s : Step). IsReady r held s) c.in-Members.is c.requires in ready.3
+
 pub take_point-requires-clause-day : goal.take_point-requires-clause-day
 take_point-requires-clause-day g c =
     let r = g.H.Held.rules c.args.held.now in let held = g.H.Held.held c.args.held.now in
