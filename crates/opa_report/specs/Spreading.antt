@@ -1,5 +1,5 @@
 -- Uses of several trees on the days of a set.
-use Rattle.std.specs.Prelude.{◌≡◌, ℕ, ◌+◌, ◌-◌, ◌<◌, Bool, true, false, ◌&&◌, nat_lt, if◌then◌else◌, List, [], ◌∷◌, ◌++◌, Option, None, Some, Contains}
+use Rattle.std.specs.Prelude.{◌≡◌, ℕ, ◌+◌, ◌-◌, ◌<◌, Bool, true, false, ◌&&◌, nat_lt, if◌then◌else◌, List, [], ◌∷◌, Option, None, Some, Contains}
 use Rattle.opa_date.specs.declared.TheConstants.{DAYS}
 use Rattle.opa_value.specs.declared.value.Value.{Value}
 use Rattle.opa_value.specs.declared.value.Value.TheVariants.{Day}
@@ -61,6 +61,12 @@ module _ (s : Shape) (l : Look) where
   abbrev pub all_false : List Row → List InstanceId → ℕ → Bool
   all_false [] enclosing d = true
   all_false (r ∷ rs) enclosing d = is_false (value s l r.cond enclosing d) && all_false rs enclosing d
+
+  -- the lines of trees, one by one
+  abbrev pub AreLines : List InstanceId → List Expr → List (List (ℕ × Value)) → Type 0
+  AreLines enclosing [] [] = Unit {0}
+  AreLines enclosing (t ∷ ts) (x ∷ xs) = StandsFor DAYS (value s l t enclosing) x × AreLines enclosing ts xs
+  AreLines enclosing _ _ = ⊥
 
   abbrev pub none : Uses
   none enclosing d = []

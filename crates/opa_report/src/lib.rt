@@ -14,6 +14,7 @@ mod listed;
 mod mark;
 mod order;
 mod owned;
+mod part_lines;
 mod points;
 mod reporting;
 mod runs;

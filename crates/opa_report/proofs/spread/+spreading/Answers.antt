@@ -1,6 +1,6 @@
-use Rattle.std.proofs.Common.{◌≡◌, ◌∙◌, ◌∷◌, [], ◌++◌, ◌&&◌, Some, refl, ap, sym, subst, map, true, false}
-use Rattle.std.specs.Prelude.{flat_map}
-use Rattle.std.specs.List.{AllByRecursion}
+use Rattle.std.proofs.Common.{◌≡◌, ◌∙◌, ◌∷◌, [], ◌++◌, ◌&&◌, Some, length, refl, ap, sym, subst, map, true, false, arith}
+use Rattle.std.specs.Prelude.{flat_map, not}
+use Rattle.std.specs.List.{AllByRecursion, list_any}
 use Rattle.std.proofs.lemmas.Result.{on_ok_weaker}
 use Rattle.opa_io.proofs.Places.{take_whole}
 use Rattle.opa_cells.specs.Instances.{named}
@@ -22,6 +22,8 @@ use Rattle.opa_report.proofs.Combining.{adds_nothing, adds_same, adds_both, adds
 use Rattle.opa_report.proofs.Keeping.{on_ok_under, adds_missing, added_found, found_grow}
 use Rattle.opa_report.proofs.Dating.{back_leads, back_low}
 use Rattle.opa_report.proofs.Going.{all_at, line_at, each_step, going_step, going_end, rows_step, rows_end}
+use Rattle.opa_window.specs.Days.{day_value}
+use Rattle.opa_report.proofs.LinesOfParts.{lines_rest, undecided_is}
 use Rattle.opa_report.proofs.Parts.{one_is, two_are, over_known, over_unknown, over_deciding, over_each, over_tested, over_few, over_two, over_many, names_live, window_two, window_three}
 use Rattle.opa_tree.specs.declared.expr.Expr.TheVariants as V
 use Rattle.opa_mean.proofs.UseLaws.{uses-Const, uses-Attr, uses-All, uses-Any, uses-Not, uses-Op, uses-Certain, uses-Known, uses-Over, uses-Window, uses-Rolling, uses-Table}
@@ -143,10 +145,14 @@ pub spread_firsts-loop-tree-preserved : goal.spread_firsts-loop-tree-preserved
 spread_firsts-loop-tree-preserved g t c = (
   λ live known.
       let s = g.S.Sight.shape c.args.sight.now in let l = g.S.Sight.look c.args.sight.now in let E = c.args.enclosing.now in
-      going_step (λ d e. is_truth c.args.truth (value s l e E d)) (λ d e. uses s l e E d) c.args.trees.now c.args.days.now c.loop-tree.tree-index c.tree-item.result c.args.truth c.in_ok-line.line c.in_ok-undecided.undecided c.loop-tree.left c.in_ok-left-2.left c.in_ok-first.first
-      c.args.found.now c.loop-tree.found c.spread_among.new.found c.loop-tree-test.true c.tree-item.is (c.loop-tree.invariant.0 live known) (λ d lt. ap (is_truth c.args.truth) (line_at _ c.in_ok-line.line d (c.in_ok-line.ensures live) lt))
-      (c.in_ok-undecided.ensures live) c.in_ok-first.ensures c.in_ok-left-2.ensures (c.in_ok-spread_among.ensures.adds live (c.loop-tree.invariant.1 live known)),
+      let here = lines_rest s l E c.args.trees.now c.loop-tree.tree-index c.tree-item.result c.loop-tree.rest.now c.in-Some.after.now c.in-Some.line.now c.loop-tree-test.true c.tree-item.is c.in-Some.ensures (c.loop-tree.invariant.3 live) in
+      going_step (λ d e. is_truth c.args.truth (value s l e E d)) (λ d e. uses s l e E d) c.args.trees.now c.args.days.now c.loop-tree.tree-index c.tree-item.result c.args.truth c.in-Some.line.now c.in_ok-undecided.undecided c.loop-tree.left c.in_ok-left-2.left c.in_ok-first.first
+      c.args.found.now c.loop-tree.found c.spread_among.new.found c.loop-tree-test.true c.tree-item.is (c.loop-tree.invariant.0 live known) (λ d lt. ap (is_truth c.args.truth) (line_at _ c.in-Some.line.now d here.0 lt))
+      (undecided_is s l E c.args.truth c.args.trees.now c.in_ok-lines.lines c.args.days.now c.in_ok-undecided.undecided (c.in_ok-lines.ensures.lines live) (subst (λ xs. StandsFor DAYS (λ d. on c.args.days.now d && not (list_any (λ x. is_truth c.args.truth (day_value x d)) xs)) c.in_ok-undecided.undecided) c.as_slice.ensures c.in_ok-undecided.ensures))
+      c.in_ok-first.ensures c.in_ok-left-2.ensures (c.in_ok-spread_among.ensures.adds live (c.loop-tree.invariant.1 live known)),
   λ live known. c.in_ok-spread_among.ensures.stays live (c.loop-tree.invariant.1 live known),
+  omega (arith, c.loop-tree.invariant.2, ap length c.in-Some.ensures, c.loop-tree-test.true),
+  λ live. (lines_rest (g.S.Sight.shape c.args.sight.now) (g.S.Sight.look c.args.sight.now) c.args.enclosing.now c.args.trees.now c.loop-tree.tree-index c.tree-item.result c.loop-tree.rest.now c.in-Some.after.now c.in-Some.line.now c.loop-tree-test.true c.tree-item.is c.in-Some.ensures (c.loop-tree.invariant.3 live)).1,
 )
 
 pub spread_firsts-returns-clause-adds : goal.spread_firsts-returns-clause-adds
