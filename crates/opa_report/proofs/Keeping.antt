@@ -27,7 +27,7 @@ both_on true b h = refl
 both_on false b h = h
 
 module _ (s : Shape) (l : Look) where
-  itself : (e f : List InstanceId) → Follows l [] e f e f
+  pub itself : (e f : List InstanceId) → Follows l [] e f e f
   itself e f o h = at h
     where
       at : HasOnePlace l [] e f o → place l.container e o ≡ place l.container f o

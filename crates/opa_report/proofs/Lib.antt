@@ -13,6 +13,7 @@ pub mod Ingredients
 pub mod Inserting
 pub mod Joining
 pub mod Keeping
+pub mod LinesKept
 pub mod LinesOfParts
 pub mod Listing
 pub mod Living

@@ -3,6 +3,7 @@ use Rattle.std.specs.Prelude.{◌≡◌, ◌⊎◌, ℕ, ◌<◌, Bool, true, Li
 use Rattle.std.specs.List.{AllByRecursion}
 use Rattle.std.proofs.Math.ListN.{get_or}
 use Rattle.opa_date.specs.declared.TheConstants.{DAYS}
+use Rattle.opa_line.specs.Lines.{StandsFor}
 use Rattle.opa_case.specs.Shapes.{Shape}
 use Rattle.opa_cells.specs.declared.instance.InstanceId.{InstanceId}
 use Rattle.opa_tree.specs.declared.expr.Expr.{Expr}
@@ -14,7 +15,9 @@ use Rattle.opa_mean.specs.Uses.{Use, uses}
 use Rattle.opa_report.specs.Adding.{IsUsed}
 use Rattle.opa_report.specs.DaySets.Sets.{on}
 use Rattle.opa_report.specs.Finding.{Has}
+use Rattle.opa_report.specs.declared.kept.Kept.{Kept}
 use Rattle.opa_report.specs.declared.kept.SpreadTree.{SpreadTree}
+use Rattle.opa_report.specs.declared.kept_lines.KeptLine.{KeptLine}
 use Rattle.opa_report.specs.declared.found.Found.{Found}
 
 -- an entity is listed within, or has one place at two lists of enclosing instances
@@ -50,6 +53,20 @@ module _ (s : Shape) (l : Look) where
 
   abbrev pub AreFound : Found → List SpreadTree → Type 0
   AreFound found ks = (k : ℕ) (x : SpreadTree) → k < length ks → IsFound found (get_or ks k x).tree.now (get_or ks k x).enclosing (get_or ks k x).days
+
+  -- the line is that of its tree
+  abbrev pub IsLine : KeptLine → Type 0
+  IsLine k = StandsFor DAYS (value s l k.tree.now k.enclosing) k.line
+
+  abbrev pub AreKeptLines : List KeptLine → Type 0
+  AreKeptLines ks = (k : ℕ) (x : KeptLine) → k < length ks → IsLine (get_or ks k x)
+
+  -- what is kept of trees was found, and the lines that are kept are theirs
+  abbrev pub AreKept : Found → Kept → Type 0
+  AreKept found kept = AreFound found kept.trees.items × AreKeptLines kept.lines.items
+
+  abbrev pub StayKept : Kept → Kept → Type 0
+  StayKept old new = (found : Found) → AreKept found old → AreKept found new
 
   -- wherever what is kept was found, a tree was found on the days of the set that aren't missing
   pub record IsMissing (ks : List SpreadTree) (t : Expr) (e : List InstanceId) (days missing : List (ℕ × Bool)) : Type 0 where

@@ -154,7 +154,7 @@ fn contained_of(model: &Model, entity: u32) -> RelId
 }
 
 /// An equal line.
-fn same_line(alloc: Global, line: &Line<Value>) -> Result<Line<Value>, NoMemory>
+pub(crate) fn same_line(alloc: Global, line: &Line<Value>) -> Result<Line<Value>, NoMemory>
     ensures { IfOk result (StandsFor DAYS (day_value line.now)) }
 {
     line.map(alloc, |value: &Value| value.copy(alloc))

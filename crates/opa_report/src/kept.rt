@@ -4,12 +4,13 @@
 ghost use Rattle.std.specs.Prelude.{◌≡◌, ◌<◌, ◌∷◌, [], length, IfOk, MatchOption, OnOk, ⊤};
 ghost use Rattle.opa_case.specs.Shapes.{Shape};
 ghost use Rattle.opa_mean.specs.Looks.{Look};
-ghost use Rattle.opa_report.specs.Keeping.{AreFound, IsFound, IsMissing};
+ghost use Rattle.opa_report.specs.Keeping.{AreFound, AreKept, IsFound, IsMissing};
 ghost use Rattle.opa_report.specs.declared.found.Found.{Found as OfFound};
 
 use crate::Sight;
 use crate::alike::is_alike;
 use crate::day_sets::{both, without};
+use crate::kept_lines::KeptLine;
 use opa_case::InstanceId;
 use opa_io::{List, NoMemory};
 use opa_line::Line;
@@ -25,21 +26,28 @@ pub(crate) struct SpreadTree<'t> {
     days: Line<bool>,
 }
 
-/// What is kept; where no members are gone through, nothing is.
+/// What is kept, and lines that are; where no members are gone through, nothing is.
 #[derive(Drop)]
 pub(crate) struct Kept<'t> {
     among: bool,
     pub trees: Vec<SpreadTree<'t>>,
+    pub lines: Vec<KeptLine<'t>>,
 }
 
 impl<'t> Kept<'t> {
     pub(crate) fn of(alloc: Global, among: bool) -> Kept<'t>
-        ensures { result.trees.items ≡ [] }
+        ensures trees { result.trees.items ≡ [] }
+        ensures lines { result.lines.items ≡ [] }
     {
         Kept {
             among,
             trees: Vec::new(alloc),
+            lines: Vec::new(alloc),
         }
+    }
+
+    pub(crate) fn is_among(&self) -> bool {
+        self.among
     }
 
     /// Whether a tree is kept once it is spread.
@@ -92,7 +100,7 @@ pub(crate) fn note<'t>(
     enclosing: &[InstanceId],
     days: &Line<bool>,
 ) -> Result<(), NoMemory>
-    ensures { OnOk result ((s : Shape) (l : Look) (found : OfFound) → IsFound s l found tree.now enclosing.now days.now → AreFound s l found kept.old.trees.items → AreFound s l found kept.new.trees.items) }
+    ensures { OnOk result ((s : Shape) (l : Look) (found : OfFound) → IsFound s l found tree.now enclosing.now days.now → AreKept s l found kept.old → AreKept s l found kept.new) }
 {
     let made = made_of(alloc, tree, enclosing, days)?;
     put(&mut kept.trees, made)

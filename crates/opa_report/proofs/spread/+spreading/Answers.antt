@@ -17,11 +17,11 @@ use Rattle.opa_report.specs.Keeping.{IsMissing}
 use Rattle.opa_report.specs.declared.kept.SpreadTree.{SpreadTree}
 use Rattle.std.specs.Prelude.{List}
 use Rattle.opa_mean.specs.PartUses.{rows_uses}
-use Rattle.opa_report.specs.Spreading.{is_truth, last_days, taken_uses}
+use Rattle.opa_report.specs.Spreading.{is_truth, AreLines, last_days, taken_uses}
 use Rattle.opa_report.proofs.Combining.{adds_nothing, adds_same, adds_both, adds_over, adds_where}
 use Rattle.opa_report.proofs.Keeping.{on_ok_under, adds_missing, added_found, found_grow}
 use Rattle.opa_report.proofs.Dating.{back_leads, back_low}
-use Rattle.opa_report.proofs.Going.{all_at, line_at, each_step, going_step, going_end, rows_step, rows_end}
+use Rattle.opa_report.proofs.Going.{all_at, line_at, each_step, going_start, going_step, going_end, rows_step, rows_end}
 use Rattle.opa_window.specs.Days.{day_value}
 use Rattle.opa_report.proofs.LinesOfParts.{lines_rest, undecided_is}
 use Rattle.opa_report.proofs.Parts.{one_is, two_are, over_known, over_unknown, over_deciding, over_each, over_tested, over_few, over_two, over_many, names_live, window_two, window_three}
@@ -141,18 +141,28 @@ spread_each-returns-clause-adds g t c = λ live known.
     let s = g.S.Sight.shape c.args.sight.now in let l = g.S.Sight.look c.args.sight.now in let E = c.args.enclosing.now in
     subst (λ es. Adds (on c.args.days.now) (λ d. flat_map (λ e. uses s l e E d) es) c.args.found.now c.loop-tree.found) (take_whole c.args.trees.now c.loop-tree.tree-index c.loop-tree-test.false) (c.loop-tree.invariant.0 live known)
 
+pub spread_firsts-loop-tree-init : goal.spread_firsts-loop-tree-init
+spread_firsts-loop-tree-init g t c = (
+  λ live known.
+      let s = g.S.Sight.shape c.args.sight.now in let l = g.S.Sight.look c.args.sight.now in let E = c.args.enclosing.now in
+      going_start (λ d e. is_truth c.args.truth (value s l e E d)) (λ d e. uses s l e E d) c.args.trees.now c.args.days.now c.in_ok-left.left c.args.found.now c.in_ok-left.ensures,
+  λ live known. c.in_ok-lines.ensures.stay live c.args.found.now known,
+  omega (arith, ap length c.as_slice-rest.ensures, c.in_ok-lines.ensures.many),
+  λ live known. subst (AreLines (g.S.Sight.shape c.args.sight.now) (g.S.Sight.look c.args.sight.now) c.args.enclosing.now c.args.trees.now) (sym c.as_slice-rest.ensures) (c.in_ok-lines.ensures.lines live c.args.found.now known),
+)
+
 pub spread_firsts-loop-tree-preserved : goal.spread_firsts-loop-tree-preserved
 spread_firsts-loop-tree-preserved g t c = (
   λ live known.
       let s = g.S.Sight.shape c.args.sight.now in let l = g.S.Sight.look c.args.sight.now in let E = c.args.enclosing.now in
-      let here = lines_rest s l E c.args.trees.now c.loop-tree.tree-index c.tree-item.result c.loop-tree.rest.now c.in-Some.after.now c.in-Some.line.now c.loop-tree-test.true c.tree-item.is c.in-Some.ensures (c.loop-tree.invariant.3 live) in
+      let here = lines_rest s l E c.args.trees.now c.loop-tree.tree-index c.tree-item.result c.loop-tree.rest.now c.in-Some.after.now c.in-Some.line.now c.loop-tree-test.true c.tree-item.is c.in-Some.ensures (c.loop-tree.invariant.3 live known) in
       going_step (λ d e. is_truth c.args.truth (value s l e E d)) (λ d e. uses s l e E d) c.args.trees.now c.args.days.now c.loop-tree.tree-index c.tree-item.result c.args.truth c.in-Some.line.now c.in_ok-undecided.undecided c.loop-tree.left c.in_ok-left-2.left c.in_ok-first.first
       c.args.found.now c.loop-tree.found c.spread_among.new.found c.loop-tree-test.true c.tree-item.is (c.loop-tree.invariant.0 live known) (λ d lt. ap (is_truth c.args.truth) (line_at _ c.in-Some.line.now d here.0 lt))
-      (undecided_is s l E c.args.truth c.args.trees.now c.in_ok-lines.lines c.args.days.now c.in_ok-undecided.undecided (c.in_ok-lines.ensures.lines live) (subst (λ xs. StandsFor DAYS (λ d. on c.args.days.now d && not (list_any (λ x. is_truth c.args.truth (day_value x d)) xs)) c.in_ok-undecided.undecided) c.as_slice.ensures c.in_ok-undecided.ensures))
+      (undecided_is s l E c.args.truth c.args.trees.now c.in_ok-lines.lines c.args.days.now c.in_ok-undecided.undecided (c.in_ok-lines.ensures.lines live c.args.found.now known) (subst (λ xs. StandsFor DAYS (λ d. on c.args.days.now d && not (list_any (λ x. is_truth c.args.truth (day_value x d)) xs)) c.in_ok-undecided.undecided) c.as_slice.ensures c.in_ok-undecided.ensures))
       c.in_ok-first.ensures c.in_ok-left-2.ensures (c.in_ok-spread_among.ensures.adds live (c.loop-tree.invariant.1 live known)),
   λ live known. c.in_ok-spread_among.ensures.stays live (c.loop-tree.invariant.1 live known),
   omega (arith, c.loop-tree.invariant.2, ap length c.in-Some.ensures, c.loop-tree-test.true),
-  λ live. (lines_rest (g.S.Sight.shape c.args.sight.now) (g.S.Sight.look c.args.sight.now) c.args.enclosing.now c.args.trees.now c.loop-tree.tree-index c.tree-item.result c.loop-tree.rest.now c.in-Some.after.now c.in-Some.line.now c.loop-tree-test.true c.tree-item.is c.in-Some.ensures (c.loop-tree.invariant.3 live)).1,
+  λ live known. (lines_rest (g.S.Sight.shape c.args.sight.now) (g.S.Sight.look c.args.sight.now) c.args.enclosing.now c.args.trees.now c.loop-tree.tree-index c.tree-item.result c.loop-tree.rest.now c.in-Some.after.now c.in-Some.line.now c.loop-tree-test.true c.tree-item.is c.in-Some.ensures (c.loop-tree.invariant.3 live known)).1,
 )
 
 pub spread_firsts-returns-clause-adds : goal.spread_firsts-returns-clause-adds
@@ -166,8 +176,8 @@ spread_rows-loop-row-preserved g t c = (
   λ live known.
       let s = g.S.Sight.shape c.args.sight.now in let l = g.S.Sight.look c.args.sight.now in let E = c.args.enclosing.now in
       rows_step s l c.args.rows.now c.loop-row.row-index c.row-item.result E c.args.days.now c.loop-row.rest c.in_ok-taken.taken c.in_ok-rest-2.rest c.in_ok-line.line c.args.found.now c.loop-row.found c.spread_among.new.found c.spread_among-in-loop-row.new.found
-      c.loop-row-test.true c.row-item.is (c.loop-row.invariant.0 live known) (c.in_ok-spread_among.ensures.adds live (c.loop-row.invariant.1 live known)) (c.in_ok-line.ensures live) c.in_ok-taken.ensures (c.in_ok-spread_among-2.ensures.adds live (c.in_ok-spread_among.ensures.stays live (c.loop-row.invariant.1 live known))) c.in_ok-rest-2.ensures,
-  λ live known. c.in_ok-spread_among-2.ensures.stays live (c.in_ok-spread_among.ensures.stays live (c.loop-row.invariant.1 live known)),
+      c.loop-row-test.true c.row-item.is (c.loop-row.invariant.0 live known) (c.in_ok-spread_among.ensures.adds live (c.loop-row.invariant.1 live known)) (c.in_ok-line.ensures.line live (c.in_ok-spread_among.ensures.stays live (c.loop-row.invariant.1 live known)).1) c.in_ok-taken.ensures (c.in_ok-spread_among-2.ensures.adds live (c.in_ok-line.ensures.stay live c.spread_among.new.found (c.in_ok-spread_among.ensures.stays live (c.loop-row.invariant.1 live known)))) c.in_ok-rest-2.ensures,
+  λ live known. c.in_ok-spread_among-2.ensures.stays live (c.in_ok-line.ensures.stay live c.spread_among.new.found (c.in_ok-spread_among.ensures.stays live (c.loop-row.invariant.1 live known))),
 )
 
 pub spread_over-returns-in-Some : goal.spread_over-returns-in-Some
@@ -190,7 +200,7 @@ spread_window-returns-in_ok-window-in-len2-clause-adds g t c = λ live known.
     let date = c.date-item-then-trees-lt3.result in let x = c.x-item.result in
     on_ok_weaker c.spread_among-in-len2-2.result (λ a. subst (λ ts. Adds (on c.args.days.now) (window_uses s l (map (λ e. (e, uses s l e)) ts) E) c.args.found.now c.spread_among-in-len2-2.new.found)
     (sym (two_are c.args.trees.now date x c.in-len2.len_at_least c.in-len2.len_below c.date-item-then-trees-lt3.is c.x-item.is))
-    (window_two s l date x E c.args.days.now c.in_ok-window-in-len2.window c.in_ok-line-in-len2.line c.args.found.now c.spread_among-in-len2.new.found _ (c.in_ok-spread_among-in-len2.ensures.adds live known) (c.in_ok-line-in-len2.ensures live) c.in_ok-window-in-len2.ensures a)) (c.spread_among-in-len2-2.ensures.adds live (c.in_ok-spread_among-in-len2.ensures.stays live known))
+    (window_two s l date x E c.args.days.now c.in_ok-window-in-len2.window c.in_ok-line-in-len2.line c.args.found.now c.spread_among-in-len2.new.found _ (c.in_ok-spread_among-in-len2.ensures.adds live known) (c.in_ok-line-in-len2.ensures.line live (c.in_ok-spread_among-in-len2.ensures.stays live known).1) c.in_ok-window-in-len2.ensures a)) (c.spread_among-in-len2-2.ensures.adds live (c.in_ok-line-in-len2.ensures.stay live c.spread_among-in-len2.new.found (c.in_ok-spread_among-in-len2.ensures.stays live known)))
 
 pub spread_window-returns-in_ok-window-in-len3-clause-adds : goal.spread_window-returns-in_ok-window-in-len3-clause-adds
 spread_window-returns-in_ok-window-in-len3-clause-adds g t c = λ live known.
@@ -199,7 +209,7 @@ spread_window-returns-in_ok-window-in-len3-clause-adds g t c = λ live known.
     on_ok_weaker c.spread_among-in-len3-3.result (λ a. subst (λ ts. Adds (on c.args.days.now) (window_uses s l (map (λ e. (e, uses s l e)) ts) E) c.args.found.now c.spread_among-in-len3-3.new.found)
     (sym (three_are c.args.trees.now start end x c.in-len3.len_at_least c.in-len3.len_below c.start-item.is c.end-item.is c.x-item-then-trees-lt4.is))
     (window_three s l start end x E c.args.days.now c.in_ok-window-in-len3.window c.in_ok-first-in-len3.first c.in_ok-last-in-len3.last c.args.found.now c.spread_among-in-len3.new.found c.spread_among-in-len3-2.new.found _ (c.in_ok-spread_among-in-len3.ensures.adds live known) (c.in_ok-spread_among-in-len3-2.ensures.adds live (c.in_ok-spread_among-in-len3.ensures.stays live known))
-    (c.in_ok-first-in-len3.ensures live) (c.in_ok-last-in-len3.ensures live) c.in_ok-window-in-len3.ensures a)) (c.spread_among-in-len3-3.ensures.adds live (c.in_ok-spread_among-in-len3-2.ensures.stays live (c.in_ok-spread_among-in-len3.ensures.stays live known)))
+    (c.in_ok-first-in-len3.ensures.line live (c.in_ok-spread_among-in-len3-2.ensures.stays live (c.in_ok-spread_among-in-len3.ensures.stays live known)).1) (c.in_ok-last-in-len3.ensures.line live (c.in_ok-first-in-len3.ensures.stay live c.spread_among-in-len3-2.new.found (c.in_ok-spread_among-in-len3-2.ensures.stays live (c.in_ok-spread_among-in-len3.ensures.stays live known))).1) c.in_ok-window-in-len3.ensures a)) (c.spread_among-in-len3-3.ensures.adds live (c.in_ok-last-in-len3.ensures.stay live c.spread_among-in-len3-2.new.found (c.in_ok-first-in-len3.ensures.stay live c.spread_among-in-len3-2.new.found (c.in_ok-spread_among-in-len3-2.ensures.stays live (c.in_ok-spread_among-in-len3.ensures.stays live known)))))
 
 pub spread_over-returns-in_default : goal.spread_over-returns-in_default
 spread_over-returns-in_default g t c = λ names live.
@@ -291,20 +301,20 @@ spread_over-returns-in_ok-each_member-in-len2 g t c = λ names live.
 pub spread_among-returns-clause-adds : goal.spread_among-returns-clause-adds
 spread_among-returns-clause-adds g t c = λ live known.
     let s = g.S.Sight.shape c.args.sight.now in let l = g.S.Sight.look c.args.sight.now in let E = c.args.enclosing.now in
-    let a = adds_missing s l c.args.kept.now.trees.items c.args.tree.now E c.args.days.now c.in_ok-missing.missing c.args.found.now c.spread_tree-2.new.found (subst (λ (ks : List SpreadTree). IsMissing s l ks c.args.tree.now E c.args.days.now c.in_ok-missing.missing) c.deref.ensures.value c.in_ok-missing.ensures) known (c.in_ok-spread_tree.ensures.adds live known) in
+    let a = adds_missing s l c.args.kept.now.trees.items c.args.tree.now E c.args.days.now c.in_ok-missing.missing c.args.found.now c.spread_tree-2.new.found (subst (λ (ks : List SpreadTree). IsMissing s l ks c.args.tree.now E c.args.days.now c.in_ok-missing.missing) c.deref.ensures.value c.in_ok-missing.ensures) known.0 (c.in_ok-spread_tree.ensures.adds live known) in
     on_ok_weaker c.note.result (λ _. a) c.note.ensures
 
 pub spread_among-returns-clause-stays : goal.spread_among-returns-clause-stays
 spread_among-returns-clause-stays g t c =
     let s = g.S.Sight.shape c.args.sight.now in let l = g.S.Sight.look c.args.sight.now in let E = c.args.enclosing.now in
     on_ok_weaker c.note.result (λ h live known. h s l c.spread_tree-2.new.found
-    (added_found s l c.args.tree.now E c.args.days.now c.args.found.now c.spread_tree-2.new.found (adds_missing s l c.args.kept.now.trees.items c.args.tree.now E c.args.days.now c.in_ok-missing.missing c.args.found.now c.spread_tree-2.new.found (subst (λ (ks : List SpreadTree). IsMissing s l ks c.args.tree.now E c.args.days.now c.in_ok-missing.missing) c.deref.ensures.value c.in_ok-missing.ensures) known (c.in_ok-spread_tree.ensures.adds live known)))
+    (added_found s l c.args.tree.now E c.args.days.now c.args.found.now c.spread_tree-2.new.found (adds_missing s l c.args.kept.now.trees.items c.args.tree.now E c.args.days.now c.in_ok-missing.missing c.args.found.now c.spread_tree-2.new.found (subst (λ (ks : List SpreadTree). IsMissing s l ks c.args.tree.now E c.args.days.now c.in_ok-missing.missing) c.deref.ensures.value c.in_ok-missing.ensures) known.0 (c.in_ok-spread_tree.ensures.adds live known)))
     (c.in_ok-spread_tree.ensures.stays live known)) c.note.ensures
 
 pub spread_tree-returns-in-Some-clause-stays : goal.spread_tree-returns-in-Some-clause-stays
 spread_tree-returns-in-Some-clause-stays g t c =
     let s = g.S.Sight.shape c.args.sight.now in let l = g.S.Sight.look c.args.sight.now in let E = c.args.enclosing.now in
-    on_ok_weaker c.add_days.result (λ a live known. found_grow s l _ _ c.args.found.now c.add_days.new.found c.args.kept.now.trees.items a known) c.add_days.ensures
+    on_ok_weaker c.add_days.result (λ a live known. (found_grow s l _ _ c.args.found.now c.add_days.new.found c.args.kept.now.trees.items a known.0, known.1)) c.add_days.ensures
 
 pub spread_tree-returns-in_ok-rest-in-Table-clause-stays : goal.spread_tree-returns-in_ok-rest-in-Table-clause-stays
 spread_tree-returns-in_ok-rest-in-Table-clause-stays g t c =
@@ -313,12 +323,12 @@ spread_tree-returns-in_ok-rest-in-Table-clause-stays g t c =
 pub spread_tree-returns-in-Over-clause-stays : goal.spread_tree-returns-in-Over-clause-stays
 spread_tree-returns-in-Over-clause-stays g t c =
     let s = g.S.Sight.shape c.args.sight.now in let l = g.S.Sight.look c.args.sight.now in
-    on_ok_under _ c.spread_quantifier.result (λ live. on_ok_weaker c.spread_quantifier.result (λ a known. found_grow s l _ _ c.args.found.now c.spread_quantifier.new.found c.args.kept.now.trees.items a known) (c.spread_quantifier.ensures live))
+    on_ok_under _ c.spread_quantifier.result (λ live. on_ok_weaker c.spread_quantifier.result (λ a known. (found_grow s l _ _ c.args.found.now c.spread_quantifier.new.found c.args.kept.now.trees.items a known.0, known.1)) (c.spread_quantifier.ensures live))
 
 pub spread_window-returns-in_ok-window-in-len2-clause-stays : goal.spread_window-returns-in_ok-window-in-len2-clause-stays
 spread_window-returns-in_ok-window-in-len2-clause-stays g t c =
-    on_ok_weaker c.spread_among-in-len2-2.result (λ h live known. h live (c.in_ok-spread_among-in-len2.ensures.stays live known)) c.spread_among-in-len2-2.ensures.stays
+    on_ok_weaker c.spread_among-in-len2-2.result (λ h live known. h live (c.in_ok-line-in-len2.ensures.stay live c.spread_among-in-len2.new.found (c.in_ok-spread_among-in-len2.ensures.stays live known))) c.spread_among-in-len2-2.ensures.stays
 
 pub spread_window-returns-in_ok-window-in-len3-clause-stays : goal.spread_window-returns-in_ok-window-in-len3-clause-stays
 spread_window-returns-in_ok-window-in-len3-clause-stays g t c =
-    on_ok_weaker c.spread_among-in-len3-3.result (λ h live known. h live (c.in_ok-spread_among-in-len3-2.ensures.stays live (c.in_ok-spread_among-in-len3.ensures.stays live known))) c.spread_among-in-len3-3.ensures.stays
+    on_ok_weaker c.spread_among-in-len3-3.result (λ h live known. h live (c.in_ok-last-in-len3.ensures.stay live c.spread_among-in-len3-2.new.found (c.in_ok-first-in-len3.ensures.stay live c.spread_among-in-len3-2.new.found (c.in_ok-spread_among-in-len3-2.ensures.stays live (c.in_ok-spread_among-in-len3.ensures.stays live known))))) c.spread_among-in-len3-3.ensures.stays
