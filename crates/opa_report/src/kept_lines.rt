@@ -1,6 +1,6 @@
 // Lines of trees that hold a quantifier, kept while the members of a list are gone through. Such a line depends on the
-// enclosing instances only by the places of the entities that the tree mentions: where they are those of an earlier member,
-// making it anew would go through the inner list once more for each.
+// enclosing instances only by the places of the entities that the tree mentions: where they are those of an earlier
+// member, making it anew would go through the inner list once more for each.
 ghost use Rattle.std.specs.Prelude.{◌≡◌, ◌<◌, length, IfOk, IfSome, MatchOption, OnOk, ⊤};
 ghost use Rattle.std.specs.List.{AllByRecursion};
 ghost use Rattle.opa_case.specs.Shapes.{Shape};
