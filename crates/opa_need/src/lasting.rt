@@ -1,6 +1,6 @@
 // Quantifiers, and the day below which all that they need is found. What an inner one needs depends on the enclosing
-// instances only by the places of the entities that it mentions: in nested quantifiers over one list it is the same for each
-// member, and going through it anew would take a power of steps.
+// instances only by the places of the entities that it mentions: in nested quantifiers over one list it is the same for
+// each member, and going through it anew would take a power of steps.
 ghost use Rattle.std.specs.Prelude.{◌≡◌, ◌<◌, length, IfOk, IfSome, IsTrue, MatchOption, OnOk, ⊤, List as Seq};
 ghost use Rattle.std.specs.FinMap.{FinMap};
 ghost use Rattle.opa_case.specs.Cases.{CaseView};
